@@ -9,6 +9,8 @@
 mod event;
 mod msg;
 mod profile;
+#[cfg(test)]
+mod tests;
 
 pub use event::Event;
 pub use msg::{BEND_VALUES, CHANNELS, DATA_VALUES, Msg};

@@ -82,33 +82,36 @@ impl Msg {
                 channel,
                 key,
                 velocity,
-            } => {
-                *out = [0x90 + channel, key, velocity];
-                3
-            }
-            Msg::Off { channel, key } => {
-                *out = [0x80 + channel, key, RELEASE];
-                3
-            }
+            } => put_three(out, [0x90 + channel, key, velocity]),
+            Msg::Off { channel, key } => put_three(out, [0x80 + channel, key, RELEASE]),
             Msg::Control {
                 channel,
                 controller,
                 value,
-            } => {
-                *out = [0xB0 + channel, controller, value];
-                3
-            }
-            Msg::Program { channel, program } => {
-                out[0] = 0xC0 + channel;
-                out[1] = program;
-                2
-            }
+            } => put_three(out, [0xB0 + channel, controller, value]),
+            Msg::Program { channel, program } => put_two(out, [0xC0 + channel, program]),
             Msg::Bend { channel, bend } => {
                 let low = (bend % 128) as u8;
                 let high = (bend / 128) as u8;
-                *out = [0xE0 + channel, low, high];
-                3
+                put_three(out, [0xE0 + channel, low, high])
             }
         }
     }
+}
+
+fn put_two(out: &mut [u8; 3], bytes: [u8; 2]) -> usize
+    ensures count { result ≡ 2 }
+    ensures bytes { out.new ≡ bytes ++ drop 2 out.old }
+{
+    out[0] = bytes[0];
+    out[1] = bytes[1];
+    2
+}
+
+fn put_three(out: &mut [u8; 3], bytes: [u8; 3]) -> usize
+    ensures count { result ≡ 3 }
+    ensures bytes { out.new ≡ bytes }
+{
+    *out = bytes;
+    3
 }

@@ -1,0 +1,104 @@
+//! Bytes from the tables of the standard, and one caller.
+use crate::{DIVISION, Event, Msg, Profile};
+use std::cmp::Ordering;
+
+#[test]
+fn each_message_has_the_bytes_of_the_standard(rt: HostRuntime) {
+    let table = [
+        (
+            Msg::On {
+                channel: 0,
+                key: 60,
+                velocity: 64,
+            },
+            3,
+            [0x90, 0x3C, 0x40],
+        ),
+        (
+            Msg::Off {
+                channel: 9,
+                key: 127,
+            },
+            3,
+            [0x89, 0x7F, 0x40],
+        ),
+        (
+            Msg::Control {
+                channel: 0,
+                controller: 7,
+                value: 100,
+            },
+            3,
+            [0xB0, 0x07, 0x64],
+        ),
+        (
+            Msg::Program {
+                channel: 15,
+                program: 5,
+            },
+            2,
+            [0xCF, 0x05, 0xAA],
+        ),
+        (
+            Msg::Bend {
+                channel: 0,
+                bend: 0,
+            },
+            3,
+            [0xE0, 0x00, 0x00],
+        ),
+        (
+            Msg::Bend {
+                channel: 0,
+                bend: 8_192,
+            },
+            3,
+            [0xE0, 0x00, 0x40],
+        ),
+        (
+            Msg::Bend {
+                channel: 1,
+                bend: 16_383,
+            },
+            3,
+            [0xE1, 0x7F, 0x7F],
+        ),
+    ];
+    for (msg, count, bytes) in table {
+        let mut out = [0xAA; 3];
+        assert!(rt; msg.is_in_range());
+        assert_eq!(rt; msg.bytes(&mut out), count, "at {msg:?}");
+        assert_eq!(rt; out, bytes, "at {msg:?}");
+    }
+}
+
+#[test]
+fn events_at_one_tick_go_by_process_and_index(rt: HostRuntime) {
+    let on = Msg::On {
+        channel: 0,
+        key: 60,
+        velocity: 64,
+    };
+    let off = Msg::Off {
+        channel: 0,
+        key: 60,
+    };
+    let first = Event::new(480, 1, 7, off);
+    let second = Event::new(480, 2, 0, on);
+    assert!(rt; first < second);
+    assert_eq!(rt; second.order(&first), Ordering::Greater);
+    assert_eq!(rt; (first.time(), first.process(), first.index()), (480, 1, 7));
+    assert_eq!(rt; first.msg(), off);
+}
+
+#[test]
+fn a_first_file_has_480_ticks_a_quarter_note(rt: HostRuntime) {
+    assert_eq!(rt;
+        Profile::first(),
+        Profile {
+            running: false,
+            division: 480
+        }
+    );
+    assert_eq!(rt; DIVISION, 480);
+}
