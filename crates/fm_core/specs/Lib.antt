@@ -1,0 +1,10 @@
+pub mod Numbers
+pub mod Tags
+pub mod Floors
+pub mod State
+pub mod Taking
+pub mod Sweep
+pub mod Steps
+pub mod Effects
+pub mod Giving
+pub mod Invariant

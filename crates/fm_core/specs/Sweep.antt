@@ -1,0 +1,54 @@
+-- What a seat saw in its sweep, the least pair of it, and the bound below which a process gives no event.
+use Rattle.std.specs.Prelude.{ℕ, zero, suc, List, [], ◌∷◌, ◌++◌, length, map, false, if◌then◌else◌, nat_eq, nat_lt, Option, Some, None, slice_index_or}
+use Rattle.fm_line.specs.Line.{line, greatest}
+use Rattle.fm_core.specs.State.{Setting, State, cell_in, cell}
+use Rattle.fm_core.specs.Tags.{is_unborn, is_ended}
+use Rattle.fm_core.specs.declared.cell.Cell.{Cell}
+use Rattle.fm_core.specs.declared.sight.Sight.{Sight}
+
+-- what is read behind the end of a sweep
+abbrev pub unseen : Sight
+unseen = record { clock = 0; ended = false }
+
+-- the look at this process in a sweep
+abbrev pub sight : List Sight → ℕ → Sight
+sight seen i = slice_index_or seen i unseen
+
+-- what a look enters: where the process is unborn, the greatest clock seen of its predecessors
+abbrev pub sighted : Setting → State → List Sight → ℕ → Sight
+sighted g h seen p = record {
+  clock =
+      if is_unborn (cell h p).tag then greatest (map (λ q. (sight seen q).clock) (line g.lines p).predecessors)
+      else (cell h p).clock;
+  ended = is_ended (cell h p).tag;
+}
+
+-- a look at 0 begins the sweep anew, one at the next process extends it, one at the last leaves it
+abbrev pub swept : List Sight → ℕ → Sight → List Sight
+swept seen p x = if nat_eq p 0 then x ∷ [] else if nat_eq p (length seen) then seen ++ x ∷ [] else seen
+
+-- the lesser of two pairs; the first of equal clocks
+abbrev pub lesser : Option (ℕ × ℕ) → Option (ℕ × ℕ) → Option (ℕ × ℕ)
+lesser None o = o
+lesser (Some a) None = Some a
+lesser (Some a) (Some b) = if nat_lt b.0 a.0 then Some b else Some a
+
+-- the least clock and process over those not seen ended, where the first look is at the process k
+abbrev pub least_from : ℕ → List Sight → Option (ℕ × ℕ)
+least_from k [] = None
+least_from k (x ∷ xs) = lesser (if x.ended then None else Some (x.clock, k)) (least_from (suc k) xs)
+
+-- the least clock and process of a sweep over those not seen ended
+abbrev pub least : List Sight → Option (ℕ × ℕ)
+least seen = least_from 0 seen
+
+-- a clock where the process is born, else the greatest bound of its predecessors, through at most n births
+abbrev pub bound_within : ℕ → Setting → List Cell → ℕ → ℕ
+bound_within zero g cs j = 0
+bound_within (suc n) g cs j =
+    if is_unborn (cell_in cs j).tag then greatest (map (bound_within n g cs) (line g.lines j).predecessors)
+    else (cell_in cs j).clock
+
+-- no event that the process still computes lies below its bound
+abbrev pub bound : Setting → State → ℕ → ℕ
+bound g h j = bound_within (suc (length h.cells)) g h.cells j

@@ -1,0 +1,27 @@
+//! The scheduling core as data: which steps a state of processes, seats and released events
+//! allows, what each step does, and what therefore holds of every state that can be reached.
+//! Nothing here runs. `Step`, `Reason`, `Tag`, `Floor`, `Due`, `Cell` and `Sight` are the words;
+//! the state and the table of steps stand in `specs/`. The main theorem is the clause `step` of
+//! `steps_keep_sound`: for valid lines an allowed step keeps the state sound, so what is released
+//! is a beginning of the piece. That a run never gets stuck is left to the crate above.
+#![tactic(auto)]
+
+mod cell;
+mod due;
+mod floor;
+mod laws;
+mod reason;
+mod sight;
+mod step;
+mod tag;
+#[cfg(test)]
+mod tests;
+
+pub use cell::Cell;
+pub use due::Due;
+pub use floor::Floor;
+pub use laws::{gather_has_room, gives_are_allowed, released_is_a_prefix, steps_keep_sound};
+pub use reason::Reason;
+pub use sight::Sight;
+pub use step::Step;
+pub use tag::Tag;
