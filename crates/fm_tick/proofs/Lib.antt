@@ -1,0 +1,2 @@
+pub mod QuotientLemmas
+mod Examples
