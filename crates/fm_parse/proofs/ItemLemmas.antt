@@ -3,7 +3,7 @@ use Rattle.std.proofs.Common.{◌≡◌, ℕ, List, [], ◌∷◌, ◌++◌, Som
 use Rattle.std.specs.List.{AllByRecursion}
 use Rattle.fm_parse.specs.Tokens.{tokens}
 use Rattle.fm_parse.specs.Grammar.{item_at, head_at, token_at}
-use Rattle.fm_parse.specs.Reads.{Reads, ReadsItems, HasLimits}
+use Rattle.fm_parse.specs.Reads.{ReadsPlain, ReadsItems, HasLimits}
 use Rattle.fm_parse.specs.declared.plain_item.PlainItem.{PlainItem}
 
 -- the items that were taken stand before those of what is left, in every reading
@@ -23,8 +23,8 @@ first_item ts rest x is (y ∷ ys) (other, was, read) =
     (ys, rw (ap (λ z. z.1) pair) at read, ap (λ z. z.0 ∷ ys) pair)
 
 -- one item more
-pub taken_more : (start ts rest : List (List ℕ)) (done : List PlainItem) (x : PlainItem) → HasTaken start ts done → item_at ts ≡ Some (x, rest) →
-    HasTaken start rest (done ++ x ∷ [])
+pub taken_more : (start ts rest : List (List ℕ)) (done : List PlainItem) (x : PlainItem) → HasTaken start ts done →
+    item_at ts ≡ Some (x, rest) → HasTaken start rest (done ++ x ∷ [])
 taken_more start ts rest done x had is = record {
   on = λ more read. rw append_assoc (had.on (x ∷ more) (rest, is, read));
   back = λ all read.
@@ -43,7 +43,8 @@ pub taken_stops : (start ts : List (List ℕ)) (done all : List PlainItem) → H
 taken_stops start ts done all had none some read = let (more, left, whole) = had.back all read in stops ts more none some left
 
 -- one item more within its limits
-pub AllByRecursion-push : (xs : List PlainItem) (x : PlainItem) → AllByRecursion HasLimits xs → HasLimits x → AllByRecursion HasLimits (xs ++ x ∷ [])
+pub AllByRecursion-push : (xs : List PlainItem) (x : PlainItem) → AllByRecursion HasLimits xs → HasLimits x →
+    AllByRecursion HasLimits (xs ++ x ∷ [])
 AllByRecursion-push [] x each limits = (limits, tt)
 AllByRecursion-push (y ∷ ys) x each limits = (each.0, AllByRecursion-push ys x each.1 limits)
 
@@ -65,6 +66,6 @@ pub same_start : (ts a b : List (List ℕ)) → head_at ts ≡ Some a → head_a
 same_start ts a b one other = cc
 
 -- a text is read in one way
-pub reads_unique : (text : List ℕ) (xs ys : List PlainItem) → Reads text xs → Reads text ys → xs ≡ ys
+pub reads_unique : (text : List ℕ) (xs ys : List PlainItem) → ReadsPlain text xs → ReadsPlain text ys → xs ≡ ys
 reads_unique text xs ys one other =
     items_unique other.rest xs ys (rw (same_start (tokens text) one.rest other.rest one.head other.head) at one.body) other.body

@@ -41,7 +41,8 @@ share_of over under =
 unfoldable pub ticks_at : List (List ℕ) → Option (ℕ × List (List ℕ))
 ticks_at ts = token_at ts >>= λ t.
     if bytes_eq t.0 (codes "ticks") then number_at t.1
-    else number_of t.0 >>= λ a. word_at (codes "/") t.1 >>= λ r. number_at r >>= λ b. share_of a b.0 >>= λ n. Some (n, b.1)
+    else number_of t.0 >>= λ a. word_at (codes "/") t.1 >>= λ r. number_at r >>= λ b.
+    share_of a b.0 >>= λ n. Some (n, b.1)
 
 -- length = ticks, at most the longest length
 unfoldable pub length_at : List (List ℕ) → Option (ℕ × List (List ℕ))
@@ -49,7 +50,8 @@ length_at ts = ticks_at ts >>= λ n. if nat_le n.0 MAX_LENGTH then Some n else N
 
 -- PITCH length ";", behind "note"
 unfoldable pub note_at : List (List ℕ) → Option (PlainItem × List (List ℕ))
-note_at ts = token_at ts >>= λ p. pitch_of p.0 >>= λ k. length_at p.1 >>= λ n. word_at (codes ";") n.1 >>= λ r. Some (Note k n.0, r)
+note_at ts = token_at ts >>= λ p. pitch_of p.0 >>= λ k. length_at p.1 >>= λ n.
+    word_at (codes ";") n.1 >>= λ r. Some (Note k n.0, r)
 
 -- length ";", behind "rest"
 unfoldable pub rest_at : List (List ℕ) → Option (PlainItem × List (List ℕ))
@@ -62,4 +64,5 @@ item_at ts = token_at ts >>= λ t.
 
 -- head = "formula" NUMBER ";", where the number is the version 1
 unfoldable pub head_at : List (List ℕ) → Option (List (List ℕ))
-head_at ts = word_at (codes "formula") ts >>= λ r. number_at r >>= λ n. if n.0 == 1 then word_at (codes ";") n.1 else None
+head_at ts = word_at (codes "formula") ts >>= λ r. number_at r >>= λ n.
+    if n.0 == 1 then word_at (codes ";") n.1 else None

@@ -28,11 +28,11 @@ ReadsItems ts [] = ts ≡ []
 ReadsItems ts (x ∷ xs) = (rest : List (List ℕ)) × (item_at ts ≡ Some (x, rest)) × ReadsItems rest xs
 
 -- the text is a plain score of these items
-pub record Reads (text : List ℕ) (items : List PlainItem) : Type 0 where
+pub record ReadsPlain (text : List ℕ) (items : List PlainItem) : Type 0 where
   pub rest : List (List ℕ)
   pub head : head_at (tokens text) ≡ Some rest
   pub body : ReadsItems rest items
 
 -- the text is no plain score
 abbrev pub IsRefused : List ℕ → Type 0
-IsRefused text = (items : List PlainItem) → Reads text items → ⊥
+IsRefused text = (items : List PlainItem) → ReadsPlain text items → ⊥

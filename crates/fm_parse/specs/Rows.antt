@@ -4,11 +4,12 @@ use Rattle.fm_parse.specs.Tokens.{tokens}
 use Rattle.fm_parse.specs.Number.{number_of}
 use Rattle.fm_parse.specs.Pitch.{semitones_of, accidental_of, key_of}
 use Rattle.fm_parse.specs.Grammar.{token_at, word_at, number_at, pitch_of, share_of, ticks_at, length_at, note_at, rest_at, item_at, head_at}
-use Rattle.fm_parse.specs.Reads.{Reads}
+use Rattle.fm_parse.specs.Reads.{ReadsPlain}
 use Rattle.fm_parse.specs.declared.plain_item.PlainItem.TheVariants.{Note, Rest}
 
 -- a comment separates tokens, and so does nothing at a symbol
-tokens-of_a_comment : tokens (codes "rest#a;\n 1/4 ;#") ≡ codes "rest" ∷ codes "1" ∷ codes "/" ∷ codes "4" ∷ codes ";" ∷ []
+tokens-of_a_comment : tokens (codes "rest#a;\n 1/4 ;#") ≡
+    codes "rest" ∷ codes "1" ∷ codes "/" ∷ codes "4" ∷ codes ";" ∷ []
 tokens-of_a_comment = refl
 
 -- nine digits are a number, whatever they are, and ten are none
@@ -56,15 +57,16 @@ item-too_long : item_at (tokens (codes "rest ticks 1000001;")) ≡ None
 unfolding token_at word_at number_of number_at ticks_at length_at rest_at item_at
 item-too_long = refl
 
-one_quarter_note : Reads (codes "formula 1; note c4 1/4;") (Note 60 480 ∷ [])
-unfolding token_at word_at number_of number_at pitch_of semitones_of key_of share_of ticks_at length_at note_at item_at head_at
+one_quarter_note : ReadsPlain (codes "formula 1; note c4 1/4;") (Note 60 480 ∷ [])
+unfolding token_at word_at number_of number_at pitch_of semitones_of key_of share_of ticks_at length_at note_at item_at
+    head_at
 one_quarter_note = record {
   rest = tokens (codes "note c4 1/4;");
   head = refl;
   body = ([], refl, refl);
 }
 
-no_note : Reads (codes "formula 1;") []
+no_note : ReadsPlain (codes "formula 1;") []
 unfolding token_at word_at number_of number_at head_at
 no_note = record { rest = []; head = refl; body = refl }
 

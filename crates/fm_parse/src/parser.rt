@@ -1,7 +1,7 @@
 //! A whole text.
 ghost use Rattle.std.specs.Prelude.{◌≡◌, ◌≤◌, ◌↔◌, [], IsTrue, length, IfOk, IsErrOf};
 ghost use Rattle.fm_parse.specs.Tokens.{tokens};
-ghost use Rattle.fm_parse.specs.Reads.{Reads, IsRefused, AreItems};
+ghost use Rattle.fm_parse.specs.Reads.{ReadsPlain, IsRefused, AreItems};
 
 use crate::grammar::{after_head, after_item};
 use crate::limits::MAX_SOURCE;
@@ -20,7 +20,7 @@ fn is_done(text: &[u8]) -> bool
 /// the plain form.
 pub fn parse_plain(alloc: Global, source: &[u8]) -> Result<PlainScore, PlainFault>
     requires { length source.now ≤ MAX_SOURCE }
-    ensures score { IfOk result (λ s. Reads source.now s.items.items) }
+    ensures score { IfOk result (λ s. ReadsPlain source.now s.items.items) }
     ensures refused { IsErrOf result PlainFault.Refused → IsRefused source.now }
     ensures limits { IfOk result (λ s. AreItems s.items.items) }
 {

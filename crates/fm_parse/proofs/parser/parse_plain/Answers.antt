@@ -13,10 +13,11 @@ returns-in_default-after_item-clause-refused c = λ _ items read.
 pub loop-rest-preserved : goal.loop-rest-preserved
 loop-rest-preserved c =
     let longer = c.in_ok-push.ensures.items in
+    let count = length-append c.loop-rest.items.items (c.in-Some-after_item.item ∷ []) in
     record {
       taken = rw longer (taken_more _ _ _ _ _ c.loop-rest.invariant.taken (sym c.in-Some-after_item.ensures.rest));
       each = rw longer (AllByRecursion-push _ _ c.loop-rest.invariant.each c.in-Some-after_item.ensures.limits);
-      few = omega (arith, c.loop-rest.invariant.few, ap length longer, length-append c.loop-rest.items.items (c.in-Some-after_item.item ∷ []), c.in-Some-after_item.ensures.shorter);
+      few = omega (arith, c.loop-rest.invariant.few, ap length longer, count, c.in-Some-after_item.ensures.shorter);
     }
 
 pub returns-clause-score : goal.returns-clause-score
