@@ -1,5 +1,5 @@
 -- The longest prefix with no event past the key, one event at a time.
-use Rattle.std.proofs.Common.{◌≡◌, ℕ, ◌+◌, ◌<◌, ◌≤◌, Bool, true, false, Option, Some, None, List, [], ◌∷◌, ◌++◌, length, take, drop, slice_get, refl, sym, ap, ◌∙◌, arith, add-one, append_assoc, suc, zero, add-zero, subst, append-nil, length-append, IsTrue, if◌then◌else◌}
+use Rattle.std.proofs.Common.{◌≡◌, ℕ, ◌+◌, ◌<◌, ◌≤◌, Bool, true, false, Option, Some, None, List, [], ◌∷◌, ◌++◌, length, take, drop, slice_get, refl, sym, ap, ◌∙◌, arith, add-one, append_assoc, suc, zero, append-nil, length-append, IsTrue, if◌then◌else◌}
 use Rattle.std.proofs.lemmas.List.{drop_all}
 use Rattle.std.proofs.lemmas.List.Elements.{All-cons, All-nil}
 use Rattle.fm_msg.specs.Event.{TimedMessage}
@@ -75,7 +75,7 @@ one_moved key from from' from'' to to' to'' moved event done through first room 
     let next = next_at from.events moved event from''.events (sym (ap (λ (o : EventQueue). o.events) done.rest) ∙ first) in record {
       count =
           let once : count_through key from'.events ≡ suc (count_through key from''.events) =
-              ap (count_through key) first ∙ count_through-cons key event from''.events through in
+          ap (count_through key) first ∙ count_through-cons key event from''.events through in
           let before = done.count in omega arith;
       rest =
           let same : from''.room ≡ from.room = room ∙ ap (λ (o : EventQueue). o.room) done.rest in
@@ -94,7 +94,6 @@ all_moved key from from' to to' moved done all =
     let empty : from'.events ≡ [] = ap (λ (o : EventQueue). o.events) done.rest ∙ drop_all moved from.events all in
     let none : count_through key from'.events ≡ 0 = ap (count_through key) empty in
     let count = done.count in omega arith
-
 
 -- the same with one event more in front
 longest-cons : (key : Option (ℕ × ℕ)) (event : TimedMessage) (events : List TimedMessage) (count : ℕ) (goes : Bool)

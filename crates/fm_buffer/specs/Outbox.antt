@@ -1,5 +1,5 @@
 -- What a contract sees of an outbox, and which of its events are due.
-use Rattle.std.specs.Prelude.{ℕ, suc, ◌≤◌, Bool, true, false, ◌&&◌, ◌||◌, ◌==◌, nat_lt, nat_le, if◌then◌else◌, Option, Some, None, List, [], ◌∷◌, length, take, slice_get, All, IsTrue, IfSome}
+use Rattle.std.specs.Prelude.{ℕ, suc, ◌≤◌, Bool, true, ◌&&◌, ◌||◌, ◌==◌, nat_lt, nat_le, if◌then◌else◌, Option, Some, None, List, [], ◌∷◌, length, take, slice_get, All, IsTrue, IfSome}
 use Rattle.std.specs.Bool.{IsFalse}
 use Rattle.fm_msg.specs.Event.{TimedMessage}
 use Rattle.fm_buffer.specs.declared.outbox.TheConstants.{MAX_ROOM}

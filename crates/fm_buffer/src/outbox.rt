@@ -22,7 +22,8 @@ impl Model for Outbox {
 
     ghost view = { λ o. record { room = o.ring.capacity; events = o.ring.items } };
 
-    ghost invariant = { λ o. IsWithinRoom (record { room = o.ring.capacity; events = o.ring.items }) };
+    ghost invariant = { λ o.
+        IsWithinRoom (record { room = o.ring.capacity; events = o.ring.items }) };
 }
 
 impl Outbox {
@@ -66,9 +67,8 @@ impl Outbox {
         ensures count { result ≡ count_through key self.old.events }
         ensures longest { IsLongestThrough key self.old.events result }
         ensures rest { self.new ≡ record self.old { events = drop result self.old.events } }
-        ensures taken {
-            gather.new ≡ record gather.old { events = gather.old.events ++ take result self.old.events }
-        }
+        ensures taken { gather.new
+            ≡ record gather.old { events = gather.old.events ++ take result self.old.events } }
     {
         let waiting = self.len();
         for taken in 0..waiting {
@@ -84,7 +84,8 @@ impl Outbox {
     fn take_next(&mut self, key: Option<(u64, u32)>) -> Option<Event>
         ensures through { IfSome result (λ event. IsTrue (is_through key event)) }
         ensures first { IfSome result (λ event. self.old.events ≡ event ∷ self.new.events) }
-        ensures none { IfNone result ((count_through key self.old.events ≡ 0) × (self.new ≡ self.old)) }
+        ensures none { IfNone result (count_through key self.old.events ≡ 0) }
+        ensures same { IfNone result (self.new ≡ self.old) }
         ensures room { self.new.room ≡ self.old.room }
     {
         let event = match self.ring.front() {

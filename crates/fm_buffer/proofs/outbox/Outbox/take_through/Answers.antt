@@ -13,7 +13,7 @@ put-requires c =
 
 pub returns-in-None-clause-count : goal.returns-in-None-clause-count
 returns-in-None-clause-count c =
-    let none = c.in-None.ensures.none.0 in
+    let none = c.in-None.ensures.none in
     let count = c.loop-taken.invariant.count in omega arith
 
 pub loop-taken-preserved : goal.loop-taken-preserved
