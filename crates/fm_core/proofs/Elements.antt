@@ -1,5 +1,5 @@
 -- One element of a list changes, and lists of one value.
-use Rattle.std.proofs.Common.{◌≡◌, ◌≢◌, ℕ, zero, suc, ◌<◌, ◌≤◌, List, [], ◌∷◌, length, get_or, set, refl, sym, ap, ◌∙◌, subst, arith, get_or-set_same, get_or-set_other, ◌+◌, ◌++◌, drop, replicate, take}
+use Rattle.std.proofs.Common.{◌≡◌, ◌≢◌, ℕ, zero, suc, ◌<◌, ◌≤◌, List, [], ◌∷◌, length, get_or, set, refl, sym, ap, ◌∙◌, subst, arith, get_or-set_same, get_or-set_other, replicate, take}
 use mathlib.Core.Logic.{dite}
 use native.Mathlib.Decide.{ℕ_discrete}
 
@@ -17,11 +17,6 @@ same_all zero i a = refl
 same_all (suc n) zero a = refl
 same_all (suc n) (suc i) a = same_all n i a
 
--- nothing appended changes nothing
-pub nil_right : {A : Type 0} (xs : List A) → xs ++ [] ≡ xs
-nil_right [] = refl
-nil_right (x ∷ xs) = ap (λ ys. x ∷ ys) (nil_right xs)
-
 -- the first of the first are the first
 pub take_take : {A : Type 0} (t m : ℕ) (xs : List A) → t ≤ m → take t (take m xs) ≡ take t xs
 take_take zero m xs le = none (take m xs) ∙ sym (none xs)
@@ -32,17 +27,6 @@ take_take zero m xs le = none (take m xs) ∙ sym (none xs)
 take_take (suc t) zero xs le = absurd (omega arith)
 take_take (suc t) (suc m) [] le = refl
 take_take (suc t) (suc m) (x ∷ xs) le = ap (λ ys. x ∷ ys) (take_take t m xs (omega arith))
-
-take_nil : {A : Type 0} (n : ℕ) → take {A = A} n [] ≡ []
-take_nil zero = refl
-take_nil (suc n) = refl
-
--- the first a elements and the next t are the first a + t
-pub take_plus : {A : Type 0} (a t : ℕ) (xs : List A) → take a xs ++ take t (drop a xs) ≡ take (a + t) xs
-take_plus zero t [] = let z : 0 + t ≡ t = omega arith in rw z refl
-take_plus zero t (x ∷ xs) = let z : 0 + t ≡ t = omega arith in rw z refl
-take_plus (suc a) t [] = take_nil t ∙ sym (take_nil (suc a + t))
-take_plus (suc a) t (x ∷ xs) = let z : suc a + t ≡ suc (a + t) = omega arith in rw z (ap (λ ys. x ∷ ys) (take_plus a t xs))
 
 -- the first 0 elements are none
 pub take_none : {A : Type 0} (xs : List A) → take 0 xs ≡ []

@@ -1,5 +1,5 @@
 -- When a process fits its line: while its line goes on, and once it is at its end.
-use Rattle.std.proofs.Common.{◌≡◌, ◌⊎◌, ℕ, ◌+◌, ◌<◌, ◌≤◌, length, Bool, true, false, refl, ap, arith}
+use Rattle.std.proofs.Common.{◌≡◌, ℕ, ◌+◌, ◌<◌, ◌≤◌, length, true, false, refl, ap, arith}
 use Rattle.fm_line.specs.Line.{line, upper, start}
 use Rattle.fm_core.proofs.Booleans.{clash}
 use Rattle.fm_core.proofs.TagLemmas.{ended_born}

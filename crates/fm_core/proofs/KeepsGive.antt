@@ -1,4 +1,6 @@
 -- Give keeps the state sound.
+use Rattle.std.proofs.Math.Seq.{take-add}
+use Rattle.std.proofs.lemmas.List.{append-nil}
 use Rattle.std.proofs.Common.{◌≡◌, ◌≢◌, ℕ, ◌+◌, ◌-◌, ◌<◌, ◌≤◌, List, [], ◌∷◌, ◌++◌, length, get_or, set, take, drop, Bool, true, false, refl, sym, ap, ◌∙◌, subst, arith, length-append, length-set, get_or-set_same, get_or-set_other}
 use Rattle.std.proofs.lemmas.Bool.{eqb-true}
 use Rattle.std.proofs.lemmas.List.{length-take, length-drop, append_assoc, get_or-take, get_or-drop}
@@ -10,7 +12,7 @@ use Rattle.fm_line.specs.Line.{line, event, event_at, upper}
 use Rattle.fm_line.specs.declared.line.Line.{Line}
 use Rattle.fm_core.proofs.Booleans.{not_true, false_from, true_from, both, and_true, left_false, right_false, not_below, if_true, if_false, clash}
 use Rattle.fm_core.proofs.Cells.{Taken, Moves, moved_sound}
-use Rattle.fm_core.proofs.Elements.{nil_right, take_take, take_plus}
+use Rattle.fm_core.proofs.Elements.{take_take}
 use Rattle.fm_core.proofs.GiveTests.{given_may}
 use Rattle.fm_core.proofs.Given.{given_not_unborn, given_ended, given_not_held, take_le}
 use Rattle.fm_core.proofs.GivenFits.{given_fits}
@@ -238,10 +240,10 @@ module _ (g : Setting) (h : State) (valid : ValidSetting g) (ok : Sound g h) (s 
     kept = λ q near d. ap (of_process q) whole
         ∙ (of_append q (h.released ++ h.gather) new
         ∙ (ap (λ (xs : List TimedMessage). of_process q (h.released ++ h.gather) ++ xs) (of_none p q new d new_process)
-        ∙ (nil_right (of_process q (h.released ++ h.gather)) ∙ ok.kept q near)));
+        ∙ (append-nil (of_process q (h.released ++ h.gather)) ∙ ok.kept q near)));
     kept_here = ap (of_process p) whole ∙ (of_append p (h.released ++ h.gather) new
         ∙ (ap (λ (xs : List TimedMessage). of_process p (h.released ++ h.gather) ++ xs) (of_self p new new_process ∙ new_is)
-        ∙ (ap (λ (xs : List TimedMessage). xs ++ take t (drop c.taken l.events)) (ok.kept p lt) ∙ take_plus c.taken t l.events)));
+        ∙ (ap (λ (xs : List TimedMessage). xs ++ take t (drop c.taken l.events)) (ok.kept p lt) ∙ sym (take-add c.taken t l.events))));
     not_due = λ d. let none = ok.not_due d in let z : t ≡ 0 = undue (nat_eq s 0 && not (visited h p)) refl d in
         let e : new ≡ [] = ap (λ (x : ℕ). take x (outbox l c)) z ∙ none_taken (outbox l c) in
         ap (λ (xs : List TimedMessage). xs ++ new) none ∙ e;
@@ -252,7 +254,7 @@ module _ (g : Setting) (h : State) (valid : ValidSetting g) (ok : Sound g h) (s 
         (fits_gather (nat_eq s 0 && not (visited h p)) refl))
         (λ d. let split = ap length (of_append q h.gather new
         ∙ (ap (λ (xs : List TimedMessage). of_process q h.gather ++ xs) (of_none p q new d new_process)
-        ∙ nil_right (of_process q h.gather))) in
+        ∙ append-nil (of_process q h.gather))) in
         let old : length (of_process q h.gather) ≤ (if get_or vs q false then g.room else 0) =
         subst (λ (b : Bool). length (of_process q h.gather) ≤ (if b then g.room else 0)) (sym (vs_other q d)) (ok.gathered q near) in
         omega arith);

@@ -1,4 +1,5 @@
 -- Release keeps the state sound: what is released is a beginning of the piece.
+use Rattle.std.proofs.lemmas.List.{append-nil}
 use Rattle.std.proofs.Common.{◌≡◌, ◌⊎◌, ℕ, ◌<◌, ◌≤◌, List, [], ◌∷◌, ◌++◌, length, take, Bool, true, false, refl, sym, ap, ◌∙◌, subst, inl, inr, arith, le_trans, ltb-true}
 use Rattle.std.proofs.lemmas.Bool.{eqb-true, eq-eqb}
 use Rattle.std.proofs.lemmas.List.{append_assoc}
@@ -13,7 +14,6 @@ use Rattle.fm_line.specs.Line.{line, event, event_at, upper}
 use Rattle.fm_line.specs.Piece.{Before, In, Rises, IsPrefix, IsPiece, sorted}
 use Rattle.fm_core.proofs.Below.{none_any}
 use Rattle.fm_core.proofs.Booleans.{not_false, not_true, or_cases, both, not_below, if_true, clash}
-use Rattle.fm_core.proofs.Elements.{nil_right}
 use Rattle.fm_core.proofs.Processes.{of_append, of_in, in_of, in_take, take_in, Up, up_from, up_apart, up_right, sorted_of}
 use Rattle.fm_core.proofs.Reasons.{none_holds}
 use Rattle.fm_core.specs.Effects.{after}
@@ -166,14 +166,14 @@ module _ (g : Setting) (h : State) (valid : ValidSetting g) (ok : Sound g h) whe
         (r.0, append_assoc h.released (sorted h.gather) r.0 ∙ (ap (λ (xs : List TimedMessage). h.released ++ xs) r.1 ∙ whole))
 
   same_of : (p : ℕ) → of_process p ((h.released ++ sorted h.gather) ++ []) ≡ of_process p all
-  same_of p = ap (of_process p) (nil_right (h.released ++ sorted h.gather))
+  same_of p = ap (of_process p) (append-nil (h.released ++ sorted h.gather))
       ∙ (of_append p h.released (sorted h.gather)
       ∙ (ap (λ (xs : List TimedMessage). of_process p h.released ++ xs) (sorted_of p h.gather gather_ordered)
       ∙ sym (of_append p h.released h.gather)))
 
   named_on : Each (λ e. e.process < length h.cells) ((h.released ++ sorted h.gather) ++ [])
   named_on = let old = each_from (event_at 0) (λ e. e.process < length h.cells) all ok.named in
-      subst (Each (λ e. e.process < length h.cells)) (sym (nil_right (h.released ++ sorted h.gather)))
+      subst (Each (λ e. e.process < length h.cells)) (sym (append-nil (h.released ++ sorted h.gather)))
       (in_each (λ e. e.process < length h.cells) (h.released ++ sorted h.gather)
       (λ x i. go x old (in_either x h.released (sorted h.gather) i)))
     where

@@ -1,6 +1,6 @@
 -- Further walks, as another program walked them: what refuses each step, and the state at the end.
 use Rattle.std.proofs.Common.{◌≡◌, List, [], ◌∷◌, true, false, Some, None, refl}
-use Rattle.fm_core.specs.State.{Setting, opening, unborn}
+use Rattle.fm_core.specs.State.{Setting, State, opening, unborn}
 use Rattle.fm_core.specs.declared.due.Due.TheVariants.{Nothing, Pair, Everything}
 use Rattle.fm_core.specs.declared.floor.Floor.TheVariants.{At, Done}
 use Rattle.fm_core.specs.declared.reason.Reason.TheVariants.{NoSeat, NoProcess, NotUnborn, PredecessorLive, NotHeld, WrongCount, AboveLead, WrongClock, NotSwept, NotDue, NotVisited}
@@ -9,7 +9,8 @@ use Rattle.fm_core.specs.declared.step.Step.TheVariants.{Look, Claim, Start, Rec
 use Rattle.fm_core.specs.declared.tag.Tag.TheVariants.{Home, Full, Out, Ended, Drained}
 use Rattle.fm_core.proofs.Walking.{on_at, at, seen, answers, result}
 
-abbrev setting14 : Setting
+-- the lines, room and lead of this walk
+abbrev pub setting14 : Setting
 setting14 = record {
   lines =
       record { events = on_at 1 0 0 ∷ on_at 2 0 1 ∷ []; predecessors = []; end = 3 }
@@ -33,21 +34,24 @@ reasons14 : answers setting14 (opening 3 2) steps14
     ∷ []
 reasons14 = refl
 
--- and what they leave
-state14 : result setting14 (opening 3 2) steps14
-    ≡ record {
-      cells = at Home 1 0 0 0 true ∷ unborn ∷ unborn ∷ [];
-      floor = At 0;
-      desks = record { sweep = seen 1 false ∷ seen 1 false ∷ seen 1 false ∷ []; paced = At 0 }
-          ∷ record { sweep = []; paced = At 0 } ∷ [];
-      due = Nothing;
-      visited = false ∷ true ∷ true ∷ [];
-      gather = [];
-      released = [];
-    }
+-- the state that they leave
+abbrev pub end14 : State
+end14 = record {
+  cells = at Home 1 0 0 0 true ∷ unborn ∷ unborn ∷ [];
+  floor = At 0;
+  desks = record { sweep = seen 1 false ∷ seen 1 false ∷ seen 1 false ∷ []; paced = At 0 }
+      ∷ record { sweep = []; paced = At 0 } ∷ [];
+  due = Nothing;
+  visited = false ∷ true ∷ true ∷ [];
+  gather = [];
+  released = [];
+}
+
+state14 : result setting14 (opening 3 2) steps14 ≡ end14
 state14 = refl
 
-abbrev setting15 : Setting
+-- the lines, room and lead of this walk
+abbrev pub setting15 : Setting
 setting15 = record {
   lines =
       record { events = on_at 2 0 0 ∷ on_at 4 0 1 ∷ []; predecessors = []; end = 7 }
@@ -71,20 +75,23 @@ reasons15 : answers setting15 (opening 2 1) steps15
     ∷ None ∷ Some NoProcess ∷ Some WrongClock ∷ None ∷ Some NoSeat ∷ None ∷ []
 reasons15 = refl
 
--- and what they leave
-state15 : result setting15 (opening 2 1) steps15
-    ≡ record {
-      cells = at Home 4 0 2 1 true ∷ unborn ∷ [];
-      floor = At 4;
-      desks = record { sweep = seen 4 false ∷ seen 4 false ∷ []; paced = At 4 } ∷ [];
-      due = Pair 4 0;
-      visited = true ∷ true ∷ [];
-      gather = on_at 2 0 0 ∷ [];
-      released = [];
-    }
+-- the state that they leave
+abbrev pub end15 : State
+end15 = record {
+  cells = at Home 4 0 2 1 true ∷ unborn ∷ [];
+  floor = At 4;
+  desks = record { sweep = seen 4 false ∷ seen 4 false ∷ []; paced = At 4 } ∷ [];
+  due = Pair 4 0;
+  visited = true ∷ true ∷ [];
+  gather = on_at 2 0 0 ∷ [];
+  released = [];
+}
+
+state15 : result setting15 (opening 2 1) steps15 ≡ end15
 state15 = refl
 
-abbrev setting16 : Setting
+-- the lines, room and lead of this walk
+abbrev pub setting16 : Setting
 setting16 = record {
   lines =
       record { events = on_at 3 0 0 ∷ []; predecessors = []; end = 4 }
@@ -110,21 +117,24 @@ reasons16 : answers setting16 (opening 2 3) steps16
     ∷ Some NotUnborn ∷ Some NotDue ∷ None ∷ None ∷ None ∷ []
 reasons16 = refl
 
--- and what they leave
-state16 : result setting16 (opening 2 3) steps16
-    ≡ record {
-      cells = at Ended 4 0 1 0 true ∷ at Drained 5 0 0 0 true ∷ [];
-      floor = Done;
-      desks = record { sweep = []; paced = At 3 } ∷ record { sweep = seen 4 true ∷ seen 5 false ∷ []; paced = At 3 }
-          ∷ record { sweep = seen 4 true ∷ []; paced = At 0 } ∷ [];
-      due = Everything;
-      visited = false ∷ false ∷ [];
-      gather = [];
-      released = [];
-    }
+-- the state that they leave
+abbrev pub end16 : State
+end16 = record {
+  cells = at Ended 4 0 1 0 true ∷ at Drained 5 0 0 0 true ∷ [];
+  floor = Done;
+  desks = record { sweep = []; paced = At 3 } ∷ record { sweep = seen 4 true ∷ seen 5 false ∷ []; paced = At 3 }
+      ∷ record { sweep = seen 4 true ∷ []; paced = At 0 } ∷ [];
+  due = Everything;
+  visited = false ∷ false ∷ [];
+  gather = [];
+  released = [];
+}
+
+state16 : result setting16 (opening 2 3) steps16 ≡ end16
 state16 = refl
 
-abbrev setting17 : Setting
+-- the lines, room and lead of this walk
+abbrev pub setting17 : Setting
 setting17 = record {
   lines =
       record { events = on_at 1 0 0 ∷ on_at 2 0 1 ∷ []; predecessors = []; end = 4 }
@@ -151,20 +161,23 @@ reasons17 : answers setting17 (opening 3 1) steps17
     ∷ Some NotHeld ∷ Some NotSwept ∷ None ∷ None ∷ None ∷ Some NotHeld ∷ []
 reasons17 = refl
 
--- and what they leave
-state17 : result setting17 (opening 3 1) steps17
-    ≡ record {
-      cells = at Full 2 0 1 0 false ∷ unborn ∷ unborn ∷ [];
-      floor = At 2;
-      desks = record { sweep = []; paced = At 1 } ∷ [];
-      due = Pair 2 0;
-      visited = false ∷ false ∷ false ∷ [];
-      gather = [];
-      released = [];
-    }
+-- the state that they leave
+abbrev pub end17 : State
+end17 = record {
+  cells = at Full 2 0 1 0 false ∷ unborn ∷ unborn ∷ [];
+  floor = At 2;
+  desks = record { sweep = []; paced = At 1 } ∷ [];
+  due = Pair 2 0;
+  visited = false ∷ false ∷ false ∷ [];
+  gather = [];
+  released = [];
+}
+
+state17 : result setting17 (opening 3 1) steps17 ≡ end17
 state17 = refl
 
-abbrev setting18 : Setting
+-- the lines, room and lead of this walk
+abbrev pub setting18 : Setting
 setting18 = record {
   lines =
       record { events = []; predecessors = []; end = 1 } ∷ [];
@@ -184,21 +197,24 @@ reasons18 : answers setting18 (opening 1 3) steps18
     ∷ Some WrongCount ∷ None ∷ None ∷ Some WrongCount ∷ None ∷ None ∷ Some NotHeld ∷ None ∷ Some NotHeld ∷ None ∷ []
 reasons18 = refl
 
--- and what they leave
-state18 : result setting18 (opening 1 3) steps18
-    ≡ record {
-      cells = at Out 1 1 0 0 false ∷ [];
-      floor = At 0;
-      desks = record { sweep = seen 1 false ∷ []; paced = At 0 } ∷ record { sweep = seen 1 false ∷ []; paced = At 0 }
-          ∷ record { sweep = []; paced = At 0 } ∷ [];
-      due = Nothing;
-      visited = false ∷ [];
-      gather = [];
-      released = [];
-    }
+-- the state that they leave
+abbrev pub end18 : State
+end18 = record {
+  cells = at Out 1 1 0 0 false ∷ [];
+  floor = At 0;
+  desks = record { sweep = seen 1 false ∷ []; paced = At 0 } ∷ record { sweep = seen 1 false ∷ []; paced = At 0 }
+      ∷ record { sweep = []; paced = At 0 } ∷ [];
+  due = Nothing;
+  visited = false ∷ [];
+  gather = [];
+  released = [];
+}
+
+state18 : result setting18 (opening 1 3) steps18 ≡ end18
 state18 = refl
 
-abbrev setting19 : Setting
+-- the lines, room and lead of this walk
+abbrev pub setting19 : Setting
 setting19 = record {
   lines =
       record { events = on_at 3 0 0 ∷ on_at 3 0 1 ∷ on_at 6 0 2 ∷ []; predecessors = []; end = 8 }
@@ -221,15 +237,17 @@ reasons19 : answers setting19 (opening 2 2) steps19
     ∷ Some NoProcess ∷ None ∷ Some WrongClock ∷ None ∷ []
 reasons19 = refl
 
--- and what they leave
-state19 : result setting19 (opening 2 2) steps19
-    ≡ record {
-      cells = at Full 6 0 2 1 false ∷ unborn ∷ [];
-      floor = At 3;
-      desks = record { sweep = seen 3 false ∷ []; paced = At 3 } ∷ record { sweep = seen 3 false ∷ []; paced = At 0 } ∷ [];
-      due = Pair 3 0;
-      visited = true ∷ false ∷ [];
-      gather = on_at 3 0 0 ∷ [];
-      released = [];
-    }
+-- the state that they leave
+abbrev pub end19 : State
+end19 = record {
+  cells = at Full 6 0 2 1 false ∷ unborn ∷ [];
+  floor = At 3;
+  desks = record { sweep = seen 3 false ∷ []; paced = At 3 } ∷ record { sweep = seen 3 false ∷ []; paced = At 0 } ∷ [];
+  due = Pair 3 0;
+  visited = true ∷ false ∷ [];
+  gather = on_at 3 0 0 ∷ [];
+  released = [];
+}
+
+state19 : result setting19 (opening 2 2) steps19 ≡ end19
 state19 = refl

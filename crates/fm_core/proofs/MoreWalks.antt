@@ -1,6 +1,6 @@
 -- Further walks, as another program walked them: what refuses each step, and the state at the end.
 use Rattle.std.proofs.Common.{◌≡◌, List, [], ◌∷◌, true, false, Some, None, refl}
-use Rattle.fm_core.specs.State.{Setting, opening, unborn}
+use Rattle.fm_core.specs.State.{Setting, State, opening, unborn}
 use Rattle.fm_core.specs.declared.due.Due.TheVariants.{Nothing, Pair, Everything}
 use Rattle.fm_core.specs.declared.floor.Floor.TheVariants.{At, Done}
 use Rattle.fm_core.specs.declared.reason.Reason.TheVariants.{NoSeat, NoProcess, NotUnborn, PredecessorLive, NotHeld, WrongCount, AboveLead, WrongClock, WrongEnd, NotSwept, StillDue, NotDue, NotVisited}
@@ -9,7 +9,8 @@ use Rattle.fm_core.specs.declared.step.Step.TheVariants.{Look, Claim, Start, Rec
 use Rattle.fm_core.specs.declared.tag.Tag.TheVariants.{Home, Out, Ended, Drained}
 use Rattle.fm_core.proofs.Walking.{on_at, at, seen, answers, result}
 
-abbrev setting7 : Setting
+-- the lines, room and lead of this walk
+abbrev pub setting7 : Setting
 setting7 = record {
   lines =
       record { events = []; predecessors = []; end = 3 }
@@ -30,24 +31,27 @@ reasons7 : answers setting7 (opening 2 2) steps7
     ∷ Some WrongEnd ∷ None ∷ None ∷ None ∷ Some NotHeld ∷ None ∷ Some NotHeld ∷ []
 reasons7 = refl
 
--- and what they leave
-state7 : result setting7 (opening 2 2) steps7
-    ≡ record {
-      cells = at Drained 3 0 0 0 true ∷ at Home 3 0 1 0 false ∷ [];
-      floor = At 0;
-      desks = record { sweep = seen 1 false ∷ seen 1 false ∷ []; paced = At 0 } ∷ record {
-        sweep = seen 3 true
-            ∷ [];
-        paced = At 0;
-      } ∷ [];
-      due = Nothing;
-      visited = false ∷ true ∷ [];
-      gather = [];
-      released = [];
-    }
+-- the state that they leave
+abbrev pub end7 : State
+end7 = record {
+  cells = at Drained 3 0 0 0 true ∷ at Home 3 0 1 0 false ∷ [];
+  floor = At 0;
+  desks = record { sweep = seen 1 false ∷ seen 1 false ∷ []; paced = At 0 } ∷ record {
+    sweep = seen 3 true
+        ∷ [];
+    paced = At 0;
+  } ∷ [];
+  due = Nothing;
+  visited = false ∷ true ∷ [];
+  gather = [];
+  released = [];
+}
+
+state7 : result setting7 (opening 2 2) steps7 ≡ end7
 state7 = refl
 
-abbrev setting8 : Setting
+-- the lines, room and lead of this walk
+abbrev pub setting8 : Setting
 setting8 = record {
   lines =
       record { events = on_at 3 0 0 ∷ on_at 4 0 1 ∷ []; predecessors = []; end = 6 }
@@ -70,20 +74,23 @@ reasons8 : answers setting8 (opening 2 2) steps8
     ∷ []
 reasons8 = refl
 
--- and what they leave
-state8 : result setting8 (opening 2 2) steps8
-    ≡ record {
-      cells = at Home 3 0 0 0 false ∷ unborn ∷ [];
-      floor = At 3;
-      desks = record { sweep = seen 3 false ∷ []; paced = At 0 } ∷ record { sweep = seen 3 false ∷ []; paced = At 0 } ∷ [];
-      due = Pair 3 0;
-      visited = false ∷ false ∷ [];
-      gather = [];
-      released = [];
-    }
+-- the state that they leave
+abbrev pub end8 : State
+end8 = record {
+  cells = at Home 3 0 0 0 false ∷ unborn ∷ [];
+  floor = At 3;
+  desks = record { sweep = seen 3 false ∷ []; paced = At 0 } ∷ record { sweep = seen 3 false ∷ []; paced = At 0 } ∷ [];
+  due = Pair 3 0;
+  visited = false ∷ false ∷ [];
+  gather = [];
+  released = [];
+}
+
+state8 : result setting8 (opening 2 2) steps8 ≡ end8
 state8 = refl
 
-abbrev setting9 : Setting
+-- the lines, room and lead of this walk
+abbrev pub setting9 : Setting
 setting9 = record {
   lines =
       record { events = on_at 2 0 0 ∷ on_at 2 0 1 ∷ on_at 4 0 2 ∷ []; predecessors = []; end = 4 } ∷ [];
@@ -106,20 +113,23 @@ reasons9 : answers setting9 (opening 1 2) steps9
     ∷ Some NotHeld ∷ None ∷ Some NotHeld ∷ None ∷ None ∷ None ∷ Some NoProcess ∷ None ∷ None ∷ []
 reasons9 = refl
 
--- and what they leave
-state9 : result setting9 (opening 1 2) steps9
-    ≡ record {
-      cells = at Ended 4 0 3 2 true ∷ [];
-      floor = Done;
-      desks = record { sweep = seen 4 true ∷ []; paced = At 4 } ∷ record { sweep = seen 4 false ∷ []; paced = Done } ∷ [];
-      due = Everything;
-      visited = false ∷ [];
-      gather = [];
-      released = on_at 2 0 0 ∷ on_at 2 0 1 ∷ [];
-    }
+-- the state that they leave
+abbrev pub end9 : State
+end9 = record {
+  cells = at Ended 4 0 3 2 true ∷ [];
+  floor = Done;
+  desks = record { sweep = seen 4 true ∷ []; paced = At 4 } ∷ record { sweep = seen 4 false ∷ []; paced = Done } ∷ [];
+  due = Everything;
+  visited = false ∷ [];
+  gather = [];
+  released = on_at 2 0 0 ∷ on_at 2 0 1 ∷ [];
+}
+
+state9 : result setting9 (opening 1 2) steps9 ≡ end9
 state9 = refl
 
-abbrev setting10 : Setting
+-- the lines, room and lead of this walk
+abbrev pub setting10 : Setting
 setting10 = record {
   lines =
       record { events = on_at 3 0 0 ∷ []; predecessors = []; end = 3 } ∷ [];
@@ -142,20 +152,23 @@ reasons10 : answers setting10 (opening 1 2) steps10
     ∷ None ∷ None ∷ Some NoSeat ∷ None ∷ None ∷ Some NoSeat ∷ None ∷ None ∷ None ∷ None ∷ None ∷ Some NotHeld ∷ []
 reasons10 = refl
 
--- and what they leave
-state10 : result setting10 (opening 1 2) steps10
-    ≡ record {
-      cells = at Ended 3 0 1 0 true ∷ [];
-      floor = At 3;
-      desks = record { sweep = []; paced = At 3 } ∷ record { sweep = seen 3 false ∷ []; paced = At 3 } ∷ [];
-      due = Nothing;
-      visited = true ∷ [];
-      gather = [];
-      released = [];
-    }
+-- the state that they leave
+abbrev pub end10 : State
+end10 = record {
+  cells = at Ended 3 0 1 0 true ∷ [];
+  floor = At 3;
+  desks = record { sweep = []; paced = At 3 } ∷ record { sweep = seen 3 false ∷ []; paced = At 3 } ∷ [];
+  due = Nothing;
+  visited = true ∷ [];
+  gather = [];
+  released = [];
+}
+
+state10 : result setting10 (opening 1 2) steps10 ≡ end10
 state10 = refl
 
-abbrev setting11 : Setting
+-- the lines, room and lead of this walk
+abbrev pub setting11 : Setting
 setting11 = record {
   lines =
       record { events = on_at 2 0 0 ∷ on_at 3 0 1 ∷ on_at 6 0 2 ∷ []; predecessors = []; end = 7 } ∷ [];
@@ -179,20 +192,23 @@ reasons11 : answers setting11 (opening 1 2) steps11
     ∷ None ∷ []
 reasons11 = refl
 
--- and what they leave
-state11 : result setting11 (opening 1 2) steps11
-    ≡ record {
-      cells = at Home 2 0 0 0 true ∷ [];
-      floor = At 2;
-      desks = record { sweep = []; paced = At 0 } ∷ record { sweep = seen 2 false ∷ []; paced = At 0 } ∷ [];
-      due = Pair 2 0;
-      visited = false ∷ [];
-      gather = [];
-      released = [];
-    }
+-- the state that they leave
+abbrev pub end11 : State
+end11 = record {
+  cells = at Home 2 0 0 0 true ∷ [];
+  floor = At 2;
+  desks = record { sweep = []; paced = At 0 } ∷ record { sweep = seen 2 false ∷ []; paced = At 0 } ∷ [];
+  due = Pair 2 0;
+  visited = false ∷ [];
+  gather = [];
+  released = [];
+}
+
+state11 : result setting11 (opening 1 2) steps11 ≡ end11
 state11 = refl
 
-abbrev setting12 : Setting
+-- the lines, room and lead of this walk
+abbrev pub setting12 : Setting
 setting12 = record {
   lines =
       record { events = []; predecessors = []; end = 3 } ∷ [];
@@ -211,21 +227,24 @@ reasons12 : answers setting12 (opening 1 3) steps12
     ∷ Some NotHeld ∷ None ∷ None ∷ []
 reasons12 = refl
 
--- and what they leave
-state12 : result setting12 (opening 1 3) steps12
-    ≡ record {
-      cells = at Out 3 1 0 0 true ∷ [];
-      floor = At 0;
-      desks = record { sweep = []; paced = At 0 } ∷ record { sweep = []; paced = At 0 } ∷ record { sweep = []; paced = At 0 }
-          ∷ [];
-      due = Nothing;
-      visited = false ∷ [];
-      gather = [];
-      released = [];
-    }
+-- the state that they leave
+abbrev pub end12 : State
+end12 = record {
+  cells = at Out 3 1 0 0 true ∷ [];
+  floor = At 0;
+  desks = record { sweep = []; paced = At 0 } ∷ record { sweep = []; paced = At 0 } ∷ record { sweep = []; paced = At 0 }
+      ∷ [];
+  due = Nothing;
+  visited = false ∷ [];
+  gather = [];
+  released = [];
+}
+
+state12 : result setting12 (opening 1 3) steps12 ≡ end12
 state12 = refl
 
-abbrev setting13 : Setting
+-- the lines, room and lead of this walk
+abbrev pub setting13 : Setting
 setting13 = record {
   lines =
       record { events = []; predecessors = []; end = 2 }
@@ -245,15 +264,17 @@ reasons13 : answers setting13 (opening 2 2) steps13
     ∷ Some AboveLead ∷ []
 reasons13 = refl
 
--- and what they leave
-state13 : result setting13 (opening 2 2) steps13
-    ≡ record {
-      cells = at Drained 2 0 0 0 true ∷ at Out 2 0 0 0 false ∷ [];
-      floor = At 0;
-      desks = record { sweep = []; paced = At 0 } ∷ record { sweep = seen 2 false ∷ []; paced = At 0 } ∷ [];
-      due = Nothing;
-      visited = false ∷ false ∷ [];
-      gather = [];
-      released = [];
-    }
+-- the state that they leave
+abbrev pub end13 : State
+end13 = record {
+  cells = at Drained 2 0 0 0 true ∷ at Out 2 0 0 0 false ∷ [];
+  floor = At 0;
+  desks = record { sweep = []; paced = At 0 } ∷ record { sweep = seen 2 false ∷ []; paced = At 0 } ∷ [];
+  due = Nothing;
+  visited = false ∷ false ∷ [];
+  gather = [];
+  released = [];
+}
+
+state13 : result setting13 (opening 2 2) steps13 ≡ end13
 state13 = refl

@@ -1,6 +1,6 @@
 -- Walks, as another program walked them: what refuses each step, and the state at the end.
 use Rattle.std.proofs.Common.{◌≡◌, List, [], ◌∷◌, true, false, Some, None, refl}
-use Rattle.fm_core.specs.State.{Setting, opening, unborn}
+use Rattle.fm_core.specs.State.{Setting, State, opening, unborn}
 use Rattle.fm_core.specs.declared.due.Due.TheVariants.{Nothing, Pair}
 use Rattle.fm_core.specs.declared.floor.Floor.TheVariants.{At}
 use Rattle.fm_core.specs.declared.reason.Reason.TheVariants.{NoSeat, NoProcess, OutOfTurn, NotClaimable, NotUnborn, PredecessorLive, NotHeld, WrongTake, WrongCount, AboveLead, OverRoom, WrongClock, NotSwept, NotDue, NotVisited}
@@ -9,7 +9,8 @@ use Rattle.fm_core.specs.declared.step.Step.TheVariants.{Look, Claim, Start, Rec
 use Rattle.fm_core.specs.declared.tag.Tag.TheVariants.{Home, Full, Out, Ended, Drained}
 use Rattle.fm_core.proofs.Walking.{on_at, at, seen, answers, result}
 
-abbrev setting0 : Setting
+-- the lines, room and lead of this walk
+abbrev pub setting0 : Setting
 setting0 = record {
   lines =
       record { events = on_at 2 0 0 ∷ on_at 2 0 1 ∷ on_at 4 0 2 ∷ []; predecessors = []; end = 6 }
@@ -30,20 +31,23 @@ reasons0 : answers setting0 (opening 2 1) steps0
     ∷ Some NotHeld ∷ None ∷ None ∷ Some NoSeat ∷ None ∷ []
 reasons0 = refl
 
--- and what they leave
-state0 : result setting0 (opening 2 1) steps0
-    ≡ record {
-      cells = at Out 2 0 0 0 false ∷ unborn ∷ [];
-      floor = At 2;
-      desks = record { sweep = seen 2 false ∷ []; paced = At 2 } ∷ [];
-      due = Pair 2 0;
-      visited = false ∷ false ∷ [];
-      gather = [];
-      released = [];
-    }
+-- the state that they leave
+abbrev pub end0 : State
+end0 = record {
+  cells = at Out 2 0 0 0 false ∷ unborn ∷ [];
+  floor = At 2;
+  desks = record { sweep = seen 2 false ∷ []; paced = At 2 } ∷ [];
+  due = Pair 2 0;
+  visited = false ∷ false ∷ [];
+  gather = [];
+  released = [];
+}
+
+state0 : result setting0 (opening 2 1) steps0 ≡ end0
 state0 = refl
 
-abbrev setting1 : Setting
+-- the lines, room and lead of this walk
+abbrev pub setting1 : Setting
 setting1 = record {
   lines =
       record { events = []; predecessors = []; end = 2 }
@@ -67,24 +71,27 @@ reasons1 : answers setting1 (opening 4 3) steps1
     ∷ Some WrongCount ∷ Some WrongCount ∷ []
 reasons1 = refl
 
--- and what they leave
-state1 : result setting1 (opening 4 3) steps1
-    ≡ record {
-      cells = at Out 2 2 0 0 false ∷ unborn ∷ unborn ∷ unborn ∷ [];
-      floor = At 0;
-      desks = record { sweep = []; paced = At 0 } ∷ record { sweep = []; paced = At 0 } ∷ record {
-        sweep = seen 1 false
-            ∷ seen 1 false ∷ [];
-        paced = At 0;
-      } ∷ [];
-      due = Nothing;
-      visited = false ∷ false ∷ false ∷ false ∷ [];
-      gather = [];
-      released = [];
-    }
+-- the state that they leave
+abbrev pub end1 : State
+end1 = record {
+  cells = at Out 2 2 0 0 false ∷ unborn ∷ unborn ∷ unborn ∷ [];
+  floor = At 0;
+  desks = record { sweep = []; paced = At 0 } ∷ record { sweep = []; paced = At 0 } ∷ record {
+    sweep = seen 1 false
+        ∷ seen 1 false ∷ [];
+    paced = At 0;
+  } ∷ [];
+  due = Nothing;
+  visited = false ∷ false ∷ false ∷ false ∷ [];
+  gather = [];
+  released = [];
+}
+
+state1 : result setting1 (opening 4 3) steps1 ≡ end1
 state1 = refl
 
-abbrev setting2 : Setting
+-- the lines, room and lead of this walk
+abbrev pub setting2 : Setting
 setting2 = record {
   lines =
       record { events = on_at 3 0 0 ∷ on_at 5 0 1 ∷ []; predecessors = []; end = 7 } ∷ [];
@@ -103,21 +110,24 @@ reasons2 : answers setting2 (opening 1 3) steps2
     ∷ None ∷ []
 reasons2 = refl
 
--- and what they leave
-state2 : result setting2 (opening 1 3) steps2
-    ≡ record {
-      cells = at Out 5 0 1 0 false ∷ [];
-      floor = At 5;
-      desks = record { sweep = []; paced = At 0 } ∷ record { sweep = seen 5 false ∷ []; paced = At 5 }
-          ∷ record { sweep = seen 5 false ∷ []; paced = At 0 } ∷ [];
-      due = Pair 5 0;
-      visited = false ∷ [];
-      gather = [];
-      released = [];
-    }
+-- the state that they leave
+abbrev pub end2 : State
+end2 = record {
+  cells = at Out 5 0 1 0 false ∷ [];
+  floor = At 5;
+  desks = record { sweep = []; paced = At 0 } ∷ record { sweep = seen 5 false ∷ []; paced = At 5 }
+      ∷ record { sweep = seen 5 false ∷ []; paced = At 0 } ∷ [];
+  due = Pair 5 0;
+  visited = false ∷ [];
+  gather = [];
+  released = [];
+}
+
+state2 : result setting2 (opening 1 3) steps2 ≡ end2
 state2 = refl
 
-abbrev setting3 : Setting
+-- the lines, room and lead of this walk
+abbrev pub setting3 : Setting
 setting3 = record {
   lines =
       record { events = []; predecessors = []; end = 1 }
@@ -144,20 +154,23 @@ reasons3 : answers setting3 (opening 2 1) steps3
     ∷ None ∷ None ∷ Some NoSeat ∷ Some NotHeld ∷ Some NotHeld ∷ Some NotHeld ∷ None ∷ None ∷ Some OverRoom ∷ []
 reasons3 = refl
 
--- and what they leave
-state3 : result setting3 (opening 2 1) steps3
-    ≡ record {
-      cells = at Drained 1 0 0 0 true ∷ at Out 3 0 1 0 false ∷ [];
-      floor = At 1;
-      desks = record { sweep = seen 1 true ∷ []; paced = At 1 } ∷ [];
-      due = Nothing;
-      visited = true ∷ true ∷ [];
-      gather = [];
-      released = [];
-    }
+-- the state that they leave
+abbrev pub end3 : State
+end3 = record {
+  cells = at Drained 1 0 0 0 true ∷ at Out 3 0 1 0 false ∷ [];
+  floor = At 1;
+  desks = record { sweep = seen 1 true ∷ []; paced = At 1 } ∷ [];
+  due = Nothing;
+  visited = true ∷ true ∷ [];
+  gather = [];
+  released = [];
+}
+
+state3 : result setting3 (opening 2 1) steps3 ≡ end3
 state3 = refl
 
-abbrev setting4 : Setting
+-- the lines, room and lead of this walk
+abbrev pub setting4 : Setting
 setting4 = record {
   lines =
       record { events = []; predecessors = []; end = 0 }
@@ -187,24 +200,27 @@ reasons4 : answers setting4 (opening 4 3) steps4
     ∷ Some NotSwept ∷ None ∷ []
 reasons4 = refl
 
--- and what they leave
-state4 : result setting4 (opening 4 3) steps4
-    ≡ record {
-      cells = at Drained 0 0 0 0 true ∷ at Ended 0 0 1 0 true ∷ at Home 2 0 0 0 true ∷ unborn ∷ [];
-      floor = At 0;
-      desks = record { sweep = seen 0 true ∷ seen 0 true ∷ seen 2 false ∷ []; paced = At 0 } ∷ record {
-        sweep = seen 0 true
-            ∷ [];
-        paced = At 0;
-      } ∷ record { sweep = []; paced = At 0 } ∷ [];
-      due = Nothing;
-      visited = true ∷ false ∷ false ∷ false ∷ [];
-      gather = [];
-      released = [];
-    }
+-- the state that they leave
+abbrev pub end4 : State
+end4 = record {
+  cells = at Drained 0 0 0 0 true ∷ at Ended 0 0 1 0 true ∷ at Home 2 0 0 0 true ∷ unborn ∷ [];
+  floor = At 0;
+  desks = record { sweep = seen 0 true ∷ seen 0 true ∷ seen 2 false ∷ []; paced = At 0 } ∷ record {
+    sweep = seen 0 true
+        ∷ [];
+    paced = At 0;
+  } ∷ record { sweep = []; paced = At 0 } ∷ [];
+  due = Nothing;
+  visited = true ∷ false ∷ false ∷ false ∷ [];
+  gather = [];
+  released = [];
+}
+
+state4 : result setting4 (opening 4 3) steps4 ≡ end4
 state4 = refl
 
-abbrev setting5 : Setting
+-- the lines, room and lead of this walk
+abbrev pub setting5 : Setting
 setting5 = record {
   lines =
       record { events = on_at 2 0 0 ∷ on_at 3 0 1 ∷ on_at 6 0 2 ∷ []; predecessors = []; end = 6 } ∷ [];
@@ -223,20 +239,23 @@ reasons5 : answers setting5 (opening 1 1) steps5
     ∷ None ∷ None ∷ None ∷ None ∷ []
 reasons5 = refl
 
--- and what they leave
-state5 : result setting5 (opening 1 1) steps5
-    ≡ record {
-      cells = at Full 3 0 1 0 true ∷ [];
-      floor = At 2;
-      desks = record { sweep = seen 3 false ∷ []; paced = At 2 } ∷ [];
-      due = Nothing;
-      visited = true ∷ [];
-      gather = [];
-      released = [];
-    }
+-- the state that they leave
+abbrev pub end5 : State
+end5 = record {
+  cells = at Full 3 0 1 0 true ∷ [];
+  floor = At 2;
+  desks = record { sweep = seen 3 false ∷ []; paced = At 2 } ∷ [];
+  due = Nothing;
+  visited = true ∷ [];
+  gather = [];
+  released = [];
+}
+
+state5 : result setting5 (opening 1 1) steps5 ≡ end5
 state5 = refl
 
-abbrev setting6 : Setting
+-- the lines, room and lead of this walk
+abbrev pub setting6 : Setting
 setting6 = record {
   lines =
       record { events = on_at 1 0 0 ∷ []; predecessors = []; end = 2 }
@@ -256,15 +275,17 @@ reasons6 : answers setting6 (opening 2 2) steps6
     ∷ None ∷ None ∷ []
 reasons6 = refl
 
--- and what they leave
-state6 : result setting6 (opening 2 2) steps6
-    ≡ record {
-      cells = at Home 1 0 0 0 true ∷ unborn ∷ [];
-      floor = At 1;
-      desks = record { sweep = []; paced = At 0 } ∷ record { sweep = seen 1 false ∷ []; paced = At 0 } ∷ [];
-      due = Pair 1 0;
-      visited = true ∷ false ∷ [];
-      gather = [];
-      released = [];
-    }
+-- the state that they leave
+abbrev pub end6 : State
+end6 = record {
+  cells = at Home 1 0 0 0 true ∷ unborn ∷ [];
+  floor = At 1;
+  desks = record { sweep = []; paced = At 0 } ∷ record { sweep = seen 1 false ∷ []; paced = At 0 } ∷ [];
+  due = Pair 1 0;
+  visited = true ∷ false ∷ [];
+  gather = [];
+  released = [];
+}
+
+state6 : result setting6 (opening 2 2) steps6 ≡ end6
 state6 = refl
