@@ -1,0 +1,15 @@
+pub mod Falls
+pub mod Owed
+pub mod Gives
+pub mod Backs
+pub mod ClaimedTags
+pub mod Claims
+pub mod Looks
+pub mod Publishes
+pub mod NeverStuck
+pub mod Lowering
+pub mod Whole
+pub mod Fresh
+pub mod ComesToEnd
+mod Rows
+mod Ends
