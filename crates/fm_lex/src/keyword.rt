@@ -1,0 +1,146 @@
+//! The words that the grammar keeps for itself.
+
+ghost use Rattle.std.specs.Prelude.{◌≡◌};
+ghost use Rattle.fm_lex.specs.Words.{spelling, keyword_of};
+
+/// A word of the grammar, which names nothing else.
+#[derive(Clone, Copy, Debug, PartialEq, Eq, Hash)]
+pub enum Keyword {
+    Formula,
+    Seed,
+    Shape,
+    Flat,
+    By,
+    Slope,
+    To,
+    Pause,
+    Breath,
+    Ticks,
+    Phrase,
+    Note,
+    Play,
+    Rest,
+    Skip,
+    Control,
+    Program,
+    Bend,
+    Set,
+    If,
+    Else,
+    Repeat,
+    Max,
+    Do,
+    Par,
+    Branch,
+    Warp,
+    Channel,
+    Volume,
+    Gate,
+    Rhythm,
+    Artic,
+    Loud,
+    Key,
+    Pick,
+    Min,
+    Less,
+    Same,
+}
+
+const KEYWORDS: [Keyword; 38] = [
+    Keyword::Formula,
+    Keyword::Seed,
+    Keyword::Shape,
+    Keyword::Flat,
+    Keyword::By,
+    Keyword::Slope,
+    Keyword::To,
+    Keyword::Pause,
+    Keyword::Breath,
+    Keyword::Ticks,
+    Keyword::Phrase,
+    Keyword::Note,
+    Keyword::Play,
+    Keyword::Rest,
+    Keyword::Skip,
+    Keyword::Control,
+    Keyword::Program,
+    Keyword::Bend,
+    Keyword::Set,
+    Keyword::If,
+    Keyword::Else,
+    Keyword::Repeat,
+    Keyword::Max,
+    Keyword::Do,
+    Keyword::Par,
+    Keyword::Branch,
+    Keyword::Warp,
+    Keyword::Channel,
+    Keyword::Volume,
+    Keyword::Gate,
+    Keyword::Rhythm,
+    Keyword::Artic,
+    Keyword::Loud,
+    Keyword::Key,
+    Keyword::Pick,
+    Keyword::Min,
+    Keyword::Less,
+    Keyword::Same,
+];
+
+impl Keyword {
+    /// The keyword as it is spelt in a text.
+    pub fn text(self) -> &'static [u8]
+        ensures { result.now ≡ spelling self }
+    {
+        match self {
+            Keyword::Formula => b"formula",
+            Keyword::Seed => b"seed",
+            Keyword::Shape => b"shape",
+            Keyword::Flat => b"flat",
+            Keyword::By => b"by",
+            Keyword::Slope => b"slope",
+            Keyword::To => b"to",
+            Keyword::Pause => b"pause",
+            Keyword::Breath => b"breath",
+            Keyword::Ticks => b"ticks",
+            Keyword::Phrase => b"phrase",
+            Keyword::Note => b"note",
+            Keyword::Play => b"play",
+            Keyword::Rest => b"rest",
+            Keyword::Skip => b"skip",
+            Keyword::Control => b"control",
+            Keyword::Program => b"program",
+            Keyword::Bend => b"bend",
+            Keyword::Set => b"set",
+            Keyword::If => b"if",
+            Keyword::Else => b"else",
+            Keyword::Repeat => b"repeat",
+            Keyword::Max => b"max",
+            Keyword::Do => b"do",
+            Keyword::Par => b"par",
+            Keyword::Branch => b"branch",
+            Keyword::Warp => b"warp",
+            Keyword::Channel => b"channel",
+            Keyword::Volume => b"volume",
+            Keyword::Gate => b"gate",
+            Keyword::Rhythm => b"rhythm",
+            Keyword::Artic => b"artic",
+            Keyword::Loud => b"loud",
+            Keyword::Key => b"key",
+            Keyword::Pick => b"pick",
+            Keyword::Min => b"min",
+            Keyword::Less => b"less",
+            Keyword::Same => b"same",
+        }
+    }
+
+    /// The keyword that a word spells.
+    pub fn from_text(word: &[u8]) -> Option<Keyword>
+        ensures { result ≡ keyword_of word.now }
+    {
+        KEYWORDS
+            .iter()
+            .copied()
+            .find(|keyword| keyword.text() == word)
+    }
+}

@@ -1,0 +1,42 @@
+//! Where a byte stands in a text.
+
+ghost use Rattle.std.specs.Prelude.{◌≡◌, ◌+◌, ◌<◌, ◌^◌};
+ghost use Rattle.fm_lex.specs.Bytes.{after_byte};
+
+use std::fmt;
+
+/// A place in a text. Lines and columns count from 1, and a column counts bytes.
+#[derive(Clone, Copy, Debug, PartialEq, Eq, Hash)]
+pub struct Spot {
+    pub line: u32,
+    pub column: u32,
+}
+
+pub const START: Spot = Spot { line: 1, column: 1 };
+
+impl Spot {
+    /// The spot of the byte that follows `byte`.
+    pub fn after(self, byte: u8) -> Spot
+        requires line { self.line + 1 < 2 ^ 32 }
+        requires column { self.column + 1 < 2 ^ 32 }
+        ensures { result ≡ after_byte byte self }
+    {
+        if byte == b'\n' {
+            Spot {
+                line: self.line + 1,
+                column: 1,
+            }
+        } else {
+            Spot {
+                line: self.line,
+                column: self.column + 1,
+            }
+        }
+    }
+}
+
+impl fmt::Display for Spot {
+    fn fmt<W: fmt::Write>(&self, f: &mut fmt::Formatter<W>) -> fmt::Result {
+        write!(f, "{}:{}", self.line, self.column)
+    }
+}
