@@ -62,3 +62,21 @@ fn gives_a_fault_again(rt: HostRuntime) -> Result<(), AllocError> {
     }
     Ok(())
 }
+
+#[test]
+fn reads_a_pitch_behind_a_keyword(rt: HostRuntime) {
+    let mut lexer = Lexer::new(b"note bb3");
+    let table = [
+        (Kind::Keyword(Keyword::Note), 1),
+        (Kind::Pitch(58), 6),
+        (Kind::End, 9),
+    ];
+    for (kind, column) in table {
+        let token = lexer.next().ok();
+        assert!(rt;
+            token.is_some_and(|token| token.kind == kind && token.spot == Spot { line: 1, column })
+        );
+    }
+    assert!(rt; Keyword::from_text(Keyword::Loud.text()) == Some(Keyword::Loud));
+    tokens_stand(b"note bb3");
+}
