@@ -1,0 +1,5 @@
+pub mod Evaluations
+pub mod Floors
+mod Rows
+pub mod Stacks
+pub mod Trees

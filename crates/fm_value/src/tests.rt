@@ -1,0 +1,165 @@
+//! Operations at their edges, draws, and one caller.
+ghost use Rattle.std.specs.Prelude.{[], ◌∷◌, IsTrue};
+ghost use Rattle.fm_value.specs.Value.{is_expr};
+ghost use Rattle.fm_value.specs.declared.node.Node.TheVariants.{Register};
+
+use crate::{Dice, Expr, Node, Registers, Spot2, value};
+use std::alloc::{AllocError, Global};
+use std::process::Abort;
+use std::test::Fail;
+
+const SPOT: Spot2 = Spot2 { line: 1, column: 1 };
+
+// The value of an operation on the registers 0 and 1, which hold x and y.
+fn on_two<R: Abort>(rt: &R, alloc: Global, node: Node, x: i64, y: i64) -> Result<i64, AllocError>
+    requires { IsTrue (is_expr 0 (Register 0 ∷ Register 1 ∷ node ∷ [])) }
+{
+    assert!(rt; -1_000_000 <= x && x <= 1_000_000);
+    assert!(rt; -1_000_000 <= y && y <= 1_000_000);
+    let mut registers = Registers::new();
+    registers.set(0, x);
+    registers.set(1, y);
+    let nodes = vec![in alloc; Node::Register(0), Node::Register(1), node]?;
+    let spots = vec![in alloc; SPOT, SPOT, SPOT]?;
+    let expr = Expr { nodes, spots };
+    Ok(value(&expr, &registers, &mut Dice::new(0), &[]))
+}
+
+#[test]
+fn quotients_are_floors_and_0_at_0(rt: HostRuntime) -> Result<(), Fail> {
+    let alloc = rt.alloc();
+    for (x, y, want) in [
+        (7, 2, 3),
+        (-7, 2, -4),
+        (7, -2, -4),
+        (-7, -2, 3),
+        (7, 0, 0),
+        (0, -7, 0),
+        (-1, 1_000_000, -1),
+        (1_000_000, -1, -1_000_000),
+        (-1_000_000, -1, 1_000_000),
+        (-1_000_000, 3, -333_334),
+    ] {
+        assert_eq!(rt; on_two(&rt, alloc, Node::Divide, x, y)?, want, "{x} / {y}");
+    }
+    for (x, y, want) in [
+        (7, 2, 1),
+        (-7, 2, 1),
+        (7, -2, -1),
+        (-7, -2, -1),
+        (7, 0, 0),
+        (0, -7, 0),
+        (-1, 1_000_000, 999_999),
+        (1, -1_000_000, -999_999),
+        (-1_000_000, 3, 2),
+    ] {
+        assert_eq!(rt; on_two(&rt, alloc, Node::Remain, x, y)?, want, "{x} % {y}");
+    }
+    Ok(())
+}
+
+#[test]
+fn results_are_clamped_to_one_million(rt: HostRuntime) -> Result<(), Fail> {
+    let alloc = rt.alloc();
+    for (x, y, want) in [
+        (999_999, 1, 1_000_000),
+        (1_000_000, 1, 1_000_000),
+        (-1_000_000, -1, -1_000_000),
+    ] {
+        assert_eq!(rt; on_two(&rt, alloc, Node::Add, x, y)?, want, "{x} + {y}");
+    }
+    for (x, y, want) in [
+        (0, -1_000_000, 1_000_000),
+        (1_000_000, -1, 1_000_000),
+        (-1_000_000, 1, -1_000_000),
+    ] {
+        assert_eq!(rt;
+            on_two(&rt, alloc, Node::Subtract, x, y)?,
+            want,
+            "{x} - {y}"
+        );
+    }
+    for (x, y, want) in [
+        (1_000, 1_000, 1_000_000),
+        (1_001, 1_000, 1_000_000),
+        (-1_001, 1_000, -1_000_000),
+        (-1_000_000, -1_000_000, 1_000_000),
+        (0, -1_000_000, 0),
+    ] {
+        assert_eq!(rt;
+            on_two(&rt, alloc, Node::Multiply, x, y)?,
+            want,
+            "{x} * {y}"
+        );
+    }
+    Ok(())
+}
+
+#[test]
+fn comparisons_at_the_signs(rt: HostRuntime) -> Result<(), Fail> {
+    let alloc = rt.alloc();
+    for (x, y, least, greatest, less, same) in [
+        (-1, 0, -1, 0, 1, 0),
+        (0, -1, -1, 0, 0, 0),
+        (3, 3, 3, 3, 0, 1),
+        (-1, 1, -1, 1, 1, 0),
+        (0, 0, 0, 0, 0, 1),
+        (1_000_000, -1_000_000, -1_000_000, 1_000_000, 0, 0),
+        (-1_000_000, -1_000_000, -1_000_000, -1_000_000, 0, 1),
+    ] {
+        assert_eq!(rt;
+            on_two(&rt, alloc, Node::Min, x, y)?,
+            least,
+            "min of {x} and {y}"
+        );
+        assert_eq!(rt;
+            on_two(&rt, alloc, Node::Max, x, y)?,
+            greatest,
+            "max of {x} and {y}"
+        );
+        assert_eq!(rt; on_two(&rt, alloc, Node::Less, x, y)?, less, "{x} less {y}");
+        assert_eq!(rt; on_two(&rt, alloc, Node::Same, x, y)?, same, "{x} same {y}");
+    }
+    Ok(())
+}
+
+#[test]
+fn a_negated_register_and_an_index(rt: HostRuntime) -> Result<(), Fail> {
+    let alloc = rt.alloc();
+    let nodes = vec![in alloc; Node::Register(7), Node::Negate, Node::Index(1), Node::Add]?;
+    let spots = vec![in alloc; SPOT, SPOT, SPOT, SPOT]?;
+    let expr = Expr { nodes, spots }.clone()?;
+    let mut registers = Registers::new();
+    for (x, want) in [
+        (0, 20),
+        (7, 13),
+        (1_000_000, -999_980),
+        (-1_000_000, 1_000_000),
+    ] {
+        assert!(rt; -1_000_000 <= x && x <= 1_000_000);
+        registers.set(7, x);
+        assert_eq!(rt; registers.get(7), x);
+        let mut dice = Dice::new(5);
+        assert_eq!(rt;
+            value(&expr, &registers, &mut dice, &[10, 20]),
+            want,
+            "at {x}"
+        );
+    }
+    Ok(())
+}
+
+#[test]
+fn a_draw_below_1_steps_the_generator(rt: HostRuntime) -> Result<(), Fail> {
+    let alloc = rt.alloc();
+    let nodes = vec![in alloc; Node::Literal(60), Node::Literal(12), Node::Pick, Node::Add]?;
+    let spots = vec![in alloc; SPOT, SPOT, SPOT, SPOT]?;
+    let expr = Expr { nodes, spots };
+    let mut dice = Dice::new(0);
+    assert_eq!(rt; value(&expr, &Registers::new(), &mut dice, &[]), 71);
+    assert_eq!(rt; Dice::new(0).pick(12), 11);
+    // The first three draws show 167951807, 218396424 and 1299921937.
+    assert_eq!(rt; dice.pick(-5), 0);
+    assert_eq!(rt; dice.pick(1_000), 937);
+    Ok(())
+}
