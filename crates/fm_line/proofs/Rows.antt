@@ -1,5 +1,5 @@
 -- The lines and the piece of a small score, computed: three branches of a fork, each with one note.
-use Rattle.std.proofs.Common.{◌≡◌, ℕ, ◌+◌, ◌/◌, List, [], ◌∷◌, ◌++◌, refl}
+use Rattle.std.proofs.Common.{◌≡◌, ℕ, ◌+◌, ◌/◌, ◌^◌, List, [], ◌∷◌, ◌++◌, Bool, true, false, refl}
 use Rattle.std.specs.Prelude.{Some, None}
 use Rattle.fm_msg.specs.declared.msg.Msg.{Msg}
 use Rattle.fm_msg.specs.declared.msg.Msg.TheVariants.{On, Off}
@@ -8,6 +8,7 @@ use Rattle.fm_line.specs.declared.line.Line.{Line}
 use Rattle.fm_line.specs.Line.{start, total}
 use Rattle.fm_line.specs.Marks.{Mark, mapped, mark_time, lines_of}
 use Rattle.fm_line.specs.Piece.{piece}
+use Rattle.fm_line.specs.Validity.{lines_valid}
 
 abbrev event_of : ℕ → ℕ → ℕ → Msg → TimedMessage
 event_of time process index msg = record { time = time; process = process; index = index; msg = msg }
@@ -68,6 +69,70 @@ long_off = record { process = 0; index = 1; msg = Some (Off 0 60); onset = 0; en
 off_is_not_before_its_on : mark_time (mapped (λ x. x + 120) (λ x. x / 8) long_off) ≡ 120
 off_is_not_before_its_on = refl
 
--- the end of a process is mapped as an onset is
-end_is_mapped_as_an_onset : mark_time (mapped (λ x. x + 120) (λ x. x) (record long_off { msg = None })) ≡ 120
+-- the end of a process is mapped as an onset is, and so is a point
+end_is_mapped_as_an_onset : mapped (λ x. x + 120) (λ x. x) (record long_off { msg = None })
+    ≡ record { process = 0; index = 1; msg = None; onset = 120; ending = 600 }
 end_is_mapped_as_an_onset = refl
+
+on_sounds_at_its_onset : mark_time (mapped (λ x. x + 1) (λ x. x + 5) (record long_off { msg = Some (On 0 60 64) })) ≡ 1
+on_sounds_at_its_onset = refl
+
+-- ---- valid lines
+
+fork_is_valid : lines_valid fork_lines ≡ true
+fork_is_valid = refl
+
+abbrev root_line : Line
+root_line = record { events = []; predecessors = []; end = 480 }
+
+abbrev child_line : List ℕ → List TimedMessage → ℕ → Line
+child_line predecessors events end = record { events = events; predecessors = predecessors; end = end }
+
+-- whether the root and one more line are valid
+abbrev child_valid : List ℕ → List TimedMessage → ℕ → Bool
+child_valid predecessors events end = lines_valid (root_line ∷ child_line predecessors events end ∷ [])
+
+one_child : child_valid (0 ∷ []) (event_of 480 1 0 (Off 0 60) ∷ event_of 480 1 1 (Off 0 61) ∷ []) 480 ≡ true
+one_child = refl
+
+no_line_is_not_valid : lines_valid [] ≡ false
+no_line_is_not_valid = refl
+
+root_waits_for_none : lines_valid (child_line (0 ∷ []) [] 480 ∷ []) ≡ false
+root_waits_for_none = refl
+
+child_waits_for_some : child_valid [] [] 480 ≡ false
+child_waits_for_some = refl
+
+predecessor_is_smaller : child_valid (1 ∷ []) [] 480 ≡ false
+predecessor_is_smaller = refl
+
+predecessor_is_named_once : child_valid (0 ∷ 0 ∷ []) [] 480 ≡ false
+predecessor_is_named_once = refl
+
+no_event_before_the_start : child_valid (0 ∷ []) (event_of 479 1 0 (Off 0 60) ∷ []) 480 ≡ false
+no_event_before_the_start = refl
+
+no_event_after_the_end : child_valid (0 ∷ []) (event_of 482 1 0 (Off 0 60) ∷ []) 481 ≡ false
+no_event_after_the_end = refl
+
+times_never_fall : child_valid (0 ∷ []) (event_of 481 1 0 (Off 0 60) ∷ event_of 480 1 1 (Off 0 61) ∷ []) 481 ≡ false
+times_never_fall = refl
+
+process_is_the_line : child_valid (0 ∷ []) (event_of 480 0 0 (Off 0 60) ∷ []) 480 ≡ false
+process_is_the_line = refl
+
+index_is_the_place : child_valid (0 ∷ []) (event_of 480 1 1 (Off 0 60) ∷ []) 480 ≡ false
+index_is_the_place = refl
+
+end_is_not_before_the_start : child_valid (0 ∷ []) [] 479 ≡ false
+end_is_not_before_the_start = refl
+
+no_end_behind_the_last : lines_valid (root_line ∷ child_line (0 ∷ []) [] 960 ∷ child_line (0 ∷ []) [] 480 ∷ []) ≡ false
+no_end_behind_the_last = refl
+
+last_end : child_valid (0 ∷ []) [] (2 ^ 40) ≡ true
+last_end = refl
+
+end_above : child_valid (0 ∷ []) [] (2 ^ 40 + 1) ≡ false
+end_above = refl

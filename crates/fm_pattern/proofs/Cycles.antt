@@ -23,7 +23,9 @@ stands_one_on list place cursor at lt =
 pub next_on : (list : List ℕ) (place old : ℕ) → place ≡ old → place + 1 < length list
     → IsNext list old (slice_index list place) (place + 1)
 next_on list place old same lt = record {
+  at = ap (slice_index list) same;
   entry = λ cursor at. ap (slice_index list) (same ∙ at);
+  within = lt;
   after = λ cursor at. stands_one_on list place cursor (same ∙ at) lt;
 }
 

@@ -1,5 +1,5 @@
 -- Lists that are gone round by a cursor.
-use Rattle.std.specs.Prelude.{◌≡◌, ℕ, ◌+◌, ◌%◌, List, [], ◌∷◌, length, slice_index}
+use Rattle.std.specs.Prelude.{◌≡◌, ℕ, ◌+◌, ◌%◌, ◌<◌, List, [], ◌∷◌, length, slice_index}
 
 -- the entry of a list at a cursor, which goes on past the list's end at its begin
 abbrev pub entry_at : List ℕ → ℕ → ℕ
@@ -9,9 +9,12 @@ entry_at list cursor = slice_index list (cursor % length list)
 abbrev pub StandsAt : List ℕ → ℕ → ℕ → Type 0
 StandsAt list place cursor = place ≡ cursor % length list
 
--- the result is the entry at whatever cursor the old place is of, and the new place is of the cursor after it
+-- the result is the entry at the old place, and at whatever cursor that place is of; the new place, again one of the
+-- list, is of the cursor after it
 pub record IsNext (list : List ℕ) (old result new : ℕ) : Type 0 where
+  pub at : result ≡ slice_index list old
   pub entry : (cursor : ℕ) → StandsAt list old cursor → result ≡ entry_at list cursor
+  pub within : new < length list
   pub after : (cursor : ℕ) → StandsAt list old cursor → StandsAt list new (cursor + 1)
 
 -- a list of calls from one place to another, with their results

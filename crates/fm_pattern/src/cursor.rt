@@ -30,6 +30,7 @@ impl Cursor {
     }
 
     /// The entry at the cursor, which then moves on by one, from the last entry to the first.
+    #[tactic(auto, using(crate::proofs::Cycles::next_on))]
     pub fn next(&mut self, list: &[u32]) -> u32
         requires few { length list.now ≤ MAX_ENTRIES }
         requires same_list { self.old < length list.now }

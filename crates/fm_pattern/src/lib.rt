@@ -11,10 +11,12 @@ mod laws;
 mod loud;
 mod note_end;
 mod rhythm;
+#[cfg(test)]
+mod tests;
 
 pub use artic::Artic;
 pub use cursor::MAX_ENTRIES;
 pub use laws::{articulations_bound_the_end, kth_next_is_the_entry_at_k};
 pub use loud::Loud;
-pub use note_end::{MAX_GATE, end_of};
+pub use note_end::{MAX_GATE, MAX_ONSET, end_of};
 pub use rhythm::Rhythm;

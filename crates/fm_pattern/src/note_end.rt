@@ -1,14 +1,17 @@
 //! Where a note ends.
-ghost use Rattle.std.specs.Prelude.{◌≡◌, ◌≤◌, ◌^◌};
+ghost use Rattle.std.specs.Prelude.{◌≡◌, ◌≤◌};
 ghost use Rattle.fm_pattern.specs.NoteEnd.{note_end};
 
 /// The greatest articulation, in percent of the duration.
 pub const MAX_GATE: u32 = 400;
 
+/// The greatest tick at which a note begins.
+pub const MAX_ONSET: u64 = 1_099_511_627_776;
+
 /// Where a note ends that begins at `on`: after `gate` percent of its duration, rounded down to
 /// a tick.
 pub fn end_of(on: u64, duration: u32, gate: u32) -> u64
-    requires on { on ≤ 2 ^ 40 }
+    requires on { on ≤ MAX_ONSET }
     requires gate { gate ≤ MAX_GATE }
     ensures { result ≡ note_end on duration gate }
 {

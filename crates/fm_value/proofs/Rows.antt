@@ -2,6 +2,7 @@
 use Rattle.std.proofs.Common.{◌≡◌, ◌/◌, ◌^◌, [], ◌∷◌, refl}
 use Rattle.std.specs.Prelude.{pos, negsuc, true, false}
 use Rattle.fm_value.specs.declared.node.Node.TheVariants.{Literal, Register, Index, Add, Subtract, Multiply, Pick}
+use Rattle.fm_value.specs.declared.node.TheConstants.{MAX_VALUE}
 use Rattle.fm_value.specs.Generator.{next_state}
 use Rattle.fm_value.specs.Operation.{floor_div, floor_rem}
 use Rattle.fm_value.specs.Value.{readable, value_of, is_expr}
@@ -14,7 +15,8 @@ first_pitch : (value_of (readable [] []) (Literal 12 ∷ Pick ∷ []) 0).value �
 first_pitch = refl
 
 -- 60 + pick(12), the generator stepped once
-pitch_and_state : (value_of (readable [] []) (Literal 60 ∷ Literal 12 ∷ Pick ∷ Add ∷ []) 0) ≡ record { value = pos 71; state = next_state 0 }
+pitch_and_state : (value_of (readable [] []) (Literal 60 ∷ Literal 12 ∷ Pick ∷ Add ∷ []) 0)
+    ≡ record { value = pos 71; state = next_state 0 }
 pitch_and_state = refl
 
 -- a draw below 0 is 0, and steps the state all the same
@@ -22,7 +24,7 @@ draw_below_0 : (value_of (readable [] []) (Literal 0 ∷ Pick ∷ []) 0) ≡ rec
 draw_below_0 = refl
 
 -- the left operand is drawn first
-left_is_drawn_first : (value_of (readable [] []) (Literal 1000000 ∷ Pick ∷ Literal 1000 ∷ Pick ∷ Subtract ∷ []) 0).value
+left_is_drawn_first : (value_of (readable [] []) (Literal MAX_VALUE ∷ Pick ∷ Literal 1000 ∷ Pick ∷ Subtract ∷ []) 0).value
     ≡ pos 951383
 left_is_drawn_first = refl
 
@@ -37,7 +39,7 @@ clamped_product : (value_of (readable (pos 3 ∷ negsuc 999 ∷ []) (7 ∷ 2000 
     ≡ record { value = negsuc 999999; state = 5 }
 clamped_product = refl
 
-one_expression : is_expr 1 (Literal 1000000 ∷ Register 7 ∷ Index 0 ∷ Add ∷ Multiply ∷ []) ≡ true
+one_expression : is_expr 1 (Literal MAX_VALUE ∷ Register 7 ∷ Index 0 ∷ Add ∷ Multiply ∷ []) ≡ true
 one_expression = refl
 
 two_values : is_expr 1 (Literal 1 ∷ Literal 2 ∷ []) ≡ false

@@ -15,8 +15,10 @@ use arrayvec::ArrayVec;
 pub fn value(expr: &Expr, registers: &Registers, dice: &mut Dice, indices: &[u32]) -> i64
     requires expr { IsTrue (is_expr (length indices.now) expr.now.nodes.items) }
     requires indices { All (λ i. i < MAX_VALUE) indices.now }
-    ensures value { result ≡ (value_of (readable registers.now indices.now) expr.now.nodes.items dice.old).value }
-    ensures dice { dice.new ≡ (value_of (readable registers.now indices.now) expr.now.nodes.items dice.old).state }
+    ensures value { let read = readable registers.now indices.now in
+        result ≡ (value_of read expr.now.nodes.items dice.old).value }
+    ensures dice { let read = readable registers.now indices.now in
+        dice.new ≡ (value_of read expr.now.nodes.items dice.old).state }
     ensures within { IsWithin result }
 {
     let mut operands = ArrayVec::new();
