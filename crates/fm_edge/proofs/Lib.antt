@@ -1,0 +1,3 @@
+pub mod Chains
+mod Rows
+pub mod SinkMemoryLemmas
