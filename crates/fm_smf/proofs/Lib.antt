@@ -1,0 +1,5 @@
+pub mod Deltas
+pub mod Fillers
+pub mod Quantities
+pub mod Tracks
+pub mod Writing

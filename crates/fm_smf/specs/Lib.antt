@@ -1,0 +1,4 @@
+pub mod VariableLength
+pub mod Track
+pub mod File
+pub mod Writing

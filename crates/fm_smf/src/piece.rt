@@ -1,0 +1,80 @@
+//! The bytes of one put: a delta time without fillers, and what follows it.
+ghost use Rattle.std.specs.Prelude.{◌≡◌, ◌+◌, ◌≤◌, ◌++◌, length, OnOk, OnErr, IfOk};
+ghost use Rattle.arrayvec.specs.ArrayVec.{array_vec_len};
+ghost use Rattle.fm_edge.specs.Runs.{Puts, Breaks};
+ghost use Rattle.fm_smf.specs.VariableLength.{vlq};
+ghost use Rattle.fm_smf.specs.Track.{fillers, delta};
+
+use crate::limits::MAX_QUANTITY;
+use arrayvec::ArrayVec;
+use fm_edge::{Failed, Sink};
+
+/// The greatest quantity and an empty text.
+const FILLER: [u8; 7] = [0xFF, 0xFF, 0xFF, 0x7F, 0xFF, 0x01, 0x00];
+
+/// The most bytes of a quantity and a message.
+const PIECE: usize = 7;
+
+// Appends a quantity.
+#[tactic(auto, unfolding(crate::specs::VariableLength::vlq))]
+fn push_vlq(out: &mut ArrayVec<u8, PIECE>, n: u64)
+    requires few { n ≤ MAX_QUANTITY }
+    requires room { array_vec_len out.old + 4 ≤ PIECE }
+    ensures items { out.new.items ≡ out.old.items ++ vlq n }
+    ensures len { array_vec_len out.new ≤ array_vec_len out.old + 4 }
+{
+    if n < 0x80 {
+        out.push(n as u8);
+    } else if n < 0x4000 {
+        out.push((0x80 + n / 0x80) as u8);
+        out.push((n % 0x80) as u8);
+    } else if n < 0x20_0000 {
+        out.push((0x80 + n / 0x4000) as u8);
+        out.push((0x80 + n / 0x80 % 0x80) as u8);
+        out.push((n % 0x80) as u8);
+    } else {
+        out.push((0x80 + n / 0x20_0000) as u8);
+        out.push((0x80 + n / 0x4000 % 0x80) as u8);
+        out.push((0x80 + n / 0x80 % 0x80) as u8);
+        out.push((n % 0x80) as u8);
+    }
+}
+
+// Puts so many fillers, each by a call of its own.
+fn put_fillers<K: Sink>(count: u64, sink: &mut K) -> Result<(), Failed>
+    ensures ok { OnOk result (Puts K.content K.sure K.faults sink.old sink.new (fillers count)) }
+    ensures err { OnErr result (Breaks K.content K.sure K.faults sink.old sink.new (fillers count)) }
+{
+    for _done in 0..count {
+        sink.put(&FILLER)?;
+    }
+    Ok(())
+}
+
+// A quantity and what follows it.
+fn piece_of(ticks: u64, tail: &[u8]) -> ArrayVec<u8, PIECE>
+    requires few { ticks ≤ MAX_QUANTITY }
+    requires short { length tail.now ≤ 3 }
+    ensures { result.items ≡ vlq ticks ++ tail.now }
+{
+    let mut piece = ArrayVec::new();
+    push_vlq(&mut piece, ticks);
+    for byte in tail {
+        piece.push(*byte);
+    }
+    piece
+}
+
+/// Puts the delta time of so many ticks and what follows it, and says how many bytes that is.
+pub fn put_after<K: Sink>(ticks: u64, tail: &[u8], sink: &mut K) -> Result<u64, Failed>
+    requires { length tail.now ≤ 3 }
+    ensures count { IfOk result (λ n. n ≡ length (delta ticks ++ tail.now)) }
+    ensures ok { OnOk result (Puts K.content K.sure K.faults sink.old sink.new (delta ticks ++ tail.now)) }
+    ensures err { OnErr result (Breaks K.content K.sure K.faults sink.old sink.new (delta ticks ++ tail.now)) }
+{
+    let count = ticks.saturating_sub(1) / MAX_QUANTITY;
+    put_fillers(count, sink)?;
+    let piece = piece_of(ticks - MAX_QUANTITY * count, tail);
+    sink.put(piece.as_slice())?;
+    Ok(7 * count + piece.len() as u64)
+}
