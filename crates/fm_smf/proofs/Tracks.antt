@@ -6,7 +6,7 @@ use Rattle.fm_msg.specs.Event.{TimedMessage}
 use Rattle.fm_msg.specs.Message.{message_bytes}
 use Rattle.fm_smf.specs.VariableLength.{vlq}
 use Rattle.fm_smf.specs.Track.{tempo, filler_count, remainder, event_bytes, end_bytes, events_bytes, last_time, NeverFalls, track}
-use Rattle.fm_smf.specs.File.{start, with_length, file, blank, length_bytes}
+use Rattle.fm_smf.specs.File.{file_start, with_length, file, blank, length_bytes}
 use Rattle.fm_edge.specs.Content.{overwritten}
 use Rattle.fm_smf.specs.declared.limits.TheConstants.{MAX_QUANTITY, LENGTH_PLACE, BEFORE_TRACK, START_LENGTH}
 use Rattle.fm_smf.proofs.Fillers.{length-delta}
@@ -31,8 +31,8 @@ never_falls-append last [] ys p q = q
 never_falls-append last (x ∷ xs) ys p q = (p.0, never_falls-append x.time xs ys p.1 q)
 
 -- the start, the events and the end make the file without its length
-pub blank-parts : (events : List TimedMessage) (end : ℕ) → (start ++ events_bytes 0 events) ++ end_bytes (last_time 0 events) end ≡ blank events end
-unfolding start with_length blank track
+pub blank-parts : (events : List TimedMessage) (end : ℕ) → (file_start ++ events_bytes 0 events) ++ end_bytes (last_time 0 events) end ≡ blank events end
+unfolding file_start with_length blank track
 blank-parts events end = simp append_assoc
 
 -- the length in its place makes it the file
@@ -91,6 +91,6 @@ length-track events end =
     omega (arith, length-append (tempo ++ events_bytes 0 events) (end_bytes (last_time 0 events) end), length-append tempo (events_bytes 0 events))
 
 -- the start has its length
-pub length-start : (bytes : List ℕ) → length (start ++ bytes) ≡ START_LENGTH + length bytes
-unfolding start with_length
-length-start bytes = omega arith
+pub length-file_start : (bytes : List ℕ) → length (file_start ++ bytes) ≡ START_LENGTH + length bytes
+unfolding file_start with_length
+length-file_start bytes = omega arith

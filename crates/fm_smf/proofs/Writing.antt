@@ -9,14 +9,14 @@ use Rattle.fm_edge.specs.Runs.{Puts, Breaks}
 use Rattle.fm_edge.proofs.Chains.{puts_none, puts_after, breaks_after, breaks_more, room_less, room_after, front_more, front_after}
 use Rattle.fm_msg.specs.Event.{TimedMessage}
 use Rattle.fm_smf.specs.Track.{event_bytes, events_bytes, end_bytes, last_time, NeverFalls, track}
-use Rattle.fm_smf.specs.File.{start, file, blank, length_bytes}
+use Rattle.fm_smf.specs.File.{file_start, file, blank, length_bytes}
 use Rattle.fm_smf.specs.Writing.{Written, patch_after, finished, EndsEarly, Remains, Finishes, BreaksFinish, Writes, IsWritten, IsFinished, IsBroken}
 use Rattle.fm_smf.specs.declared.limits.TheConstants.{MAX_TIME, MAX_TRACK, LENGTH_PLACE, BEFORE_TRACK, START_LENGTH}
-use Rattle.fm_smf.proofs.Tracks.{events_bytes-append, last_time-append, never_falls-append, blank-parts, file-patched, length-event, length-end, length-events, length-file, length-track, length-start}
+use Rattle.fm_smf.proofs.Tracks.{events_bytes-append, last_time-append, never_falls-append, blank-parts, file-patched, length-event, length-end, length-events, length-file, length-track, length-file_start}
 
 -- what stands before the end
 abbrev body : List TimedMessage → List ℕ
-body events = start ++ events_bytes 0 events
+body events = file_start ++ events_bytes 0 events
 
 -- what the end appends
 abbrev tail : List TimedMessage → ℕ → List ℕ
@@ -33,12 +33,12 @@ stands_at_end (Some c) (Some d) bytes put new is len =
 
 body-append : (done more : List TimedMessage) → body (done ++ more) ≡ body done ++ events_bytes (last_time 0 done) more
 body-append done more =
-    ap (λ z. start ++ z) (events_bytes-append 0 done more)
-    ∙ sym (append_assoc start (events_bytes 0 done) (events_bytes (last_time 0 done) more))
+    ap (λ z. file_start ++ z) (events_bytes-append 0 done more)
+    ∙ sym (append_assoc file_start (events_bytes 0 done) (events_bytes (last_time 0 done) more))
 
 length-body : (events : List TimedMessage) (end : ℕ) → length (file events end) ≡ length (body events) + length (tail events end)
 length-body events end =
-    omega (arith, length-file events end, length-track events end, length-start (events_bytes 0 events))
+    omega (arith, length-file events end, length-track events end, length-file_start (events_bytes 0 events))
 
 patch-is : (events : List TimedMessage) (put end : ℕ) → put ≡ START_LENGTH + length (events_bytes 0 events) →
     patch_after put (tail events end) ≡ length_bytes events end
@@ -128,7 +128,7 @@ module _ {K : Type 0} (content : K → Option (List ℕ)) (sure : K → Option �
       rw bytes (breaks_after content sure faults a b c _ _ p.puts q)
 
   -- a file is begun
-  pub written_begun : (a b : K) (w : Written) → IsNew (content a) → Puts content sure faults a b start →
+  pub written_begun : (a b : K) (w : Written) → IsNew (content a) → Puts content sure faults a b file_start →
       w ≡ record { last = 0; put = START_LENGTH } → IsWritten content sure faults a b [] w
   written_begun a b w new puts is =
       let last : w.last ≡ 0 = ap (λ z. z.last) is in
@@ -139,7 +139,7 @@ module _ {K : Type 0} (content : K → Option (List ℕ)) (sure : K → Option �
         puts = all;
         last = last;
         put = omega arith;
-        at_end = stands_at_end (content a) (content b) (body []) w.put new all.whole (omega (arith, length-start []));
+        at_end = stands_at_end (content a) (content b) (body []) w.put new all.whole (omega (arith, length-file_start []));
         small = omega arith;
       }
 
@@ -157,15 +157,15 @@ module _ {K : Type 0} (content : K → Option (List ℕ)) (sure : K → Option �
         wrote.put,
         ap length bytes,
         length-append (body done) (events_bytes u.last more),
-        length-start (events_bytes 0 done),
-        length-start (events_bytes 0 (done ++ more)),
+        length-file_start (events_bytes 0 done),
+        length-file_start (events_bytes 0 (done ++ more)),
       ) in
       record {
         new = had.new;
         puts = all;
         last = wrote.last ∙ ap (λ z. last_time z more) had.last ∙ sym (last_time-append 0 done more);
         put = put;
-        at_end = stands_at_end (content a) (content c) (body (done ++ more)) v.put had.new all.whole (length-start (events_bytes 0 (done ++ more)) ∙ sym put);
+        at_end = stands_at_end (content a) (content c) (body (done ++ more)) v.put had.new all.whole (length-file_start (events_bytes 0 (done ++ more)) ∙ sym put);
         small = omega (arith, had.small, wrote.put, wrote.last, length-events u.last more wrote.in_time, length-append done more);
       }
 
@@ -209,7 +209,7 @@ module _ {K : Type 0} (content : K → Option (List ℕ)) (sure : K → Option �
       IsWritten content sure faults a b events w → w.put + length (end_bytes w.last end) ≡ length (file events end)
   finished_length a b events end w had =
       let bytes : end_bytes w.last end ≡ tail events end = ap (λ z. end_bytes z end) had.last in
-      omega (arith, ap length bytes, had.put, length-body events end, length-start (events_bytes 0 events))
+      omega (arith, ap length bytes, had.put, length-body events end, length-file_start (events_bytes 0 events))
 
   -- a call failed before all bytes in front of the length's were put
   broken_front : (a b : K) (events : List TimedMessage) (end : ℕ) (bytes more : List ℕ) → bytes ++ more ≡ blank events end →
@@ -223,7 +223,7 @@ module _ {K : Type 0} (content : K → Option (List ℕ)) (sure : K → Option �
   }
 
   -- the beginning of a file failed, whatever was to come
-  pub broken_beginning : (a b : K) (events : List TimedMessage) (end : ℕ) → Breaks content sure faults a b start →
+  pub broken_beginning : (a b : K) (events : List TimedMessage) (end : ℕ) → Breaks content sure faults a b file_start →
       IsBroken content sure faults a b events end
   broken_beginning a b events end breaks =
       broken_front a b events end (body []) (events_bytes 0 events ++ tail events end) (whole_blank [] events events end refl) (rw append-nil breaks)

@@ -27,8 +27,8 @@ unfoldable pub blank : List TimedMessage → ℕ → List ℕ
 blank events end = with_length 0 (track events end)
 
 -- what stands in front of the first event while the length is 0
-unfoldable pub start : List ℕ
-start = with_length 0 tempo
+unfoldable pub file_start : List ℕ
+file_start = with_length 0 tempo
 
 -- the file of which only the first k bytes of the length are written
 abbrev pub half_patched : List TimedMessage → ℕ → ℕ → List ℕ

@@ -7,7 +7,7 @@ use Rattle.fm_edge.specs.Content.{AppendsFront, HasRoom, IsNew, overwritten}
 use Rattle.fm_edge.specs.Runs.{Puts}
 use Rattle.fm_msg.specs.Event.{TimedMessage}
 use Rattle.fm_smf.specs.Track.{events_bytes, last_time, NeverFalls}
-use Rattle.fm_smf.specs.File.{start, file, blank, half_patched}
+use Rattle.fm_smf.specs.File.{file_start, file, blank, half_patched}
 use Rattle.fm_smf.specs.declared.limits.TheConstants.{MAX_QUANTITY, LENGTH_PLACE, BEFORE_TRACK, START_LENGTH}
 
 -- what a clause sees of a writer: the time of the last event, and how many bytes were put
@@ -62,7 +62,7 @@ module _ {K : Type 0} (content : K → Option (List ℕ)) (sure : K → Option �
   -- on a new sink a file was begun and these events put; the writer stands at the content's end
   pub record IsWritten (begin now : K) (events : List TimedMessage) (writer : Written) : Type 0 where
     pub new : IsNew (content begin)
-    pub puts : Puts content sure faults begin now (start ++ events_bytes 0 events)
+    pub puts : Puts content sure faults begin now (file_start ++ events_bytes 0 events)
     pub last : writer.last ≡ last_time 0 events
     pub put : writer.put ≡ START_LENGTH + length (events_bytes 0 events)
     pub at_end : IfSome (content now) (λ c. length c ≡ writer.put)

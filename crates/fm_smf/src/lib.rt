@@ -9,10 +9,12 @@ mod fault;
 mod laws;
 mod limits;
 mod piece;
+mod whole;
 mod writer;
 
 pub use fault::SinkFault;
 pub use fm_msg::{Event, Msg};
 pub use laws::{deltas_split, lengths_make_files, quantities_read_back};
 pub use limits::{MAX_QUANTITY, MAX_TIME, MAX_TRACK};
+pub use whole::write_file;
 pub use writer::Writer;

@@ -4,7 +4,7 @@ ghost use Rattle.fm_edge.specs.Content.{IsNew};
 ghost use Rattle.fm_edge.specs.Runs.{Puts, Breaks};
 ghost use Rattle.fm_smf.specs.declared.limits.TheConstants.{BEFORE_TRACK, MAX_TRACK, START_LENGTH};
 ghost use Rattle.fm_smf.specs.Track.{event_bytes, end_bytes};
-ghost use Rattle.fm_smf.specs.File.{start};
+ghost use Rattle.fm_smf.specs.File.{file_start};
 ghost use Rattle.fm_smf.specs.Writing.{Written, Finishes, BreaksFinish, patch_after};
 
 use crate::limits::{BEFORE_TRACK, LENGTH_PLACE, MAX_TIME, MAX_TRACK, START_LENGTH};
@@ -40,11 +40,11 @@ impl Model for Writer {
 
 impl Writer {
     /// Puts the header, with length 0, and the tempo. The sink is new.
-    #[tactic(auto, unfolding(crate::specs::File::start, crate::specs::File::with_length))]
+    #[tactic(auto, unfolding(crate::specs::File::file_start, crate::specs::File::with_length))]
     pub fn begin<K: Sink>(sink: &mut K) -> Result<Writer, SinkFault>
         requires new { IsNew (K.content sink.old) }
-        ensures ok { OnOk result (Puts K.content K.sure K.faults sink.old sink.new start) }
-        ensures err { OnErr result (Breaks K.content K.sure K.faults sink.old sink.new start) }
+        ensures ok { OnOk result (Puts K.content K.sure K.faults sink.old sink.new file_start) }
+        ensures err { OnErr result (Breaks K.content K.sure K.faults sink.old sink.new file_start) }
         ensures writer { IfOk result (λ w. w ≡ record { last = 0; put = START_LENGTH }) }
     {
         sink.put(&START)?;
