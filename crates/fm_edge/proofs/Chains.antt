@@ -1,5 +1,6 @@
 -- One run of calls on a sink after another.
-use Rattle.std.proofs.Common.{◌≡◌, ℕ, ◌≤◌, List, [], ◌++◌, length, Some, None, Option, Result, OnErr, Ok, Err, refl, sym, ◌∙◌, ap, arith, append_assoc, length-append}
+use Rattle.std.proofs.Common.{◌≡◌, ℕ, ◌≤◌, List, [], ◌++◌, length, Some, None, Option, Result, OnErr, Ok, Err, refl, sym, ◌∙◌, ap, arith}
+use Rattle.std.proofs.Common.{append_assoc, length-append}
 use Rattle.std.proofs.lemmas.List.{append-nil}
 use Rattle.std.specs.Io.KnownBytes.{append_known}
 use Rattle.fm_edge.specs.Content.{AppendsFront, HasRoom}
@@ -18,15 +19,20 @@ front_after None None n xs ys e h = h
 front_after None (Some d) n xs ys e h = cc
 front_after (Some c) None n xs ys e h = cc
 front_after (Some c) (Some d) n xs ys e (front, back, whole, is) =
-    let same : d ≡ c ++ xs = cc in
-    (xs ++ front, back, append_assoc xs front back ∙ ap (λ z. xs ++ z) whole, is ∙ ap (λ z. Some (z ++ front)) same ∙ ap Some (append_assoc c xs front))
+    let same : d ≡ c ++ xs = cc in (
+      xs ++ front,
+      back,
+      append_assoc xs front back ∙ ap (λ z. xs ++ z) whole,
+      is ∙ ap (λ z. Some (z ++ front)) same ∙ ap Some (append_assoc c xs front),
+    )
 
 pub room_less : (o : Option (List ℕ)) (s : Option ℕ) (m n : ℕ) → m ≤ n → HasRoom o s n → HasRoom o s m
 room_less None s m n le h = h
 room_less (Some c) None m n le h = h
 room_less (Some c) (Some k) m n le h = omega arith
 
-pub room_after : (o m : Option (List ℕ)) (s t : Option ℕ) (xs ys : List ℕ) → m ≡ append_known o xs → t ≡ s → HasRoom o s (length (xs ++ ys)) → HasRoom m t (length ys)
+pub room_after : (o m : Option (List ℕ)) (s t : Option ℕ) (xs ys : List ℕ) → m ≡ append_known o xs → t ≡ s →
+    HasRoom o s (length (xs ++ ys)) → HasRoom m t (length ys)
 room_after None m s t xs ys e f h = absurd (h tt)
 room_after (Some c) m None t xs ys e f h = absurd (h tt)
 room_after (Some c) None (Some k) t xs ys e f h = cc
@@ -48,21 +54,25 @@ module _ {K : Type 0} (content : K → Option (List ℕ)) (sure : K → Option �
   pub puts_none : (a : K) → Puts content sure faults a a []
   puts_none a = record { whole = sym (append_none (content a)); same_sure = refl; later = omega arith; quiet = λ _. refl }
 
-  pub puts_after : (a b c : K) (xs ys : List ℕ) → Puts content sure faults a b xs → Puts content sure faults b c ys → Puts content sure faults a c (xs ++ ys)
+  pub puts_after : (a b c : K) (xs ys : List ℕ) → Puts content sure faults a b xs → Puts content sure faults b c ys →
+      Puts content sure faults a c (xs ++ ys)
   puts_after a b c xs ys p q = record {
     whole = q.whole ∙ ap (λ o. append_known o ys) p.whole ∙ append_append (content a) xs ys;
     same_sure = q.same_sure ∙ p.same_sure;
     later = omega arith;
-    quiet = λ room. q.quiet (room_after _ _ _ _ xs ys p.whole p.same_sure room) ∙ p.quiet (room_less _ _ _ _ (omega (arith, length-append xs ys)) room);
+    quiet = λ room. q.quiet (room_after _ _ _ _ xs ys p.whole p.same_sure room)
+        ∙ p.quiet (room_less _ _ _ _ (omega (arith, length-append xs ys)) room);
   }
 
-  pub breaks_after : (a b c : K) (xs ys : List ℕ) → Puts content sure faults a b xs → Breaks content sure faults b c ys → Breaks content sure faults a c (xs ++ ys)
+  pub breaks_after : (a b c : K) (xs ys : List ℕ) → Puts content sure faults a b xs → Breaks content sure faults b c ys →
+      Breaks content sure faults a c (xs ++ ys)
   breaks_after a b c xs ys p q = record {
     front = front_after _ _ _ xs ys p.whole q.front;
     same_sure = q.same_sure ∙ p.same_sure;
     later = omega arith;
     rose = omega arith;
-    quiet = λ room. q.quiet (room_after _ _ _ _ xs ys p.whole p.same_sure room) ∙ p.quiet (room_less _ _ _ _ (omega (arith, length-append xs ys)) room);
+    quiet = λ room. q.quiet (room_after _ _ _ _ xs ys p.whole p.same_sure room)
+        ∙ p.quiet (room_less _ _ _ _ (omega (arith, length-append xs ys)) room);
   }
 
   pub breaks_more : (a b : K) (xs ys : List ℕ) → Breaks content sure faults a b xs → Breaks content sure faults a b (xs ++ ys)

@@ -1,5 +1,6 @@
 -- What a put that fails leaves of a sink in memory.
-use Rattle.std.proofs.Common.{◌≡◌, ℕ, ◌-◌, ◌<◌, min, List, [], ◌∷◌, ◌++◌, length, take, drop, Option, Some, None, true, false, unwrap_or, IsSome, refl, sym, ◌∙◌, ap, arith, append_assoc, ◌≤◌}
+use Rattle.std.proofs.Common.{◌≡◌, ℕ, ◌-◌, ◌<◌, min, List, [], ◌∷◌, ◌++◌, length, take, drop, Option, Some, None, true, false, unwrap_or}
+use Rattle.std.proofs.Common.{IsSome, refl, sym, ◌∙◌, ap, arith, append_assoc, ◌≤◌}
 use Rattle.std.proofs.lemmas.List.{take-append-drop, take_min}
 use Rattle.std.proofs.Math.Seq.{take-length}
 use Rattle.std.specs.Prelude.{is_some}
@@ -53,10 +54,12 @@ front-min four n len = sym (take_min n four) ∙ ap (λ k. take (min n k) four) 
 
 -- the first few bytes were written over, and the fault counted
 pub patch_breaks : (s t : SinkMemory) (o : Option ℕ) (at : ℕ) (four : List ℕ) → length four ≡ 4 →
-    s.faults ≤ most_counted → t.content ≡ overwritten s.content at (take (unwrap_or o 4) four) → t.capacity ≡ s.capacity → t.failing ≡ s.failing →
+    s.faults ≤ most_counted → t.content ≡ overwritten s.content at (take (unwrap_or o 4) four) → t.capacity ≡ s.capacity →
+    t.failing ≡ s.failing →
     t.faults ≡ raised s.faults → (IsSome (sure_length s) → ⊥) → BreaksPatch told sure_length count_of s t at four
 patch_breaks s t o at four len small content capacity failing counted unsure = record {
-  front = (min (unwrap_or o 4) 4, omega arith, rw content (ap (λ z. Some (overwritten s.content at z)) (front-min four (unwrap_or o 4) len)));
+  front =
+      (min (unwrap_or o 4) 4, omega arith, rw content (ap (λ z. Some (overwritten s.content at z)) (front-min four (unwrap_or o 4) len)));
   same_sure = rw (capacity, failing) refl;
   later = omega arith;
   rose = omega arith;
@@ -64,6 +67,7 @@ patch_breaks s t o at four len small content capacity failing counted unsure = r
 }
 
 -- where a call is listed to fail, no length is sure
-pub listed_untold : (entries : List (ℕ × ℕ)) (call capacity : ℕ) → is_some (listed entries call) ≡ true → IsSome (sure_within entries capacity) → ⊥
+pub listed_untold : (entries : List (ℕ × ℕ)) (call capacity : ℕ) → is_some (listed entries call) ≡ true →
+    IsSome (sure_within entries capacity) → ⊥
 listed_untold [] call capacity is sure = cc
 listed_untold (entry ∷ entries) call capacity is sure = cc

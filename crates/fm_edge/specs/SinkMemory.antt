@@ -1,5 +1,6 @@
 -- A sink in memory, and what its next call does.
-use Rattle.std.specs.Prelude.{ℕ, ◌-◌, List, [], ◌∷◌, ◌++◌, Bool, ◌||◌, Option, Some, None, length, take, min, unwrap_or, is_some, nat_eq, nat_lt, if◌then◌else◌}
+use Rattle.std.specs.Prelude.{ℕ, ◌-◌, min, nat_eq, nat_lt, Bool, ◌||◌, if◌then◌else◌}
+use Rattle.std.specs.Prelude.{List, [], ◌∷◌, ◌++◌, length, take, Option, Some, None, unwrap_or, is_some}
 use Rattle.fm_edge.specs.Causes.{raised}
 use Rattle.fm_edge.specs.Content.{overwritten}
 
@@ -10,6 +11,11 @@ pub record SinkMemory : Type 0 where
   pub failing : List (ℕ × ℕ)
   pub calls : ℕ
   pub faults : ℕ
+
+-- one that holds nothing and was not called yet
+abbrev pub new_memory : ℕ → List (ℕ × ℕ) → SinkMemory
+new_memory capacity failing =
+    record { content = []; capacity = capacity; failing = failing; calls = 0; faults = 0 }
 
 -- after how many bytes the call of this number is listed to fail
 abbrev pub listed : List (ℕ × ℕ) → ℕ → Option ℕ

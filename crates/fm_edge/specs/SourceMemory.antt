@@ -1,5 +1,5 @@
 -- A source in memory, and what its next read does.
-use Rattle.std.specs.Prelude.{ℕ, List, Bool, drop, Ok, Err, Result, nat_eq}
+use Rattle.std.specs.Prelude.{ℕ, List, Bool, drop, max, Ok, Err, Result, nat_eq}
 use Rattle.std.specs.List.{list_any}
 use Rattle.fm_edge.specs.Causes.{raised}
 
@@ -10,6 +10,11 @@ pub record SourceMemory : Type 0 where
   pub failing : List ℕ
   pub calls : ℕ
   pub faults : ℕ
+
+-- one of these bytes that was not called yet; a read takes at least one byte
+abbrev pub new_source : List ℕ → ℕ → List ℕ → SourceMemory
+new_source bytes piece failing =
+    record { left = bytes; piece = max piece 1; failing = failing; calls = 0; faults = 0 }
 
 -- the next call's number is listed
 abbrev pub read_fails : SourceMemory → Bool

@@ -1,8 +1,9 @@
-//! What a performance meets outside itself: a source of text, a sink for the file, a console, and a hook
-//! round each time slice, as traits (`Source`, `Sink`, `Console`, `Gate`), with forms in memory for tests.
-//! A fault has its cause in a clause: `Failed` comes only where the object's count of faults rose in the call.
+//! What a performance meets outside itself, as traits: a source of text (`Source`), a sink for
+//! the file (`Sink`), a console (`Console`) and a hook round each time slice (`Gate`), with forms
+//! in memory.
+//! `Failed` comes only where the object's count of faults rose in the call (`HasCause`, `Breaks`).
 //! `Puts` and `Breaks` say what a run of calls leaves of a sink, and chain from call to call.
-//! What a real file or terminal gives or holds is left out: the adapters over the host tell no content.
+//! What a real file or terminal gives or holds is left out: the adapters tell no content.
 #![tactic(auto)]
 
 mod console;
@@ -18,6 +19,8 @@ mod open_gate;
 mod sink;
 mod source;
 mod sure_source;
+#[cfg(test)]
+mod tests;
 mod unread;
 mod whole;
 

@@ -1,9 +1,12 @@
 //! A file in memory.
-ghost use Rattle.std.specs.Prelude.{◌≡◌, ◌≤◌, ◌-◌, ◌+◌, ◌++◌, ◌↔◌, [], length, take, min, unwrap_or, IsTrue, IsErr, IfOk, IfSome, OnOk, OnErr, vec_len, vec_capacity};
+ghost use Rattle.std.specs.Prelude.{◌≡◌, ◌≤◌, ◌-◌, ◌+◌, ◌++◌, ◌↔◌, [], length, take, min};
+ghost use Rattle.std.specs.Prelude.{unwrap_or, vec_len, vec_capacity};
+ghost use Rattle.std.specs.Prelude.{IsTrue, IsErr, IfOk, IfSome, OnOk, OnErr};
 ghost use Rattle.fm_edge.specs.Causes.{raised};
 ghost use Rattle.fm_edge.specs.Content.{overwritten};
 ghost use Rattle.fm_edge.specs.Runs.{Puts, Breaks, Patches, BreaksPatch};
-ghost use Rattle.fm_edge.specs.SinkMemory.{SinkMemory, listed, put_fails, after_put, patch_fails, after_patch, told, sure_length, count_of};
+ghost use Rattle.fm_edge.specs.SinkMemory.{SinkMemory, listed, told, sure_length, count_of};
+ghost use Rattle.fm_edge.specs.SinkMemory.{new_memory, put_fails, after_put, patch_fails, after_patch};
 
 use crate::{Console, Failed, Sink};
 use std::alloc::{AllocError, Global};
@@ -22,7 +25,13 @@ pub struct MemorySink {
 impl Model for MemorySink {
     ghost Value = { SinkMemory };
 
-    ghost view = { λ s. record { content = s.bytes.items; capacity = s.capacity; failing = s.failing.items; calls = s.calls; faults = s.faults } };
+    ghost view = { λ s. record {
+      content = s.bytes.items;
+      capacity = s.capacity;
+      failing = s.failing.items;
+      calls = s.calls;
+      faults = s.faults;
+    } };
 
     ghost invariant = { λ s. (vec_len s.bytes ≤ s.capacity) × (s.capacity ≤ vec_capacity s.bytes) };
 }
@@ -73,9 +82,10 @@ fn write_over(bytes: &mut Vec<u8>, at: usize, piece: &[u8])
 }
 
 impl MemorySink {
-    /// An empty sink. The listed calls, counted from 1 over puts, patches and says, fail after so many bytes.
+    /// An empty sink of this capacity in bytes. The listed calls, counted from 1 over puts, patches
+    /// and says, fail after so many bytes; without any, no put within the capacity fails.
     pub fn new(alloc: Global, capacity: usize, failing: Vec<(u64, u32)>) -> Result<Self, AllocError>
-        ensures { IfOk result (λ s. s ≡ record { content = []; capacity = capacity; failing = failing.items; calls = 0; faults = 0 }) }
+        ensures { IfOk result (λ s. s ≡ new_memory capacity failing.items) }
     {
         Ok(MemorySink {
             bytes: Vec::with_capacity(alloc, capacity)?,
@@ -136,8 +146,10 @@ impl Sink for MemorySink {
 
     fn patch(&mut self, at: u64, bytes: &[u8; 4]) -> Result<(), Failed>
         requires within { IfSome (told self.old) (λ c. at + 4 ≤ length c) }
-        ensures ok { OnOk result (Patches told sure_length count_of self.old self.new at bytes.now) }
-        ensures err { OnErr result (BreaksPatch told sure_length count_of self.old self.new at bytes.now) }
+        ensures ok { OnOk result
+            (Patches told sure_length count_of self.old self.new at bytes.now) }
+        ensures err { OnErr result
+            (BreaksPatch told sure_length count_of self.old self.new at bytes.now) }
 
         ensures fails { IsErr result ↔ IsTrue (patch_fails self.old) }
         ensures state { self.new ≡ after_patch self.old at bytes.now }

@@ -1,9 +1,9 @@
 //! A text in memory, for tests of faults.
-ghost use Rattle.std.specs.Prelude.{◌≡◌, ◌<◌, ◌↔◌, length, min, max, Some, IsTrue, IsErr, IfOk};
+ghost use Rattle.std.specs.Prelude.{◌≡◌, ◌<◌, ◌↔◌, length, min, Some, IsTrue, IsErr, IfOk};
 ghost use Rattle.std.specs.Io.{ReadsAtMost};
 ghost use Rattle.fm_edge.specs.Causes.{HasCause};
 ghost use Rattle.fm_edge.specs.Content.{Reads};
-ghost use Rattle.fm_edge.specs.SourceMemory.{SourceMemory, read_fails, after_read};
+ghost use Rattle.fm_edge.specs.SourceMemory.{SourceMemory, new_source, read_fails, after_read};
 
 use crate::unread::Unread;
 use crate::{Failed, Source};
@@ -22,15 +22,22 @@ pub struct MemorySource {
 impl Model for MemorySource {
     ghost Value = { SourceMemory };
 
-    ghost view = { λ s. record { left = s.unread; piece = s.piece; failing = s.failing.items; calls = s.calls; faults = s.faults } };
+    ghost view = { λ s. record {
+      left = s.unread;
+      piece = s.piece;
+      failing = s.failing.items;
+      calls = s.calls;
+      faults = s.faults;
+    } };
 
     ghost invariant = { λ s. 0 < s.piece };
 }
 
 impl MemorySource {
-    /// A source of these bytes: at most `piece` a call, at least one; the calls whose numbers, from 1, are listed fail.
+    /// A source of these bytes: at most `piece` bytes a call, and at least one. The calls whose
+    /// numbers, from 1, are listed fail.
     pub fn new(bytes: Vec<u8>, piece: usize, failing: Vec<u64>) -> Self
-        ensures { result ≡ record { left = bytes.items; piece = max piece 1; failing = failing.items; calls = 0; faults = 0 } }
+        ensures { result ≡ new_source bytes.items piece failing.items }
     {
         MemorySource {
             unread: Unread::new(bytes),
@@ -53,7 +60,8 @@ impl Source for MemorySource {
         ensures cause { HasCause self.old.faults self.new.faults result }
 
         ensures listed { IsErr result ↔ IsTrue (read_fails self.old) }
-        ensures count { IfOk result (λ n. n ≡ min (min (length into.old) self.old.piece) (length self.old.left)) }
+        ensures count { IfOk result
+            (λ n. n ≡ min (min (length into.old) self.old.piece) (length self.old.left)) }
         ensures state { self.new ≡ after_read self.old result }
     {
         self.calls = self.calls.saturating_add(1);

@@ -14,7 +14,8 @@ pub trait Source {
     /// How often it has failed.
     ghost faults: { Self → ℕ };
 
-    /// Moves the first bytes left into the slice and says how many. 0 for a slice that is not empty is the end.
+    /// Moves the first bytes left into the slice and says how many. 0 for a slice that is not
+    /// empty is the end. A failed read moves nothing.
     fn read(&mut self, into: &mut [u8]) -> Result<usize, Failed>
         ensures bound { ReadsAtMost result into.new }
         ensures bytes { Reads (left self.old) (left self.new) result into.new }

@@ -2,8 +2,9 @@
 
 use std::io::Write;
 
-// Writes the whole piece. `None` at the first write that fails, or that takes nothing of what is left.
-pub fn write_whole<W: Write>(writer: &mut W, piece: &[u8]) -> Option<()> {
+/// Writes the whole piece. `None` at the first write that fails, or that takes nothing of what is
+/// left.
+pub(crate) fn write_whole<W: Write>(writer: &mut W, piece: &[u8]) -> Option<()> {
     let mut rest = piece;
     while !rest.is_empty() {
         let count = writer.write(rest).ok()?;

@@ -2,5 +2,6 @@ pub mod Deltas
 pub mod Fillers
 pub mod InTime
 pub mod Quantities
+mod Rows
 pub mod Tracks
 pub mod Writing

@@ -1,7 +1,7 @@
 //! Standard MIDI Files of format 0 with one track, written event by event to any sink.
 //! A `Writer` begins a file, takes its events in the order of their times and finishes it.
-//! `write_file` does all of it: after an Ok the sink holds exactly `file` of the events and the end,
-//! after a fault a front of that file with length 0, or the file with a part of its length.
+//! `write_file` does all of it: after an Ok the sink holds exactly `file` of the events and the
+//! end, after a fault a front of that file with length 0, or the file with a part of its length.
 //! Running status, sysex, further tracks and divisions other than 480 are left out.
 #![tactic(auto)]
 
@@ -9,12 +9,14 @@ mod fault;
 mod laws;
 mod limits;
 mod piece;
+#[cfg(test)]
+mod tests;
 mod whole;
 mod writer;
 
 pub use fault::SinkFault;
 pub use fm_msg::{Event, Msg};
-pub use laws::{deltas_split, lengths_make_files, quantities_read_back};
+pub use laws::{deltas_split, lengths_make_files, quantities_read_back, tracks_fit};
 pub use limits::{MAX_QUANTITY, MAX_TIME, MAX_TRACK};
 pub use whole::write_file;
 pub use writer::Writer;

@@ -3,7 +3,7 @@ ghost use Rattle.std.specs.Prelude.{◌≡◌, ◌+◌, ◌≤◌, ◌++◌, len
 ghost use Rattle.arrayvec.specs.ArrayVec.{array_vec_len};
 ghost use Rattle.fm_edge.specs.Runs.{Puts, Breaks};
 ghost use Rattle.fm_smf.specs.VariableLength.{vlq};
-ghost use Rattle.fm_smf.specs.Track.{fillers, delta};
+ghost use Rattle.fm_smf.specs.Track.{fillers, filler_count, delta};
 
 use crate::limits::MAX_QUANTITY;
 use arrayvec::ArrayVec;
@@ -42,8 +42,10 @@ fn push_vlq(out: &mut ArrayVec<u8, PIECE>, n: u64)
 
 // Puts so many fillers, each by a call of its own.
 fn put_fillers<K: Sink>(count: u64, sink: &mut K) -> Result<(), Failed>
-    ensures ok { OnOk result (Puts K.content K.sure K.faults sink.old sink.new (fillers count)) }
-    ensures err { OnErr result (Breaks K.content K.sure K.faults sink.old sink.new (fillers count)) }
+    ensures ok { OnOk result
+        (Puts K.content K.sure K.faults sink.old sink.new (fillers count)) }
+    ensures err { OnErr result
+        (Breaks K.content K.sure K.faults sink.old sink.new (fillers count)) }
 {
     for _done in 0..count {
         sink.put(&FILLER)?;
@@ -65,14 +67,23 @@ fn piece_of(ticks: u64, tail: &[u8]) -> ArrayVec<u8, PIECE>
     piece
 }
 
+// How many fillers stand before the quantity of so many ticks.
+fn fillers_before(ticks: u64) -> u64
+    ensures { result ≡ filler_count ticks }
+{
+    ticks.saturating_sub(1) / MAX_QUANTITY
+}
+
 /// Puts the delta time of so many ticks and what follows it, and says how many bytes that is.
 pub fn put_after<K: Sink>(ticks: u64, tail: &[u8], sink: &mut K) -> Result<u64, Failed>
     requires { length tail.now ≤ 3 }
     ensures count { IfOk result (λ n. n ≡ length (delta ticks ++ tail.now)) }
-    ensures ok { OnOk result (Puts K.content K.sure K.faults sink.old sink.new (delta ticks ++ tail.now)) }
-    ensures err { OnErr result (Breaks K.content K.sure K.faults sink.old sink.new (delta ticks ++ tail.now)) }
+    ensures ok { OnOk result
+        (Puts K.content K.sure K.faults sink.old sink.new (delta ticks ++ tail.now)) }
+    ensures err { OnErr result
+        (Breaks K.content K.sure K.faults sink.old sink.new (delta ticks ++ tail.now)) }
 {
-    let count = ticks.saturating_sub(1) / MAX_QUANTITY;
+    let count = fillers_before(ticks);
     put_fillers(count, sink)?;
     let piece = piece_of(ticks - MAX_QUANTITY * count, tail);
     sink.put(piece.as_slice())?;

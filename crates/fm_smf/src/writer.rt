@@ -5,7 +5,8 @@ ghost use Rattle.fm_edge.specs.Runs.{Puts, Breaks};
 ghost use Rattle.fm_smf.specs.declared.limits.TheConstants.{BEFORE_TRACK, MAX_TRACK, START_LENGTH};
 ghost use Rattle.fm_smf.specs.Track.{event_bytes, end_bytes};
 ghost use Rattle.fm_smf.specs.File.{file_start};
-ghost use Rattle.fm_smf.specs.Writing.{Written, Finishes, BreaksFinish, patch_after};
+ghost use Rattle.fm_smf.specs.Writing.{Written, HasSpace, after_event, patch_after};
+ghost use Rattle.fm_smf.specs.Writing.{Finishes, BreaksFinish};
 
 use crate::limits::{BEFORE_TRACK, LENGTH_PLACE, MAX_TIME, MAX_TRACK, START_LENGTH};
 use crate::piece::put_after;
@@ -60,12 +61,14 @@ impl Writer {
     pub fn event<K: Sink>(&mut self, event: &Event, sink: &mut K) -> Result<(), SinkFault>
         requires later { self.old.last ≤ event.now.time }
         requires in_time { event.now.time ≤ MAX_TIME }
-        requires fits { self.old.put + length (event_bytes self.old.last event.now) ≤ BEFORE_TRACK + MAX_TRACK }
+        requires fits { HasSpace self.old.put (event_bytes self.old.last event.now) }
         requires at_end { IfSome (K.content sink.old) (λ c. length c ≡ self.old.put) }
 
-        ensures ok { OnOk result (Puts K.content K.sure K.faults sink.old sink.new (event_bytes self.old.last event.now)) }
-        ensures err { OnErr result (Breaks K.content K.sure K.faults sink.old sink.new (event_bytes self.old.last event.now)) }
-        ensures writer { OnOk result (self.new ≡ record { last = event.now.time; put = self.old.put + length (event_bytes self.old.last event.now) }) }
+        ensures ok { OnOk result (Puts K.content K.sure K.faults
+            sink.old sink.new (event_bytes self.old.last event.now)) }
+        ensures err { OnErr result (Breaks K.content K.sure K.faults
+            sink.old sink.new (event_bytes self.old.last event.now)) }
+        ensures writer { OnOk result (self.new ≡ after_event self.old event.now) }
     {
         let mut message = [0; 3];
         let count = event.msg().bytes(&mut message);
@@ -81,11 +84,13 @@ impl Writer {
     pub fn finish<K: Sink>(self, end: u64, sink: &mut K) -> Result<u64, SinkFault>
         requires later { self.last ≤ end }
         requires in_time { end ≤ MAX_TIME }
-        requires fits { self.put + length (end_bytes self.last end) ≤ BEFORE_TRACK + MAX_TRACK }
+        requires fits { HasSpace self.put (end_bytes self.last end) }
         requires at_end { IfSome (K.content sink.old) (λ c. length c ≡ self.put) }
 
-        ensures ok { OnOk result (Finishes K.content K.sure K.faults sink.old sink.new (end_bytes self.last end) (patch_after self.put (end_bytes self.last end))) }
-        ensures err { OnErr result (BreaksFinish K.content K.sure K.faults sink.old sink.new (end_bytes self.last end) (patch_after self.put (end_bytes self.last end))) }
+        ensures ok { let bytes = end_bytes self.last end in OnOk result (Finishes
+            K.content K.sure K.faults sink.old sink.new bytes (patch_after self.put bytes)) }
+        ensures err { let bytes = end_bytes self.last end in OnErr result (BreaksFinish
+            K.content K.sure K.faults sink.old sink.new bytes (patch_after self.put bytes)) }
         ensures length { IfOk result (λ n. n ≡ self.put + length (end_bytes self.last end)) }
     {
         let count = put_after(end - self.last, &END, sink)?;

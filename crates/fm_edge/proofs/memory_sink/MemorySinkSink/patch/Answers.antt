@@ -14,7 +14,8 @@ returns-then-is_some-clause-err c =
     four
     (omega (arith, ap (λ z. z.faults) called))
     (ap (λ z. z.content) ended ∙ c.write_over.ensures.items
-    ∙ ap (λ z. overwritten z.content c.args.at c.listed_front-front.result.now) called ∙ ap (overwritten c.args.self.now.content c.args.at) front)
+    ∙ ap (λ z. overwritten z.content c.args.at c.listed_front-front.result.now) called
+    ∙ ap (overwritten c.args.self.now.content c.args.at) front)
     (ap (λ z. z.capacity) ended ∙ ap (λ z. z.capacity) called)
     (ap (λ z. z.failing) ended ∙ ap (λ z. z.failing) called)
     (omega (arith, ap (λ z. z.faults) ended, ap (λ z. z.faults) called))

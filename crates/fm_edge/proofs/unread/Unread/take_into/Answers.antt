@@ -5,7 +5,8 @@ use Rattle.std.specs.List.{slice_range}
 use Rattle.fm_edge.proofs.unread.Unread.take_into.Goals as goal
 
 -- what was moved is the front of what was left
-moved_front : (xs ys piece rest : List ℕ) (place count : ℕ) → ys ≡ xs → piece ≡ slice_range ys place (place + count) → length piece ≡ count →
+moved_front : (xs ys piece rest : List ℕ) (place count : ℕ) → ys ≡ xs → piece ≡ slice_range ys place (place + count) →
+    length piece ≡ count →
     drop place xs ≡ take count (piece ++ rest) ++ drop (place + count) xs
 moved_front xs ys piece rest place count same is len =
     drop_split xs place (place + count) (omega arith)
@@ -14,4 +15,6 @@ moved_front xs ys piece rest place count same is len =
 
 pub returns-clause-bytes : goal.returns-clause-bytes
 returns-clause-bytes c =
-    sym c.self.view_is ∙ moved_front _ _ _ _ _ _ c.deref.ensures.value c.copy_from_slice.ensures.after (omega (arith, c.copy_from_slice.ensures.len, length-take c.min-count.result c.args.into.now))
+    sym c.self.view_is
+    ∙ moved_front _ _ _ _ _ _ c.deref.ensures.value c.copy_from_slice.ensures.after
+    (omega (arith, c.copy_from_slice.ensures.len, length-take c.min-count.result c.args.into.now))
