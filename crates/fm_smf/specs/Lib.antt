@@ -1,3 +1,8 @@
+pub use Rattle.fm_edge.specs.Causes
+pub use Rattle.fm_edge.specs.Content
+pub use Rattle.fm_edge.specs.Runs
+pub use Rattle.fm_msg.specs.Event
+pub use Rattle.fm_msg.specs.Message
 pub mod VariableLength
 pub mod Track
 pub mod File

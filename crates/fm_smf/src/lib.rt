@@ -17,6 +17,6 @@ mod writer;
 pub use fault::SinkFault;
 pub use fm_msg::{Event, Msg};
 pub use laws::{deltas_split, lengths_make_files, quantities_read_back, tracks_fit};
-pub use limits::{MAX_QUANTITY, MAX_TIME, MAX_TRACK};
+pub use limits::{BEFORE_TRACK, LENGTH_PLACE, MAX_QUANTITY, MAX_TIME, MAX_TRACK, START_LENGTH};
 pub use whole::write_file;
 pub use writer::Writer;

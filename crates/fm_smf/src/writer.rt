@@ -69,6 +69,7 @@ impl Writer {
         ensures err { OnErr result (Breaks K.content K.sure K.faults
             sink.old sink.new (event_bytes self.old.last event.now)) }
         ensures writer { OnOk result (self.new ≡ after_event self.old event.now) }
+        ensures same { OnErr result (self.new ≡ self.old) }
     {
         let mut message = [0; 3];
         let count = event.msg().bytes(&mut message);
