@@ -15,14 +15,14 @@ const FILLER: [u8; 7] = [0xFF, 0xFF, 0xFF, 0x7F, 0xFF, 0x01, 0x00];
 /// The most bytes of a quantity and a message.
 const PIECE: usize = 7;
 
-// Appends a quantity.
+// The bytes of a quantity.
 #[tactic(auto, unfolding(crate::specs::VariableLength::vlq))]
-fn push_vlq(out: &mut ArrayVec<u8, PIECE>, n: u64)
-    requires few { n ≤ MAX_QUANTITY }
-    requires room { array_vec_len out.old + 4 ≤ PIECE }
-    ensures items { out.new.items ≡ out.old.items ++ vlq n }
-    ensures len { array_vec_len out.new ≤ array_vec_len out.old + 4 }
+fn vlq_of(n: u64) -> ArrayVec<u8, PIECE>
+    requires { n ≤ MAX_QUANTITY }
+    ensures items { result.items ≡ vlq n }
+    ensures len { array_vec_len result ≤ 4 }
 {
+    let mut out = ArrayVec::new();
     if n < 0x80 {
         out.push(n as u8);
     } else if n < 0x4000 {
@@ -38,6 +38,7 @@ fn push_vlq(out: &mut ArrayVec<u8, PIECE>, n: u64)
         out.push((0x80 + n / 0x80 % 0x80) as u8);
         out.push((n % 0x80) as u8);
     }
+    out
 }
 
 // Puts so many fillers, each by a call of its own.
@@ -59,8 +60,7 @@ fn piece_of(ticks: u64, tail: &[u8]) -> ArrayVec<u8, PIECE>
     requires short { length tail.now ≤ 3 }
     ensures { result.items ≡ vlq ticks ++ tail.now }
 {
-    let mut piece = ArrayVec::new();
-    push_vlq(&mut piece, ticks);
+    let mut piece = vlq_of(ticks);
     for byte in tail {
         piece.push(*byte);
     }
