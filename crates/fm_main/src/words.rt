@@ -1,0 +1,34 @@
+//! The words of the command line, and the files that they name.
+ghost use Rattle.std.specs.Prelude.{◌≡◌, ◌∷◌, [], length, IfOk, string_bytes};
+
+use fm_top::{NameFault, names};
+use std::alloc::{AllocError, Global};
+use std::rt::Env;
+use std::{env, io};
+
+/// The words after the program's name; none where one of them is no text.
+pub fn words_of(rt: &(impl Env + AllocGlobal)) -> Result<Vec<String>, AllocError> {
+    let mut words = Vec::new(rt.alloc());
+    match env::args(rt) {
+        Ok(args) => {
+            for word in args.skip(1) {
+                words.push(word)?;
+            }
+            Ok(words)
+        }
+        Err(e) if e.kind() == io::ErrorKind::OutOfMemory => Err(AllocError),
+        Err(_) => Ok(words),
+    }
+}
+
+/// The names of the two files, empty where the words are refused.
+pub fn file_names(alloc: Global, words: &[String]) -> Result<(String, String), AllocError>
+    ensures refused { (length words.now ≡ 2 → ⊥)
+        → IfOk result (λ n. (string_bytes n.0 ≡ []) × (string_bytes n.1 ≡ [])) }
+{
+    match names(alloc, words) {
+        Ok(names) => Ok(names),
+        Err(NameFault::Words) => Ok((String::new(alloc), String::new(alloc))),
+        Err(NameFault::Memory) => Err(AllocError),
+    }
+}

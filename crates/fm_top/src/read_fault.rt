@@ -1,0 +1,35 @@
+//! Why a text is not read to its end.
+ghost use Rattle.std.specs.Prelude.{◌≡◌};
+ghost use Rattle.fm_top.specs.declared.read_fault.ReadFault.TheVariants.{Failed, Memory};
+
+use fm_edge::Failed as SourceFailed;
+use std::alloc::AllocError;
+use thiserror::Error;
+
+/// Why `read_text` gives no text.
+#[derive(Clone, Copy, Debug, PartialEq, Eq, Error)]
+pub enum ReadFault {
+    #[error("a read failed")]
+    Failed,
+    /// The source has more bytes than a text may have.
+    #[error("the text is too long")]
+    TooLong,
+    #[error("out of memory")]
+    Memory,
+}
+
+impl From<AllocError> for ReadFault {
+    ghost from_gives = { λ _ e. e ≡ Memory };
+
+    fn from(_: AllocError) -> Self {
+        ReadFault::Memory
+    }
+}
+
+impl From<SourceFailed> for ReadFault {
+    ghost from_gives = { λ _ e. e ≡ Failed };
+
+    fn from(_: SourceFailed) -> Self {
+        ReadFault::Failed
+    }
+}

@@ -1,0 +1,37 @@
+//! Reads a text from a source, in pieces.
+ghost use Rattle.std.specs.Prelude.{◌≡◌, IfOk, IsErrOf};
+ghost use Rattle.fm_edge.specs.Causes.{Rose};
+ghost use Rattle.fm_top.specs.Taking.{Takes, TakesAll, TakesLong};
+
+use crate::read_fault::ReadFault;
+use fm_edge::Source;
+use fm_parse::MAX_SOURCE;
+use std::alloc::Global;
+
+/// How many bytes are asked for at a time.
+const PIECE: usize = 4_096;
+
+/// The most bytes that are taken: one past the limit.
+const MOST: usize = MAX_SOURCE + 1;
+
+/// Reads to the end of the source, or to the first byte past the limit.
+pub fn read_text<S: Source>(alloc: Global, source: &mut S) -> Result<Vec<u8>, ReadFault>
+    ensures takes { Takes S.left S.faults source.old source.new }
+    ensures text { IfOk result (λ t. TakesAll (S.left source.old) (S.left source.new) t.items) }
+    ensures long { IsErrOf result ReadFault.TooLong
+        → TakesLong (S.left source.old) (S.left source.new) }
+    ensures failed { IsErrOf result ReadFault.Failed
+        → Rose (S.faults source.old) (S.faults source.new) }
+{
+    let mut text = Vec::new(alloc);
+    let mut piece = [0u8; PIECE];
+    while text.len() < MOST {
+        let room = PIECE.min(MOST - text.len());
+        let count = source.read(&mut piece[..room])?;
+        if count == 0 {
+            return Ok(text);
+        }
+        text.extend_from_slice(&piece[..count])?;
+    }
+    Err(ReadFault::TooLong)
+}
