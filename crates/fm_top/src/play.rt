@@ -40,7 +40,41 @@ fn events_in(item: &PlainItem, position: u64, index: u32) -> u32
     }
 }
 
-// Writes a note-on and its note-off.
+// The note-on and the note-off of a note.
+fn note_events(key: u8, ticks: u32, position: u64, index: u32) -> (Event, Event)
+    requires limits { HasLimits (PlainItem.Note key ticks) }
+    requires in_time { position + MAX_LENGTH ≤ MAX_TIME }
+    requires few { index < 2 ^ 31 }
+    ensures on { result.0 ≡ record {
+      time = position;
+      process = 0;
+      index = index;
+      msg = Msg.On CHANNEL key VELOCITY;
+    } }
+    ensures off { result.1 ≡ record {
+      time = position + sounding ticks;
+      process = 0;
+      index = index + 1;
+      msg = Msg.Off CHANNEL key;
+    } }
+{
+    let on = Msg::On {
+        channel: CHANNEL,
+        key,
+        velocity: VELOCITY,
+    };
+    let off = Msg::Off {
+        channel: CHANNEL,
+        key,
+    };
+    let note_off = position + u64::from(ticks) * ARTICULATION / 100;
+    (
+        Event::new(position, 0, index, on),
+        Event::new(note_off, 0, index + 1, off),
+    )
+}
+
+// Writes a note.
 fn play_note<K: Sink>(
     key: u8,
     ticks: u32,
@@ -63,18 +97,9 @@ fn play_note<K: Sink>(
         OnErr result
         (Breaks K.content K.sure K.faults sink.old sink.new (events_bytes writer.old.last events)) }
 {
-    let on = Msg::On {
-        channel: CHANNEL,
-        key,
-        velocity: VELOCITY,
-    };
-    writer.event(&Event::new(position, 0, index, on), sink)?;
-    let off = Msg::Off {
-        channel: CHANNEL,
-        key,
-    };
-    let note_off = position + u64::from(ticks) * ARTICULATION / 100;
-    writer.event(&Event::new(note_off, 0, index + 1, off), sink)?;
+    let (on, off) = note_events(key, ticks, position, index);
+    writer.event(&on, sink)?;
+    writer.event(&off, sink)?;
     Ok(())
 }
 

@@ -6,13 +6,13 @@ use Rattle.fm_top.proofs.play.play_note.Goals as goal
 
 pub returns-in_err-event-clause-err : goal.returns-in_err-event-clause-err
 returns-in_err-event-clause-err g c =
-    on_err c.from_residual.result (breaks_more _ _ _ _ _ _ _ (rw c.new.ensures at c.in_err-event.ensures.err))
+    on_err c.from_residual.result (breaks_more _ _ _ _ _ _ _ (rw c.note_events-on.ensures.on at c.in_err-event.ensures.err))
 
 pub returns-in_err-event-2-clause-err : goal.returns-in_err-event-2-clause-err
 returns-in_err-event-2-clause-err g c =
     let p = c.args.position in
     let off : max p (p + sounding c.args.ticks) ≡ p + sounding c.args.ticks = omega arith in
-    let first = rw c.new.ensures at c.in_ok-event.ensures.ok in
-    let wrote = rw c.new.ensures at c.in_ok-event.ensures.writer in
-    let second = rw (c.new-2.ensures, c.from.ensures, wrote) at c.in_err-event-2.ensures.err in
+    let first = rw c.note_events-on.ensures.on at c.in_ok-event.ensures.ok in
+    let wrote = rw c.note_events-on.ensures.on at c.in_ok-event.ensures.writer in
+    let second = rw (c.note_events-on.ensures.off, wrote) at c.in_err-event-2.ensures.err in
     on_err c.from_residual-in_err-event-2.result (rw (append-nil, off) (breaks_after _ _ _ _ _ _ _ _ first second))
