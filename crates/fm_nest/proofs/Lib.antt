@@ -1,0 +1,4 @@
+pub mod NestingLemmas
+pub mod PlaceLemmas
+pub mod ReadinessLemmas
+mod Examples
