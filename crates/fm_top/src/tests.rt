@@ -76,17 +76,18 @@ fn file_of<R: Threads + Wait + Sync>(
     Ok(None)
 }
 
-// The status and the sink after a run on so many words, where these reads and these calls of the
-// sink fail.
+// The status and the sink after a run on a text and so many words, where these reads and these
+// calls of the sink fail.
 fn run_with_faults<R: Threads + Wait + Sync>(
     rt: &R,
     alloc: Global,
+    text: &str,
     count: usize,
     reads: &[u64],
     calls: &[(u64, u32)],
 ) -> Result<(u8, MemorySink), AllocError> {
     let words = some_words(alloc, count)?;
-    let text = NOTE.as_bytes().to_vec(alloc)?;
+    let text = text.as_bytes().to_vec(alloc)?;
     let mut source = MemorySource::new(text, 5, reads.to_vec(alloc)?);
     let mut sink = MemorySink::new(alloc, CAPACITY, calls.to_vec(alloc)?)?;
     let mut console = NullSink::new();
@@ -114,7 +115,6 @@ fn texts_become_files(rt: HostRuntime) -> Result<(), Fail> {
         let file = file_of(&rt, alloc, text)?;
         assert_eq!(rt; file, Some(file_with(alloc, tail, 4)?), "at {text}");
     }
-    assert_eq!(rt; file_of(&rt, alloc, "formula 1; note c4 1/7;")?, None);
     Ok(())
 }
 
@@ -135,15 +135,19 @@ fn rests_longer_than_a_quantity(rt: HostRuntime) -> Result<(), Fail> {
 #[test]
 fn statuses_that_leave_the_sink(rt: HostRuntime) -> Result<(), Fail> {
     let alloc = rt.alloc();
-    for (count, reads, wanted) in [
-        (1, [].as_slice(), 1),
-        (3, [].as_slice(), 1),
-        (2, [1].as_slice(), 2),
-        (2, [3].as_slice(), 2),
-        (2, [6].as_slice(), 2),
+    let seventh = "formula 1; note c4 1/7;";
+    for (text, count, reads, wanted) in [
+        (NOTE, 1, [].as_slice(), 1),
+        (NOTE, 3, [].as_slice(), 1),
+        (NOTE, 2, [1].as_slice(), 2),
+        (NOTE, 2, [3].as_slice(), 2),
+        (NOTE, 2, [6].as_slice(), 2),
+        (seventh, 2, [6].as_slice(), 2),
+        (seventh, 2, [].as_slice(), 3),
+        ("", 2, [].as_slice(), 3),
     ] {
-        let (status, sink) = run_with_faults(&rt, alloc, count, reads, &[])?;
-        assert_eq!(rt; status, wanted, "at {count} words");
+        let (status, sink) = run_with_faults(&rt, alloc, text, count, reads, &[])?;
+        assert_eq!(rt; status, wanted, "at {count} words and the text {text}");
         assert_eq!(rt; sink.content().len(), 0);
     }
     Ok(())
@@ -156,14 +160,14 @@ fn each_write_fails_after_each_byte(rt: HostRuntime) -> Result<(), Fail> {
     let blank = file_with(alloc, &QUARTER, 0)?;
     for (call, begin, length) in [(1, 0usize, 29), (2, 29, 4), (3, 33, 5), (4, 38, 4)] {
         for count in 0..=length {
-            let (status, sink) = run_with_faults(&rt, alloc, 2, &[], &[(call, count)])?;
+            let (status, sink) = run_with_faults(&rt, alloc, NOTE, 2, &[], &[(call, count)])?;
             let end = begin.saturating_add(count as usize);
             assert_eq!(rt; status, 4, "at call {call} after {count} bytes");
             assert_eq!(rt; Some(sink.content()), blank.get(..end));
         }
     }
     for count in 0..=4 {
-        let (status, sink) = run_with_faults(&rt, alloc, 2, &[], &[(5, count)])?;
+        let (status, sink) = run_with_faults(&rt, alloc, NOTE, 2, &[], &[(5, count)])?;
         let patched = file_with(alloc, &QUARTER, count as usize)?;
         assert_eq!(rt; status, 4, "at the length after {count} bytes");
         assert_eq!(rt; sink.content(), patched.as_slice());
