@@ -1,0 +1,9 @@
+pub mod Score
+pub mod Grammar
+pub mod Signs
+pub mod Spelling
+pub mod Standing
+pub mod Within
+pub mod Reads
+pub mod Table
+pub mod View

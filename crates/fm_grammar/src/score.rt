@@ -1,0 +1,12 @@
+//! A score.
+
+use crate::entry::Entry;
+use crate::number::Number;
+
+/// The tree of a text. Its names are slices of the source.
+#[derive(Debug, Drop)]
+pub struct Score<'s> {
+    pub version: Number,
+    pub seed: Option<Number>,
+    pub entries: Vec<Entry<'s>>,
+}
