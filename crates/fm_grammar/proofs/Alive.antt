@@ -1,14 +1,12 @@
 -- What fits is within the limits, and something fits each stack within the limits.
-use Rattle.std.proofs.Common.{◌≡◌, ℕ, zero, suc, ◌+◌, ◌≤◌, ◌<◌, Bool, true, false, cond, ◌⊎◌, inl, inr, ◌==◌, List, [], ◌∷◌, ◌++◌, Option, Some, None, Ok, Err, refl, sym, ap, ◌∙◌, arith}
+use Rattle.std.proofs.Common.{◌≡◌, ℕ, zero, suc, ◌+◌, ◌≤◌, Bool, true, false, ◌⊎◌, inl, inr, ◌==◌, List, [], ◌∷◌, ◌++◌, Some, refl, arith}
 use Rattle.std.specs.Prelude.{max, if◌then◌else◌}
 use Rattle.std.specs.List.{list_all}
 use Rattle.std.proofs.lemmas.Bool.Decides.{nat_tests}
-use Rattle.fm_lex.specs.Tokens.{Lexeme, Lexed}
-use Rattle.fm_lex.specs.declared.spot.Spot.{Spot}
-use Rattle.fm_lex.specs.declared.kind.Kind.{Kind}
+use Rattle.fm_lex.specs.Tokens.{Lexed}
 use Rattle.fm_grammar.specs.Within.{Limits}
-use Rattle.fm_grammar.specs.Table.{Sym, one, inner, factor, terms, sums, length, part, amount, duration, pitch, counted, mores, stmts, otherwise, branches, entries, seeded, Item, Rule, kind_code, rules_of, may_end, inside, taking, after_token, left_out, opened, peak, need, want}
-use Rattle.fm_grammar.proofs.Fits.{Take, Leave, Fits, Derives, takes, leaves, fits_counts, fits_opens}
+use Rattle.fm_grammar.specs.Table.{Sym, inner, factor, terms, sums, Rule, kind_code, rules_of, may_end, inside, taking, after_token, left_out, opened, peak, need, want}
+use Rattle.fm_grammar.proofs.Fits.{Fits, Derives}
 
 -- ---- the rule that was taken
 
@@ -149,4 +147,6 @@ pub record IsAlive (most : Limits) (u : ℕ) (ss : List Sym) : Type 0 where
 
 pub alive : (most : Limits) (u : ℕ) (ss : List Sym) (ts : List Lexed) → Derives most u ss ts → IsAlive most u ss
 alive most u ss ts d = record {
-  peaks = fits_peak most d.steps u ss ts d.fits; wants = fits_want most d.steps u ss ts d.fits }
+  peaks = fits_peak most d.steps u ss ts d.fits;
+  wants = fits_want most d.steps u ss ts d.fits;
+}

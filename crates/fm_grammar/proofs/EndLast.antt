@@ -1,17 +1,14 @@
 -- The end of a text can be taken only as the last token.
-use Rattle.std.proofs.Common.{◌≡◌, ℕ, zero, suc, ◌+◌, Bool, true, false, cond, not, ◌==◌, ◌&&◌, ◌||◌, ◌⊎◌, inl, inr, List, [], ◌∷◌, ◌++◌, Option, Some, None, Ok, refl, sym, ap, ◌∙◌, subst, arith, true≢false}
-use Rattle.std.specs.Prelude.{if◌then◌else◌}
+use Rattle.std.proofs.Common.{◌≡◌, ℕ, zero, suc, Bool, true, false, not, ◌==◌, ◌||◌, inl, inr, List, [], ◌∷◌, ◌++◌, Some, Ok, refl, sym, ap, ◌∙◌, subst, arith, true≢false}
 use Rattle.std.specs.List.{list_all}
-use Rattle.std.proofs.lemmas.Bool.Decides.{nat_tests}
 use Rattle.fm_lex.specs.Bytes.{one_of}
 use Rattle.fm_lex.specs.Tokens.{Lexeme, Lexed}
-use Rattle.fm_lex.specs.declared.kind.Kind.{Kind}
 use Rattle.fm_lex.specs.declared.kind.Kind.TheVariants.{End}
 use Rattle.fm_grammar.specs.Within.{Limits}
-use Rattle.fm_grammar.specs.Table.{Sym, one, inner, factor, terms, sums, length, part, amount, duration, pitch, counted, mores, stmts, otherwise, branches, entries, seeded, Item, pitches, lengths, numbers, parts, Rule, kind_code, rules_of, may_end, taking, after_token, left_out}
-use Rattle.fm_grammar.proofs.Fits.{Take, Leave, Fits}
+use Rattle.fm_grammar.specs.Table.{Sym, one, inner, factor, terms, sums, length, part, amount, duration, pitch, counted, mores, stmts, otherwise, branches, entries, seeded, pitches, lengths, numbers, parts, kind_code, rules_of, may_end, taking, after_token, left_out}
+use Rattle.fm_grammar.proofs.Fits.{Fits}
 use Rattle.fm_grammar.proofs.Alive.{In, taking_in, each_rule}
-use Rattle.fm_grammar.proofs.Followers.{firsts, firsts_of, some_taken}
+use Rattle.fm_grammar.proofs.Followers.{firsts, some_taken}
 
 -- a symbol that never takes the end
 abbrev no_end : Sym → Bool
@@ -99,7 +96,7 @@ end_alone most n u s before t w same (inl f) = by (taking_in (kind_code f.token.
     by (inl (code, next)) =
         let none : f.next ++ [] ≡ [] = rw (← next) refl in
         let left : f.rest ≡ [] = nothing_fits most n (after_token s u) f.rest
-            (subst (λ (x : List Sym). Fits most n (after_token s u) x f.rest) none f.fits) in
+        (subst (λ (x : List Sym). Fits most n (after_token s u) x f.rest) none f.fits) in
         single_last before (Ok t) (Ok f.token) w (f.place ∙ ap (λ (x : List Lexed). Ok f.token ∷ x) left)
     by (inr none) = absurd none
 end_alone most n u s before t w same (inr l) =
@@ -124,7 +121,7 @@ end_last most (suc n) u (s ∷ r ∷ ss) [] t w below is (inl f) =
 end_last most (suc n) u (s ∷ r ∷ ss) (b ∷ before) t w below is (inl f) =
     let later : before ++ Ok t ∷ w ≡ f.rest = cc in
     let next : list_all no_end f.next ≡ true =
-        each_rule (list_all no_end) (kind_code f.token.kind) f.next (rules_of s) (rules_end s below.0) (taking_in _ f.next (rules_of s) f.rule) in
+    each_rule (list_all no_end) (kind_code f.token.kind) f.next (rules_of s) (rules_end s below.0) (taking_in _ f.next (rules_of s) f.rule) in
     end_last most n (after_token s u) (f.next ++ r ∷ ss) before t w (next_below f.next (r ∷ ss) next below.1) is
     (subst (λ (x : List Lexed). Fits most n (after_token s u) (f.next ++ r ∷ ss) x) (sym later) f.fits)
 end_last most (suc n) u (s ∷ r ∷ ss) before t w below is (inr f) = end_last most n (left_out s u) (r ∷ ss) before t w below.1 is f.fits

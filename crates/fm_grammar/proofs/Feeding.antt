@@ -1,13 +1,13 @@
 -- A token that the table takes goes before what fits the stack behind it, and each token of what fits is taken.
-use Rattle.std.proofs.Common.{◌≡◌, ℕ, zero, suc, ◌+◌, ◌≤◌, ◌<◌, Bool, true, false, cond, ◌==◌, ◌&&◌, ◌||◌, ◌⊎◌, inl, inr, List, [], ◌∷◌, ◌++◌, Option, Some, None, Ok, Err, refl, sym, ap, ◌∙◌, subst, arith}
-use Rattle.std.specs.Prelude.{max, if◌then◌else◌}
+use Rattle.std.proofs.Common.{◌≡◌, ℕ, zero, suc, ◌+◌, ◌≤◌, Bool, true, false, inl, inr, List, [], ◌∷◌, ◌++◌, Option, Some, None, Ok, refl, sym, subst, arith}
+use Rattle.std.specs.Prelude.{if◌then◌else◌}
 use Rattle.fm_lex.specs.Tokens.{Lexeme, Lexed}
 use Rattle.fm_lex.specs.declared.kind.Kind.{Kind}
 use Rattle.fm_grammar.specs.Within.{Limits}
-use Rattle.fm_grammar.specs.Table.{Sym, kind_code, rules_of, may_end, inside, taking, Stack, after_token, left_out, fed_on, feed, opened, peak, need, want}
-use Rattle.fm_grammar.proofs.Fits.{Take, Leave, Fits, Derives, takes, leaves}
+use Rattle.fm_grammar.specs.Table.{Sym, kind_code, rules_of, may_end, inside, taking, Stack, after_token, left_out, fed_on, feed, opened, need}
+use Rattle.fm_grammar.proofs.Fits.{Fits, Derives, takes, leaves}
 use Rattle.fm_grammar.proofs.Alive.{IsAlive, want_least, need_none}
-use Rattle.fm_grammar.proofs.Followers.{Fine, may_begin, fits_begins, no_rule, feed_fine}
+use Rattle.fm_grammar.proofs.Followers.{Fine, may_begin, fits_begins, no_rule}
 
 -- ---- a token that is taken goes before what fits the new stack
 
@@ -72,7 +72,8 @@ taken most (suc n) u (s ∷ ss) t w fine (inl f) =
     record {
       stack = record { used = after_token s u; syms = f.next ++ ss };
       is_fed = rw rule refl;
-      derives = rw rest (record { steps = n; fits = f.fits }) }
+      derives = rw rest (record { steps = n; fits = f.fits });
+    }
 taken most (suc n) u (s ∷ ss) t w fine (inr f) =
     let on = taken most n (left_out s u) ss t w fine.1 f.fits in
     let begins : may_begin ss (kind_code t.kind) ≡ true = fits_begins most n (left_out s u) ss t w f.fits in

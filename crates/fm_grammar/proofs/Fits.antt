@@ -1,9 +1,8 @@
 -- Derivations by the table: what a stack takes, token by token, within the limits.
-use Rattle.std.proofs.Common.{◌≡◌, ℕ, zero, suc, ◌+◌, ◌≤◌, ◌<◌, Bool, true, false, cond, ◌⊎◌, inl, inr, List, [], ◌∷◌, ◌++◌, Option, Some, None, Ok, Err, refl, sym, ap, ◌∙◌, arith}
+use Rattle.std.proofs.Common.{◌≡◌, ℕ, zero, suc, ◌≤◌, true, ◌⊎◌, inl, inr, List, [], ◌∷◌, ◌++◌, Some, Ok, refl, arith}
 use Rattle.fm_lex.specs.Tokens.{Lexeme, Lexed}
-use Rattle.fm_lex.specs.declared.kind.Kind.{Kind}
 use Rattle.fm_grammar.specs.Within.{Limits}
-use Rattle.fm_grammar.specs.Table.{Sym, kind_code, rules_of, may_end, inside, taking, after_token, left_out, opened}
+use Rattle.fm_grammar.specs.Table.{Sym, kind_code, rules_of, may_end, taking, after_token, left_out, opened}
 
 -- the first symbol takes the token
 pub record Take (most : Limits) (u : ℕ) (s : Sym) (ss : List Sym) (ts : List Lexed)
@@ -43,10 +42,21 @@ pub more_steps : (most : Limits) (n u : ℕ) (ss : List Sym) (ts : List Lexed)
 more_steps most zero u ss ts fits = absurd fits
 more_steps most (suc n) u [] ts fits = fits
 more_steps most (suc n) u (s ∷ ss) ts (inl t) = inl (record {
-  opens = t.opens; counts = t.counts; token = t.token; rest = t.rest; place = t.place; next = t.next; rule = t.rule;
-  fits = more_steps most n (after_token s u) (t.next ++ ss) t.rest t.fits })
+  opens = t.opens;
+  counts = t.counts;
+  token = t.token;
+  rest = t.rest;
+  place = t.place;
+  next = t.next;
+  rule = t.rule;
+  fits = more_steps most n (after_token s u) (t.next ++ ss) t.rest t.fits;
+})
 more_steps most (suc n) u (s ∷ ss) ts (inr l) = inr (record {
-  opens = l.opens; counts = l.counts; may = l.may; fits = more_steps most n (left_out s u) ss ts l.fits })
+  opens = l.opens;
+  counts = l.counts;
+  may = l.may;
+  fits = more_steps most n (left_out s u) ss ts l.fits;
+})
 
 -- ---- what a derivation keeps
 
@@ -69,22 +79,50 @@ pub wider : (most wide : Limits) → most.braces ≤ wide.braces → most.tokens
 wider most wide braces tokens zero u ss ts fits = absurd fits
 wider most wide braces tokens (suc n) u [] ts fits = (fits.0, omega (arith, fits.1))
 wider most wide braces tokens (suc n) u (s ∷ ss) ts (inl t) = inl (record {
-  opens = omega (arith, t.opens); counts = omega (arith, t.counts); token = t.token; rest = t.rest; place = t.place;
-  next = t.next; rule = t.rule; fits = wider most wide braces tokens n (after_token s u) (t.next ++ ss) t.rest t.fits })
+  opens = omega (arith, t.opens);
+  counts = omega (arith, t.counts);
+  token = t.token;
+  rest = t.rest;
+  place = t.place;
+  next = t.next;
+  rule = t.rule;
+  fits = wider most wide braces tokens n (after_token s u) (t.next ++ ss) t.rest t.fits;
+})
 wider most wide braces tokens (suc n) u (s ∷ ss) ts (inr l) = inr (record {
-  opens = omega (arith, l.opens); counts = omega (arith, l.counts); may = l.may;
-  fits = wider most wide braces tokens n (left_out s u) ss ts l.fits })
+  opens = omega (arith, l.opens);
+  counts = omega (arith, l.counts);
+  may = l.may;
+  fits = wider most wide braces tokens n (left_out s u) ss ts l.fits;
+})
 
 -- ---- building derivations
 
 pub takes : (most : Limits) (u : ℕ) (s : Sym) (ss : List Sym) (t : Lexeme) (rest : List Lexed) (next : List Sym)
     → opened (s ∷ ss) ≤ most.braces → u ≤ most.tokens → taking (kind_code t.kind) (rules_of s) ≡ Some next
     → Derives most (after_token s u) (next ++ ss) rest → Derives most u (s ∷ ss) (Ok t ∷ rest)
-takes most u s ss t rest next opens counts rule on = record { steps = suc on.steps; fits = inl (record {
-  opens = opens; counts = counts; token = t; rest = rest; place = refl; next = next; rule = rule; fits = on.fits }) }
+takes most u s ss t rest next opens counts rule on = record {
+  steps = suc on.steps;
+  fits = inl (record {
+    opens = opens;
+    counts = counts;
+    token = t;
+    rest = rest;
+    place = refl;
+    next = next;
+    rule = rule;
+    fits = on.fits;
+  });
+}
 
 pub leaves : (most : Limits) (u : ℕ) (s : Sym) (ss : List Sym) (ts : List Lexed)
     → opened (s ∷ ss) ≤ most.braces → u ≤ most.tokens → may_end s ≡ true
     → Derives most (left_out s u) ss ts → Derives most u (s ∷ ss) ts
-leaves most u s ss ts opens counts may on = record { steps = suc on.steps; fits = inr (record {
-  opens = opens; counts = counts; may = may; fits = on.fits }) }
+leaves most u s ss ts opens counts may on = record {
+  steps = suc on.steps;
+  fits = inr (record {
+    opens = opens;
+    counts = counts;
+    may = may;
+    fits = on.fits;
+  });
+}

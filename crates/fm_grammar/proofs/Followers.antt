@@ -1,5 +1,5 @@
 -- What may stand behind a symbol that may be left out: no token that the symbol takes.
-use Rattle.std.proofs.Common.{◌≡◌, ℕ, zero, suc, ◌+◌, ◌≤◌, ◌<◌, Bool, true, false, cond, not, ◌==◌, ◌&&◌, ◌||◌, ◌⊎◌, inl, inr, List, [], ◌∷◌, ◌++◌, Option, Some, None, Ok, Err, refl, sym, ap, ◌∙◌, subst, arith}
+use Rattle.std.proofs.Common.{◌≡◌, ℕ, zero, suc, Bool, true, false, not, ◌==◌, ◌&&◌, ◌||◌, inl, inr, List, [], ◌∷◌, ◌++◌, Option, Some, None, Ok, refl, sym, subst, arith}
 use Rattle.std.specs.Prelude.{if◌then◌else◌, map}
 use Rattle.std.specs.List.{list_all}
 use Rattle.std.proofs.Math.Bool.{or-true}
@@ -12,9 +12,9 @@ use Rattle.fm_lex.specs.declared.kind.Kind.TheVariants as kinds
 use Rattle.fm_lex.specs.declared.keyword.Keyword.TheVariants.{Ticks}
 use Rattle.fm_grammar.specs.Signs.{semicolon, close_brace, open_brace, close_parenthesis, comma, close_bracket, plus_sign, minus_sign}
 use Rattle.fm_grammar.specs.Within.{Limits}
-use Rattle.fm_grammar.specs.Table.{Sym, one, inner, factor, terms, sums, length, part, amount, duration, pitch, counted, mores, stmts, otherwise, branches, entries, seeded, Item, pitches, lengths, numbers, parts, Rule, any_number, kind_code, rules_of, may_end, inside, taking, Stack, after_token, left_out, fed_on, feed, whole}
-use Rattle.fm_grammar.proofs.Fits.{Take, Leave, Fits}
-use Rattle.fm_grammar.proofs.Alive.{In, taking_in, each_rule}
+use Rattle.fm_grammar.specs.Table.{Sym, one, inner, factor, terms, sums, length, part, amount, duration, pitch, counted, mores, stmts, otherwise, branches, entries, seeded, pitches, lengths, numbers, parts, Rule, any_number, kind_code, rules_of, may_end, taking, Stack, left_out, fed_on, feed, whole}
+use Rattle.fm_grammar.proofs.Fits.{Fits}
+use Rattle.fm_grammar.proofs.Alive.{taking_in, each_rule}
 
 -- ---- first tokens and followers
 
@@ -121,7 +121,7 @@ none_taken code (r ∷ rs) apart = none_step code r rs (kind_code r.first == cod
 pub no_rule : (s : Sym) (code : ℕ) → may_end s ≡ true → one_of code (followers s) ≡ true → taking code (rules_of s) ≡ None
 no_rule s code may follows =
     let apart : not (one_of code (firsts s)) ≡ true =
-        each_of (λ c. not (one_of c (firsts s))) code (followers s) (followers_apart s may) follows in
+    each_of (λ c. not (one_of c (firsts s))) code (followers s) (followers_apart s may) follows in
     none_taken code (rules_of s) (grind arith)
 
 -- ---- a token that is taken begins
@@ -214,9 +214,10 @@ covers_begin ends last all (y ∷ ys) ss code covered behind begins =
 next_fine : (ends : Bool) (last : List ℕ) (xs ss : List Sym) → fine_next ends last xs ≡ true
     → ((code : ℕ) → ends ≡ true → may_begin ss code ≡ true → one_of code last ≡ true) → Fine ss → Fine (xs ++ ss)
 next_fine ends last [] ss fine behind fine_ss = fine_ss
-next_fine ends last (x ∷ xs) ss fine behind fine_ss =
-    ((λ code may begins. covers_begin ends last (followers x) xs ss code (covered_if (may_end x) (covers ends last (followers x) xs) may (and_left _ (fine_next ends last xs) fine)) (behind code) begins),
-     next_fine ends last xs ss (and_right (if may_end x then covers ends last (followers x) xs else true) _ fine) behind fine_ss)
+next_fine ends last (x ∷ xs) ss fine behind fine_ss = (
+  (λ code may begins. covers_begin ends last (followers x) xs ss code (covered_if (may_end x) (covers ends last (followers x) xs) may (and_left _ (fine_next ends last xs) fine)) (behind code) begins),
+  next_fine ends last xs ss (and_right (if may_end x then covers ends last (followers x) xs else true) _ fine) behind fine_ss,
+)
 
 fed_fine : (u : ℕ) (s : Sym) (ss : List Sym) (k : Kind) (st : Stack) (found : Option (List Sym)) (may : Bool)
     → taking (kind_code k) (rules_of s) ≡ found → may_end s ≡ may → Fine (s ∷ ss)
@@ -225,7 +226,7 @@ fed_fine : (u : ℕ) (s : Sym) (ss : List Sym) (k : Kind) (st : Stack) (found : 
 fed_fine u s ss k st (Some next) may took is fine taken on =
     let same : next ++ ss ≡ st.syms = cc in
     let rule : fine_next (may_end s) (followers s) next ≡ true =
-        each_rule (fine_next (may_end s) (followers s)) (kind_code k) next (rules_of s) (rules_fine s) (taking_in _ next (rules_of s) took) in
+    each_rule (fine_next (may_end s) (followers s)) (kind_code k) next (rules_of s) (rules_fine s) (taking_in _ next (rules_of s) took) in
     subst Fine same (next_fine (may_end s) (followers s) next ss rule fine.0 fine.1)
 fed_fine u s ss k st None true took is fine taken on = on (rw is at taken)
 fed_fine u s ss k st None false took is fine taken on = cc

@@ -1,17 +1,16 @@
 -- The tokens of a form fit its symbols.
-use Rattle.std.proofs.Common.{◌≡◌, ℕ, zero, suc, ◌+◌, ◌≤◌, ◌<◌, Bool, true, false, cond, ◌==◌, List, [], ◌∷◌, ◌++◌, Option, Some, None, Ok, refl, sym, ap, ◌∙◌, subst, arith}
-use Rattle.std.specs.Prelude.{if◌then◌else◌}
-use Rattle.fm_lex.specs.Tokens.{Lexeme, Lexed}
+use Rattle.std.proofs.Common.{◌≡◌, ℕ, ◌+◌, ◌≤◌, true, false, List, [], ◌∷◌, ◌++◌, Some, refl, subst, arith}
+use Rattle.fm_lex.specs.Tokens.{Lexed}
 use Rattle.fm_lex.specs.declared.kind.Kind.{Kind}
 use Rattle.fm_lex.specs.declared.kind.Kind.TheVariants.{Name, Number, Pitch, Register, Index, End}
 use Rattle.fm_lex.specs.declared.kind.Kind.TheVariants as kinds
-use Rattle.fm_lex.specs.declared.keyword.Keyword.TheVariants.{Formula, Seed, Shape, Flat, By, Slope, To, Pause, Breath, Ticks, Phrase, Note, Play, Rest, Skip, Control, Program, Bend, Set, If, Else, Repeat, Max, Do, Par, Branch, Warp, Channel, Volume, Gate, Rhythm, Artic, Loud, Key, Pick, Min, Less, Same}
+use Rattle.fm_lex.specs.declared.keyword.Keyword.TheVariants.{Pick}
 use Rattle.fm_grammar.specs.Score.{Leaf}
 use Rattle.fm_grammar.specs.Grammar.{NumForm, Mores, no_more, more, Listed, LengthForm, share, ticks, PartForm, flat, slope, pause, breath, Scaling, times, over, modulo, Adding, plus, minus, Comparing, least, greatest, below, equal, ExprForm, expr, FactorForm, register, index, negate, group, pick, compare, TermsForm, no_term, term, SumsForm, no_sum, sum, AmountForm, negative, DurationForm, fixed, PitchForm, named, keyed, Sending, program, bend, Setting, channel, volume, gate, Cycling, artic, loud, StmtsForm, no_stmt, stmt, BlockForm, block, ElseForm, no_else, otherwise, BranchesForm, no_branch, branch, StmtForm, note, play, rest, skip, control, send, set, choice, repeat, again, call, warp, par, setting, rhythm, cycling, EntryForm, shape, phrase, plays, EntriesForm, no_entry, entry, SeedForm, no_seed, seed, ScoreForm}
 use Rattle.fm_grammar.specs.Grammar as forms
-use Rattle.fm_grammar.specs.Signs.{semicolon, open_brace, close_brace, open_parenthesis, close_parenthesis, open_bracket, close_bracket, comma, equals, slash, plus_sign, minus_sign, asterisk, percent, tok, key, num}
-use Rattle.fm_grammar.specs.Spelling.{mores_text, listed_text, num_text, length_text, part_text, scaling_kind, adding_kind, comparing_word, expr_text, factor_text, terms_text, sums_text, amount_text, duration_text, pitch_text, sending_word, setting_word, cycling_word, stmts_text, block_text, else_text, branches_text, stmt_text, entry_text, entries_text, seed_text, score_text}
-use Rattle.fm_grammar.specs.Within.{Limits, expr_size, factor_size, terms_size, sums_size, AmountWithin, DurationWithin, PitchWithin, MoresWithin, ListedWithin, StmtsWithin, BlockWithin, ElseWithin, BranchesWithin, StmtWithin, EntryWithin, EntriesWithin}
+use Rattle.fm_grammar.specs.Signs.{open_parenthesis, close_parenthesis, comma, minus_sign, tok}
+use Rattle.fm_grammar.specs.Spelling.{scaling_kind, adding_kind, comparing_word, expr_text, factor_text, terms_text, sums_text}
+use Rattle.fm_grammar.specs.Within.{Limits, expr_size, factor_size, terms_size, sums_size}
 use Rattle.fm_grammar.specs.Table.{Sym, one, inner, Item, any_number, any_register, any_index, any_pitch, kind_code, rules_of, may_end, inside, taking, after_token, left_out, opened}
 use Rattle.fm_grammar.specs.Table as table
 use Rattle.fm_grammar.proofs.Fits.{Derives, takes, leaves, fits_counts, fits_opens}
@@ -97,7 +96,7 @@ mutual
       (within most (u + 1 + expr_size e) (inner close_parenthesis) ss [] close_parenthesis c w refl refl refl (recounted most _ _ ss w (omega arith) d)))
   fits_factor most (pick p o e c) u ss w d =
       within most u table.factor ss (inner open_parenthesis ∷ table.expr (inner close_parenthesis ∷ [])) (kinds.Keyword Pick) p
-        (tok open_parenthesis o ∷ expr_text e (tok close_parenthesis c ∷ w)) refl refl refl
+      (tok open_parenthesis o ∷ expr_text e (tok close_parenthesis c ∷ w)) refl refl refl
       (within most (u + 1) (inner open_parenthesis) (table.expr (inner close_parenthesis ∷ ss)) [] open_parenthesis o (expr_text e (tok close_parenthesis c ∷ w)) refl refl refl
       (fits_expr most e (u + 1 + 1) (inner close_parenthesis ∷ ss) (tok close_parenthesis c ∷ w)
       (within most (u + 1 + 1 + expr_size e) (inner close_parenthesis) ss [] close_parenthesis c w refl refl refl (recounted most _ _ ss w (omega arith) d))))
@@ -105,7 +104,7 @@ mutual
       let last = tok close_parenthesis c ∷ w in
       let second = expr_text b last in
       within most u table.factor ss table.two_exprs (kinds.Keyword (comparing_word f)) p
-        (tok open_parenthesis o ∷ expr_text a (tok comma m ∷ second)) refl (comparing_rule f) refl
+      (tok open_parenthesis o ∷ expr_text a (tok comma m ∷ second)) refl (comparing_rule f) refl
       (within most (u + 1) (inner open_parenthesis) (table.expr (inner comma ∷ table.expr (inner close_parenthesis ∷ ss))) [] open_parenthesis o (expr_text a (tok comma m ∷ second)) refl refl refl
       (fits_expr most a (u + 1 + 1) (inner comma ∷ table.expr (inner close_parenthesis ∷ ss)) (tok comma m ∷ second)
       (within most (u + 1 + 1 + expr_size a) (inner comma) (table.expr (inner close_parenthesis ∷ ss)) [] comma m second refl refl refl

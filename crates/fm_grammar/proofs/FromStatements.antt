@@ -1,17 +1,15 @@
 -- The tokens of statements and of a whole score fit their symbols.
-use Rattle.std.proofs.Common.{◌≡◌, ℕ, zero, suc, ◌+◌, ◌≤◌, ◌<◌, Bool, true, false, cond, ◌==◌, List, [], ◌∷◌, ◌++◌, Option, Some, None, Ok, refl, sym, ap, ◌∙◌, subst, arith}
-use Rattle.std.specs.Prelude.{if◌then◌else◌}
-use Rattle.fm_lex.specs.Tokens.{Lexeme, Lexed}
+use Rattle.std.proofs.Common.{◌≡◌, ◌+◌, ◌≤◌, false, List, [], ◌∷◌, ◌++◌, Some, refl, arith}
+use Rattle.fm_lex.specs.Tokens.{Lexed}
 use Rattle.fm_lex.specs.declared.kind.Kind.{Kind}
 use Rattle.fm_lex.specs.declared.kind.Kind.TheVariants.{Name, Number, Pitch, Register, Index, End}
 use Rattle.fm_lex.specs.declared.kind.Kind.TheVariants as kinds
-use Rattle.fm_lex.specs.declared.keyword.Keyword.TheVariants.{Formula, Seed, Shape, Flat, By, Slope, To, Pause, Breath, Ticks, Phrase, Note, Play, Rest, Skip, Control, Program, Bend, Set, If, Else, Repeat, Max, Do, Par, Branch, Warp, Channel, Volume, Gate, Rhythm, Artic, Loud, Key, Pick, Min, Less, Same}
+use Rattle.fm_lex.specs.declared.keyword.Keyword.TheVariants.{Formula, Seed, Shape, Phrase, Note, Play, Rest, Skip, Control, Set, If, Else, Repeat, Max, Do, Par, Branch, Warp, Rhythm}
 use Rattle.fm_grammar.specs.Score.{Leaf}
-use Rattle.fm_grammar.specs.Grammar.{NumForm, Mores, no_more, more, Listed, LengthForm, share, ticks, PartForm, flat, slope, pause, breath, Scaling, times, over, modulo, Adding, plus, minus, Comparing, least, greatest, below, equal, ExprForm, expr, FactorForm, register, index, negate, group, pick, compare, TermsForm, no_term, term, SumsForm, no_sum, sum, AmountForm, negative, DurationForm, fixed, PitchForm, named, keyed, Sending, program, bend, Setting, channel, volume, gate, Cycling, artic, loud, StmtsForm, no_stmt, stmt, BlockForm, block, ElseForm, no_else, otherwise, BranchesForm, no_branch, branch, StmtForm, note, play, rest, skip, control, send, set, choice, repeat, again, call, warp, par, setting, rhythm, cycling, EntryForm, shape, phrase, plays, EntriesForm, no_entry, entry, SeedForm, no_seed, seed, ScoreForm}
-use Rattle.fm_grammar.specs.Grammar as forms
-use Rattle.fm_grammar.specs.Signs.{semicolon, open_brace, close_brace, open_parenthesis, close_parenthesis, open_bracket, close_bracket, comma, equals, slash, plus_sign, minus_sign, asterisk, percent, tok, key, num}
-use Rattle.fm_grammar.specs.Spelling.{mores_text, listed_text, num_text, length_text, part_text, scaling_kind, adding_kind, comparing_word, expr_text, factor_text, terms_text, sums_text, amount_text, duration_text, pitch_text, sending_word, setting_word, cycling_word, stmts_text, block_text, else_text, branches_text, stmt_text, entry_text, entries_text, seed_text, score_text}
-use Rattle.fm_grammar.specs.Within.{Limits, expr_size, factor_size, terms_size, sums_size, AmountWithin, DurationWithin, PitchWithin, MoresWithin, ListedWithin, StmtsWithin, BlockWithin, ElseWithin, BranchesWithin, StmtWithin, EntryWithin, EntriesWithin}
+use Rattle.fm_grammar.specs.Grammar.{Sending, program, bend, Setting, channel, volume, gate, Cycling, artic, loud, StmtsForm, no_stmt, stmt, BlockForm, block, ElseForm, no_else, otherwise, BranchesForm, no_branch, branch, StmtForm, note, play, rest, skip, control, send, set, choice, repeat, again, call, warp, par, setting, rhythm, cycling, shape, phrase, plays, EntriesForm, no_entry, entry, SeedForm, no_seed, seed, ScoreForm}
+use Rattle.fm_grammar.specs.Signs.{semicolon, open_brace, close_brace, open_parenthesis, close_parenthesis, open_bracket, close_bracket, equals, tok, key, num}
+use Rattle.fm_grammar.specs.Spelling.{listed_text, num_text, length_text, part_text, expr_text, amount_text, duration_text, pitch_text, sending_word, setting_word, cycling_word, stmts_text, block_text, else_text, branches_text, stmt_text, entries_text, seed_text, score_text}
+use Rattle.fm_grammar.specs.Within.{Limits, expr_size, StmtsWithin, BlockWithin, ElseWithin, BranchesWithin, StmtWithin, EntriesWithin}
 use Rattle.fm_grammar.specs.Table.{Sym, one, inner, Item, Rule, any_number, any_register, any_index, any_pitch, kind_code, rules_of, may_end, inside, taking, after_token, left_out, opened}
 use Rattle.fm_grammar.specs.Table as table
 use Rattle.fm_grammar.proofs.Fits.{Derives}
@@ -43,7 +41,7 @@ setting_rule gate next further = refl
 
 cycling_rule : (s : Cycling) (next : Sym) (further : List Rule)
     → taking (kind_code (kinds.Keyword (cycling_word s))) (table.stmt_rules next further)
-        ≡ Some (one open_bracket ∷ table.listed table.numbers (one close_bracket ∷ table.block (next ∷ [])))
+    ≡ Some (one open_bracket ∷ table.listed table.numbers (one close_bracket ∷ table.block (next ∷ [])))
 cycling_rule artic next further = refl
 cycling_rule loud next further = refl
 
@@ -91,12 +89,12 @@ mutual
   fits_stmt most (note p ps d e) next main ss w small o any =
       let after = tok semicolon e ∷ w in
       word most next ss (table.listed table.pitches (table.duration ∷ one semicolon ∷ next ∷ [])) (kinds.Keyword Note) p
-        (listed_text pitch_text ps (duration_text d after)) main refl o
+      (listed_text pitch_text ps (duration_text d after)) main refl o
       (fits_pitches most ps (table.duration ∷ one semicolon ∷ next ∷ ss) (duration_text d after) small.0 o
       (fits_duration most d (one semicolon ∷ next ∷ ss) after small.1 o (ended most e (next ∷ ss) w o any)) 0 (omega arith))
   fits_stmt most (play p ps e) next main ss w small o any =
       word most next ss (table.listed table.pitches (one semicolon ∷ next ∷ [])) (kinds.Keyword Play) p
-        (listed_text pitch_text ps (tok semicolon e ∷ w)) main refl o
+      (listed_text pitch_text ps (tok semicolon e ∷ w)) main refl o
       (fits_pitches most ps (one semicolon ∷ next ∷ ss) (tok semicolon e ∷ w) small o (ended most e (next ∷ ss) w o any) 0 (omega arith))
   fits_stmt most (rest p d e) next main ss w small o any =
       word most next ss (table.duration ∷ one semicolon ∷ next ∷ []) (kinds.Keyword Rest) p (duration_text d (tok semicolon e ∷ w)) main refl o
@@ -141,7 +139,7 @@ mutual
       let inner_ss = table.branches ∷ one close_brace ∷ next ∷ ss in
       let ends = branches_text bs (tok close_brace c ∷ w) in
       word most next ss (one open_brace ∷ one (kinds.Keyword Branch) ∷ table.block (table.branches ∷ one close_brace ∷ next ∷ [])) (kinds.Keyword Par) p
-        (tok open_brace q ∷ key Branch f ∷ block_text b ends) main refl o
+      (tok open_brace q ∷ key Branch f ∷ block_text b ends) main refl o
       (outer most (one open_brace) (one (kinds.Keyword Branch) ∷ table.block inner_ss) [] open_brace q (key Branch f ∷ block_text b ends) refl refl o
       (outer most (one (kinds.Keyword Branch)) (table.block inner_ss) [] (kinds.Keyword Branch) f (block_text b ends) refl refl small.0
       (fits_block most b inner_ss ends small.1 small.0
@@ -154,7 +152,7 @@ mutual
       let after = one close_bracket ∷ table.block (next ∷ ss) in
       let ends = tok close_bracket c ∷ block_text b w in
       word most next ss (one open_bracket ∷ table.listed table.lengths (one close_bracket ∷ table.block (next ∷ []))) (kinds.Keyword Rhythm) p
-        (tok open_bracket q ∷ listed_text length_text ls ends) main refl o
+      (tok open_bracket q ∷ listed_text length_text ls ends) main refl o
       (outer most (one open_bracket) (table.listed table.lengths after) [] open_bracket q (listed_text length_text ls ends) refl refl o
       (fits_lengths most ls after ends o
       (outer most (one close_bracket) (table.block (next ∷ ss)) [] close_bracket c (block_text b w) refl refl o
@@ -163,7 +161,7 @@ mutual
       let after = one close_bracket ∷ table.block (next ∷ ss) in
       let ends = tok close_bracket c ∷ block_text b w in
       word most next ss (one open_bracket ∷ table.listed table.numbers (one close_bracket ∷ table.block (next ∷ []))) (kinds.Keyword (cycling_word y)) p
-        (tok open_bracket q ∷ listed_text num_text ns ends) main (cycling_rule y next main.further) o
+      (tok open_bracket q ∷ listed_text num_text ns ends) main (cycling_rule y next main.further) o
       (outer most (one open_bracket) (table.listed table.numbers after) [] open_bracket q (listed_text num_text ns ends) refl refl o
       (fits_numbers most ns after ends o
       (outer most (one close_bracket) (table.block (next ∷ ss)) [] close_bracket c (block_text b w) refl refl o
@@ -183,7 +181,7 @@ fits_entries most (entry (shape p n q ps e) es) w small any =
     let after = listed_text part_text ps (tok semicolon e ∷ entries_text es w) in
     let rest_ss = table.listed table.parts (one semicolon ∷ table.entries ∷ ends) in
     outer most table.entries ends (one Name ∷ one equals ∷ table.listed table.parts (one semicolon ∷ table.entries ∷ [])) (kinds.Keyword Shape) p
-      (tok Name n ∷ tok equals q ∷ after) refl refl (omega arith)
+    (tok Name n ∷ tok equals q ∷ after) refl refl (omega arith)
     (outer most (one Name) (one equals ∷ rest_ss) [] Name n (tok equals q ∷ after) refl refl (omega arith)
     (outer most (one equals) rest_ss [] equals q after refl refl (omega arith)
     (fits_parts most ps (one semicolon ∷ table.entries ∷ ends) (tok semicolon e ∷ entries_text es w) (omega arith)
@@ -211,6 +209,6 @@ fits_score most s small =
     let text = entries_text s.entries (tok End s.last ∷ []) in
     let seed_on = fits_seed most s.seeded (table.entries ∷ ends) text (omega arith) entries_on in
     outer most (one (kinds.Keyword Formula)) (one any_number ∷ one semicolon ∷ table.seeded ∷ table.entries ∷ ends) [] (kinds.Keyword Formula) s.word
-      (num s.version ∷ tok semicolon s.ends ∷ seed_text s.seeded text) refl refl (omega arith)
+    (num s.version ∷ tok semicolon s.ends ∷ seed_text s.seeded text) refl refl (omega arith)
     (fits_num most s.version (one semicolon ∷ table.seeded ∷ table.entries ∷ ends) (tok semicolon s.ends ∷ seed_text s.seeded text) (omega arith)
     (ended most s.ends (table.seeded ∷ table.entries ∷ ends) (seed_text s.seeded text) (omega arith) seed_on) 0 (omega arith)) 0 (omega arith)

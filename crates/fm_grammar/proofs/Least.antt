@@ -1,16 +1,13 @@
 -- Something fits each stack within the limits.
-use Rattle.std.proofs.Common.{◌≡◌, ℕ, zero, suc, ◌+◌, ◌≤◌, ◌<◌, Bool, true, false, cond, ◌==◌, List, [], ◌∷◌, ◌++◌, Option, Some, None, Ok, refl, sym, ap, ◌∙◌, arith}
-use Rattle.std.specs.Prelude.{max, if◌then◌else◌}
+use Rattle.std.proofs.Common.{◌≡◌, ℕ, ◌+◌, ◌≤◌, true, false, ◌==◌, List, [], ◌∷◌, ◌++◌, Some, Ok, refl, arith}
 use Rattle.std.proofs.lemmas.Bool.Decides.{nat_tests}
 use Rattle.fm_lex.specs.Tokens.{Lexeme, Lexed}
-use Rattle.fm_lex.specs.declared.spot.Spot.{Spot}
 use Rattle.fm_lex.specs.declared.kind.Kind.{Kind}
 use Rattle.fm_lex.specs.declared.kind.Kind.TheVariants as kinds
 use Rattle.fm_lex.specs.declared.keyword.Keyword.TheVariants.{Ticks, Pause}
-use Rattle.fm_grammar.specs.Score.{Leaf}
-use Rattle.fm_grammar.specs.Signs.{slash, tok}
+use Rattle.fm_grammar.specs.Signs.{slash}
 use Rattle.fm_grammar.specs.Within.{Limits}
-use Rattle.fm_grammar.specs.Table.{Sym, one, inner, factor, terms, sums, length, part, amount, duration, pitch, counted, mores, stmts, otherwise, branches, entries, seeded, any_number, any_pitch, kind_code, rules_of, may_end, inside, taking, after_token, left_out, opened, peak, need, want}
+use Rattle.fm_grammar.specs.Table.{Sym, one, inner, factor, terms, sums, length, part, amount, duration, pitch, counted, mores, stmts, otherwise, branches, entries, seeded, any_number, any_pitch, kind_code, rules_of, may_end, inside, taking, after_token, left_out, opened, need, want}
 use Rattle.fm_grammar.proofs.Fits.{Derives, takes, leaves}
 use Rattle.fm_grammar.proofs.Alive.{want_least, opened_peak, IsAlive}
 
@@ -28,14 +25,16 @@ filled_take : (most : Limits) (u : ℕ) (s : Sym) (ss next : List Sym) (k : Kind
     → taking (kind_code k) (rules_of s) ≡ Some next → Filled most (after_token s u) (next ++ ss) → Filled most u (s ∷ ss)
 filled_take most u s ss next k alive rule on = record {
   tokens = Ok (some k) ∷ on.tokens;
-  derives = takes most u s ss (some k) on.tokens next (omega (arith, alive.peaks)) (omega (arith, alive.wants, want_least (s ∷ ss) u)) rule on.derives }
+  derives = takes most u s ss (some k) on.tokens next (omega (arith, alive.peaks)) (omega (arith, alive.wants, want_least (s ∷ ss) u)) rule on.derives;
+}
 
 -- or is left out
 filled_leave : (most : Limits) (u : ℕ) (s : Sym) (ss : List Sym) → IsAlive most u (s ∷ ss) → may_end s ≡ true
     → Filled most (left_out s u) ss → Filled most u (s ∷ ss)
 filled_leave most u s ss alive may on = record {
   tokens = on.tokens;
-  derives = leaves most u s ss on.tokens (omega (arith, alive.peaks)) (omega (arith, alive.wants, want_least (s ∷ ss) u)) may on.derives }
+  derives = leaves most u s ss on.tokens (omega (arith, alive.peaks)) (omega (arith, alive.wants, want_least (s ∷ ss) u)) may on.derives;
+}
 
 -- what stands below an outer symbol is within the limits
 below : (most : Limits) (u : ℕ) (s : Sym) (ss : List Sym) → inside s ≡ false → IsAlive most u (s ∷ ss) → IsAlive most 0 ss

@@ -22,3 +22,4 @@ pub mod UniqueExprs
 pub mod UniqueValues
 pub mod UniqueStatements
 pub mod Texts
+pub mod TreeRows

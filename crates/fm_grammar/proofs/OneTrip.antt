@@ -1,5 +1,5 @@
 -- A list of tokens trips at one token at most, with one fault, and then it reads as no score.
-use Rattle.std.proofs.Common.{◌≡◌, ℕ, List, [], ◌∷◌, ◌++◌, refl, ap, sym, ◌∙◌, subst, append_assoc, arith}
+use Rattle.std.proofs.Common.{◌≡◌, List, [], ◌∷◌, ◌++◌, refl, ap, sym, ◌∙◌, subst, append_assoc}
 use Rattle.std.proofs.lemmas.List.{append-nil}
 use Rattle.std.specs.Prelude.{Ok, Err}
 use Rattle.fm_lex.specs.Tokens.{Lexed}
@@ -24,7 +24,7 @@ pub trips_excludes_reads : (ts before : List Lexed) (at : Lexed) (s : Score) →
 trips_excludes_reads ts before at s t r =
     let whole : ts ≡ (before ++ at ∷ []) ++ t.after = t.place ∙ sym (append_assoc before (at ∷ []) t.after) in
     t.stops (front_begins limits (before ++ at ∷ []) t.after
-        (subst (Begins limits) whole (reads_begins limits ts s r)))
+    (subst (Begins limits) whole (reads_begins limits ts s r)))
 
 -- ---- where two splits of one list lie
 
@@ -89,9 +89,9 @@ one_fault_at b (Ok t) (too_nested s) (lexical g) p q = absurd q
 pub one_trip_fault : (ts : List Lexed) (f g : Fault) → TripsWith ts f → TripsWith ts g → f ≡ g
 one_trip_fault ts f g t u =
     let at_one = one_place ts t.before u.before t.at u.at t.trips u.trips
-            (compared t.before t.at t.trips.after u.before u.at u.trips.after (sym t.trips.place ∙ u.trips.place)) in
+    (compared t.before t.at t.trips.after u.before u.at u.trips.after (sym t.trips.place ∙ u.trips.place)) in
     one_fault_at t.before t.at f g t.why
-        (subst (λ x. FaultAt t.before x g) (sym at_one.1) (subst (λ b. FaultAt b u.at g) (sym at_one.0) u.why))
+    (subst (λ x. FaultAt t.before x g) (sym at_one.1) (subst (λ b. FaultAt b u.at g) (sym at_one.0) u.why))
 
 -- and at one token
 pub one_trip : (ts b c : List Lexed) (x y : Lexed) → Trips ts b x → Trips ts c y → (b ≡ c) × (x ≡ y)

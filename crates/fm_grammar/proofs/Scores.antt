@@ -1,18 +1,17 @@
 -- The table from its start is the grammar.
-use Rattle.std.proofs.Common.{◌≡◌, ℕ, ◌⊎◌, inl, inr, List, [], ◌∷◌, ◌++◌, Option, Some, None, Ok, Err, refl, sym, ap, ◌∙◌, subst, arith, append_assoc}
-use Rattle.std.proofs.lemmas.List.{append-nil}
-use Rattle.fm_lex.specs.Tokens.{Lexeme, Lexed}
+use Rattle.std.proofs.Common.{◌≡◌, List, [], ◌∷◌, ◌++◌, Some, None, Ok, Err, refl, sym, subst, arith, append_assoc}
+use Rattle.fm_lex.specs.Tokens.{Lexed}
 use Rattle.fm_grammar.specs.Score.{Score}
 use Rattle.fm_grammar.specs.Standing.{score_tree}
 use Rattle.fm_grammar.specs.Within.{Limits, limits}
-use Rattle.fm_grammar.specs.Reads.{Reads, Begins, Trips, Fault, lexical, expected, too_nested, FaultAt, TripsWith}
-use Rattle.fm_grammar.specs.Table.{whole, trip, first_fault}
+use Rattle.fm_grammar.specs.Reads.{Reads, Begins, Fault, lexical, expected, too_nested, FaultAt, TripsWith}
+use Rattle.fm_grammar.specs.Table.{whole, first_fault}
 use Rattle.fm_grammar.proofs.Fits.{Derives}
 use Rattle.fm_grammar.proofs.Alive.{IsAlive}
 use Rattle.fm_grammar.proofs.Followers.{whole_fine}
 use Rattle.fm_grammar.proofs.FromStatements.{fits_score}
 use Rattle.fm_grammar.proofs.ToScore.{to_score}
-use Rattle.fm_grammar.proofs.Tripping.{Why, Tripped, tripped, accepted, goes_from}
+use Rattle.fm_grammar.proofs.Tripping.{Why, tripped, accepted, goes_from}
 
 -- a text that reads fits
 pub derives_from : (most : Limits) (ts : List Lexed) (score : Score) → Reads most ts score → Derives most 0 whole ts
@@ -57,11 +56,16 @@ fault_at before at f why = absurd why
 pub trips_with : (ts : List Lexed) (f : Fault) → first_fault ts ≡ Some f → TripsWith ts f
 trips_with ts f found =
     let t = tripped ts 0 whole f whole_fine whole_alive found in record {
-  before = t.before; at = t.at;
-  trips = record {
-    after = t.after; place = t.place; goes = begins_from limits t.before t.rest t.goes;
-    stops = λ begins. t.stops begins.rest (regrouped limits t.before begins.rest t.at (derives_begun limits (t.before ++ t.at ∷ []) begins)) };
-  why = fault_at t.before t.at f t.why }
+      before = t.before;
+      at = t.at;
+      trips = record {
+        after = t.after;
+        place = t.place;
+        goes = begins_from limits t.before t.rest t.goes;
+        stops = λ begins. t.stops begins.rest (regrouped limits t.before begins.rest t.at (derives_begun limits (t.before ++ t.at ∷ []) begins));
+      };
+      why = fault_at t.before t.at f t.why;
+    }
 
 -- tokens that go on are not refused
 pub begins_passes : (ts : List Lexed) → Begins limits ts → first_fault ts ≡ None

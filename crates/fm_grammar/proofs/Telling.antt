@@ -1,6 +1,6 @@
 -- A token's kind by the number that the table has for it.
-use Rattle.std.proofs.Common.{◌≡◌, ℕ, suc, ◌+◌, ◌*◌, List, ◌∷◌, Ok, refl, sym, ap, ◌∙◌, arith, slice_index_or}
-use Rattle.fm_lex.specs.Tokens.{Lexeme, Lexed}
+use Rattle.std.proofs.Common.{◌≡◌, ℕ, Ok, refl, sym, ap, ◌∙◌, arith, slice_index_or}
+use Rattle.fm_lex.specs.Tokens.{Lexeme}
 use Rattle.fm_lex.specs.declared.kind.Kind.{Kind}
 use Rattle.fm_lex.specs.declared.kind.Kind.TheVariants.{Name, Number, Pitch, Register, Index, Symbol, End}
 use Rattle.fm_lex.specs.declared.kind.Kind.TheVariants as kinds

@@ -1,21 +1,21 @@
 -- Each text reads as one score, or trips at one token.
-use Rattle.std.proofs.Common.{◌≡◌, ℕ, zero, suc, ◌↔◌, ◌⊎◌, inl, inr, Bool, true, false, List, [], ◌∷◌, ◌++◌, Option, Some, None, Ok, Err, refl, sym, ap, ◌∙◌, subst, arith, append_assoc}
+use Rattle.std.proofs.Common.{◌≡◌, ℕ, zero, suc, ◌↔◌, inl, inr, Bool, true, false, List, [], ◌∷◌, ◌++◌, Option, Some, None, Ok, Err, refl, sym, ap, ◌∙◌, subst, append_assoc}
 use Rattle.std.proofs.lemmas.List.{append-nil}
 use Rattle.fm_lex.specs.declared.kind.Kind.{Kind}
 use Rattle.fm_lex.specs.declared.kind.Kind.TheVariants.{End}
 use Rattle.fm_lex.specs.declared.token.LexFault.{LexFault}
-use Rattle.fm_lex.specs.Tokens.{Lexeme, Lexed, tokens}
-use Rattle.fm_lex.specs.Layout.{is_end, is_last, Stands, Ends, AreTokens}
+use Rattle.fm_lex.specs.Tokens.{Lexed, tokens}
+use Rattle.fm_lex.specs.Layout.{is_end, is_last, AreTokens}
 use Rattle.fm_lex.proofs.LayoutLemmas.{laid}
 use Rattle.fm_grammar.specs.Score.{Score}
 use Rattle.fm_grammar.specs.Standing.{score_tree}
 use Rattle.fm_grammar.specs.Within.{Limits, limits}
-use Rattle.fm_grammar.specs.Reads.{Reads, Begins, Fault, Trips, TripsWith, Verdict}
+use Rattle.fm_grammar.specs.Reads.{Reads, Begins, Fault, TripsWith, Verdict}
 use Rattle.fm_grammar.specs.Table.{Sym, kind_code, after_token, left_out, whole, first_fault}
-use Rattle.fm_grammar.proofs.Fits.{Take, Leave, Fits, Derives}
+use Rattle.fm_grammar.proofs.Fits.{Fits, Derives}
 use Rattle.fm_grammar.proofs.EndLast.{EndsBelow, end_last}
-use Rattle.fm_grammar.proofs.Scores.{derives_from, reads_from, derives_begun, trips_with, begins_passes, passes_begins}
-use Rattle.fm_grammar.proofs.OneTrip.{front_begins, reads_begins, trips_excludes_reads, one_trip_fault}
+use Rattle.fm_grammar.proofs.Scores.{reads_from, derives_begun, trips_with, begins_passes, passes_begins}
+use Rattle.fm_grammar.proofs.OneTrip.{front_begins, one_trip_fault}
 use Rattle.fm_grammar.proofs.UniqueStatements.{unique_score}
 
 -- ---- one score
@@ -77,7 +77,7 @@ whole_reads : (ts : List Lexed) → Closed ts → Begins limits ts → (score : 
 whole_reads ts closed begins =
     let derives = derives_begun limits ts begins in
     let none : begins.rest ≡ [] = ends_there closed.front closed.last begins.rest closed.ends
-        (subst (λ (x : List Lexed). Derives limits 0 whole (x ++ begins.rest)) closed.split derives) in
+    (subst (λ (x : List Lexed). Derives limits 0 whole (x ++ begins.rest)) closed.split derives) in
     let alone : ts ++ begins.rest ≡ ts = ap (λ (x : List Lexed). ts ++ x) none ∙ append-nil ts in
     reads_from limits ts (subst (λ (x : List Lexed). Derives limits 0 whole x) alone derives)
 

@@ -1,22 +1,17 @@
 -- What fits a symbol is the tokens of one of its forms: terminals and expressions.
-use Rattle.std.proofs.Common.{◌≡◌, ℕ, zero, suc, ◌+◌, ◌≤◌, ◌<◌, Bool, true, false, cond, ◌⊎◌, inl, inr, List, [], ◌∷◌, ◌++◌, Option, Some, None, Ok, refl, sym, ap, ◌∙◌, subst, arith}
-use Rattle.std.specs.Prelude.{if◌then◌else◌}
+use Rattle.std.proofs.Common.{◌≡◌, ℕ, zero, suc, true, false, inl, inr, List, [], ◌∷◌, ◌++◌, Ok, refl, sym, ap, ◌∙◌, subst}
 use Rattle.fm_lex.specs.Tokens.{Lexeme, Lexed}
 use Rattle.fm_lex.specs.declared.kind.Kind.{Kind}
-use Rattle.fm_lex.specs.declared.kind.Kind.TheVariants.{Name, Number, Pitch, Register, Index, End}
-use Rattle.fm_lex.specs.declared.kind.Kind.TheVariants as kinds
-use Rattle.fm_lex.specs.declared.keyword.Keyword.TheVariants.{Formula, Seed, Shape, Flat, By, Slope, To, Pause, Breath, Ticks, Phrase, Note, Play, Rest, Skip, Control, Program, Bend, Set, If, Else, Repeat, Max, Do, Par, Branch, Warp, Channel, Volume, Gate, Rhythm, Artic, Loud, Key, Pick, Min, Less, Same}
+use Rattle.fm_lex.specs.declared.kind.Kind.TheVariants.{Number}
 use Rattle.fm_grammar.specs.Score.{Leaf}
-use Rattle.fm_grammar.specs.Grammar.{NumForm, Mores, no_more, more, Listed, LengthForm, share, ticks, PartForm, flat, slope, pause, breath, Scaling, times, over, modulo, Adding, plus, minus, Comparing, least, greatest, below, equal, ExprForm, expr, FactorForm, register, index, negate, group, pick, compare, TermsForm, no_term, term, SumsForm, no_sum, sum, AmountForm, negative, DurationForm, fixed, PitchForm, named, keyed, Sending, program, bend, Setting, channel, volume, gate, Cycling, artic, loud, StmtsForm, no_stmt, stmt, BlockForm, block, ElseForm, no_else, otherwise, BranchesForm, no_branch, branch, StmtForm, note, play, rest, skip, control, send, set, choice, repeat, again, call, warp, par, setting, rhythm, cycling, EntryForm, shape, phrase, plays, EntriesForm, no_entry, entry, SeedForm, no_seed, seed, ScoreForm}
-use Rattle.fm_grammar.specs.Grammar as forms
-use Rattle.fm_grammar.specs.Signs.{semicolon, open_brace, close_brace, open_parenthesis, close_parenthesis, open_bracket, close_bracket, comma, equals, slash, plus_sign, minus_sign, asterisk, percent, tok, key, num}
-use Rattle.fm_grammar.specs.Spelling.{mores_text, listed_text, num_text, length_text, part_text, scaling_kind, adding_kind, comparing_word, expr_text, factor_text, terms_text, sums_text, amount_text, duration_text, pitch_text, sending_word, setting_word, cycling_word, stmts_text, block_text, else_text, branches_text, stmt_text, entry_text, entries_text, seed_text, score_text}
-use Rattle.fm_grammar.specs.Within.{Limits, expr_size, factor_size, terms_size, sums_size, AmountWithin, DurationWithin, PitchWithin, MoresWithin, ListedWithin, StmtsWithin, BlockWithin, ElseWithin, BranchesWithin, StmtWithin, EntryWithin, EntriesWithin}
-use Rattle.fm_grammar.specs.Table.{Sym, one, inner, Item, any_number, any_register, any_index, any_pitch, kind_code, rules_of, may_end, inside, taking, after_token, left_out, opened}
-use Rattle.fm_grammar.specs.Table as table
-use Rattle.fm_grammar.proofs.Fits.{Take, Leave, Fits, more_steps, fits_counts, fits_opens}
+use Rattle.fm_grammar.specs.Grammar.{NumForm}
+use Rattle.fm_grammar.specs.Signs.{tok}
+use Rattle.fm_grammar.specs.Spelling.{num_text}
+use Rattle.fm_grammar.specs.Within.{Limits}
+use Rattle.fm_grammar.specs.Table.{Sym, one, any_number, kind_code, rules_of, may_end, after_token}
+use Rattle.fm_grammar.proofs.Fits.{Take, Fits, more_steps}
 use Rattle.fm_grammar.proofs.Alive.{In, taking_in}
-use Rattle.fm_grammar.proofs.Telling.{Tells, tells_keyword, tells_symbol, tells_name, number_kind, register_kind, index_kind, leaf_of, tok-leaf_of}
+use Rattle.fm_grammar.proofs.Telling.{Tells, number_kind, leaf_of, tok-leaf_of}
 
 -- ---- one token
 
@@ -32,8 +27,13 @@ pub record Ruled (most : Limits) (n v : ℕ) (s : Sym) (ss : List Sym) (ts : Lis
 pub ruled_take : (most : Limits) (n u : ℕ) (s : Sym) (ss : List Sym) (ts : List Lexed) → Take most u s ss ts (Fits most n)
     → Ruled most n (after_token s u) s ss ts
 ruled_take most n u s ss ts t = record {
-  token = t.token; rest = t.rest; place = t.place; next = t.next;
-  rule = taking_in (kind_code t.token.kind) t.next (rules_of s) t.rule; fits = t.fits }
+  token = t.token;
+  rest = t.rest;
+  place = t.place;
+  next = t.next;
+  rule = taking_in (kind_code t.token.kind) t.next (rules_of s) t.rule;
+  fits = t.fits;
+}
 
 -- a symbol that must come took a token
 pub ruled : (most : Limits) (n u : ℕ) (s : Sym) (ss : List Sym) (ts : List Lexed) → may_end s ≡ false
@@ -84,10 +84,12 @@ to_sign most k tells (suc n) u ss ts fits = on (ruled most n u (one k) ss ts ref
       where
         by : In (kind_code r.token.kind) r.next (rules_of (one k)) → Split most (suc n) ss ts (sign_text k) Free
         by (inl (code, same)) = record {
-          form = leaf_of r.token; rest = r.rest;
+          form = leaf_of r.token;
+          rest = r.rest;
           place = with_token ts r.rest r.rest r.token k r.place (tells r.token.kind code) refl;
           within = tt;
-          fits = more_steps most n 0 ss r.rest (at_rule most n 0 [] r.next ss r.rest same r.fits) }
+          fits = more_steps most n 0 ss r.rest (at_rule most n 0 [] r.next ss r.rest same r.fits);
+        }
         by (inr none) = absurd none
 
 -- the number of a token
@@ -105,8 +107,10 @@ to_num most (suc n) u ss ts fits = on (ruled most n u (one any_number) ss ts ref
         by : In (kind_code r.token.kind) r.next (rules_of (one any_number)) → Split most (suc n) ss ts num_text Free
         by (inl (code, same)) =
             let number = number_kind r.token.kind code in record {
-          form = num_form number.0 r.token; rest = r.rest;
-          place = with_token ts r.rest r.rest r.token (Number number.0) r.place number.1 refl;
-          within = tt;
-          fits = more_steps most n 0 ss r.rest (at_rule most n 0 [] r.next ss r.rest same r.fits) }
+              form = num_form number.0 r.token;
+              rest = r.rest;
+              place = with_token ts r.rest r.rest r.token (Number number.0) r.place number.1 refl;
+              within = tt;
+              fits = more_steps most n 0 ss r.rest (at_rule most n 0 [] r.next ss r.rest same r.fits);
+            }
         by (inr none) = absurd none

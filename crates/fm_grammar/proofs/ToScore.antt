@@ -1,23 +1,19 @@
 -- What fits the symbols of a whole text is the tokens of a score.
-use Rattle.std.proofs.Common.{◌≡◌, ℕ, zero, suc, ◌+◌, ◌≤◌, ◌<◌, Bool, true, false, cond, ◌⊎◌, inl, inr, List, [], ◌∷◌, ◌++◌, Option, Some, None, Ok, refl, sym, ap, ◌∙◌, subst, arith}
+use Rattle.std.proofs.Common.{◌≡◌, ℕ, zero, suc, ◌⊎◌, inl, inr, List, [], ◌∷◌, ◌++◌, Ok, refl, ap, ◌∙◌}
 use Rattle.fm_lex.specs.Tokens.{Lexeme, Lexed}
-use Rattle.fm_lex.specs.declared.kind.Kind.{Kind}
 use Rattle.fm_lex.specs.declared.kind.Kind.TheVariants.{Name, Number, Pitch, Register, Index, End}
 use Rattle.fm_lex.specs.declared.kind.Kind.TheVariants as kinds
-use Rattle.fm_lex.specs.declared.keyword.Keyword.TheVariants.{Formula, Seed, Shape, Flat, By, Slope, To, Pause, Breath, Ticks, Phrase, Note, Play, Rest, Skip, Control, Program, Bend, Set, If, Else, Repeat, Max, Do, Par, Branch, Warp, Channel, Volume, Gate, Rhythm, Artic, Loud, Key, Pick, Min, Less, Same}
-use Rattle.fm_grammar.specs.Score.{Leaf}
-use Rattle.fm_grammar.specs.Grammar.{NumForm, Mores, no_more, more, Listed, LengthForm, share, ticks, PartForm, flat, slope, pause, breath, Scaling, times, over, modulo, Adding, plus, minus, Comparing, least, greatest, below, equal, ExprForm, expr, FactorForm, register, index, negate, group, pick, compare, TermsForm, no_term, term, SumsForm, no_sum, sum, AmountForm, negative, DurationForm, fixed, PitchForm, named, keyed, Sending, program, bend, Setting, channel, volume, gate, Cycling, artic, loud, StmtsForm, no_stmt, stmt, BlockForm, block, ElseForm, no_else, otherwise, BranchesForm, no_branch, branch, StmtForm, note, play, rest, skip, control, send, set, choice, repeat, again, call, warp, par, setting, rhythm, cycling, EntryForm, shape, phrase, plays, EntriesForm, no_entry, entry, SeedForm, no_seed, seed, ScoreForm}
-use Rattle.fm_grammar.specs.Grammar as forms
-use Rattle.fm_grammar.specs.Signs.{semicolon, open_brace, close_brace, open_parenthesis, close_parenthesis, open_bracket, close_bracket, comma, equals, slash, plus_sign, minus_sign, asterisk, percent, tok, key, num}
-use Rattle.fm_grammar.specs.Spelling.{mores_text, listed_text, num_text, length_text, part_text, scaling_kind, adding_kind, comparing_word, expr_text, factor_text, terms_text, sums_text, amount_text, duration_text, pitch_text, sending_word, setting_word, cycling_word, stmts_text, block_text, else_text, branches_text, stmt_text, entry_text, entries_text, seed_text, score_text}
-use Rattle.fm_grammar.specs.Within.{Limits, expr_size, factor_size, terms_size, sums_size, AmountWithin, DurationWithin, PitchWithin, MoresWithin, ListedWithin, StmtsWithin, BlockWithin, ElseWithin, BranchesWithin, StmtWithin, EntryWithin, EntriesWithin}
+use Rattle.fm_lex.specs.declared.keyword.Keyword.TheVariants.{Formula, Seed, Shape, Phrase}
+use Rattle.fm_grammar.specs.Grammar.{shape, phrase, plays, no_entry, entry, no_seed, seed, ScoreForm}
+use Rattle.fm_grammar.specs.Signs.{semicolon, equals, tok, key, num}
+use Rattle.fm_grammar.specs.Spelling.{listed_text, part_text, entry_text, entries_text, seed_text, score_text}
+use Rattle.fm_grammar.specs.Within.{Limits, EntryWithin, EntriesWithin}
 use Rattle.fm_grammar.specs.Table.{Sym, one, inner, Item, Rule, any_number, any_register, any_index, any_pitch, kind_code, rules_of, may_end, inside, taking, after_token, left_out, opened}
 use Rattle.fm_grammar.specs.Table as table
-use Rattle.fm_grammar.proofs.Fits.{Take, Leave, Fits, more_steps, fits_counts, fits_opens}
-use Rattle.fm_grammar.proofs.Alive.{In, taking_in}
-use Rattle.fm_grammar.proofs.Telling.{Tells, tells_keyword, tells_symbol, tells_name, tells_end, number_kind, register_kind, index_kind, leaf_of, tok-leaf_of}
-
-use Rattle.fm_grammar.proofs.ToForms.{Ruled, ruled_take, ruled, at_rule, with_token, Split, Free, sign_text, to_sign, num_form, to_num}
+use Rattle.fm_grammar.proofs.Fits.{Fits, more_steps}
+use Rattle.fm_grammar.proofs.Alive.{In}
+use Rattle.fm_grammar.proofs.Telling.{tells_keyword, tells_symbol, tells_name, tells_end, leaf_of}
+use Rattle.fm_grammar.proofs.ToForms.{Ruled, ruled_take, at_rule, with_token, Split, Free, to_sign, to_num}
 use Rattle.fm_grammar.proofs.ToValues.{to_parts}
 use Rattle.fm_grammar.proofs.ToStatements.{Stmt, block_split, stmt_case, known}
 
@@ -43,33 +39,49 @@ entry_case : (most : Limits) (n : ℕ) (ts later : List Lexed) (t : Lexeme) (rhs
     → Fits most n 0 (rhs ++ ends) later
     → Stmt most n table.entries ends ts ⊎ In (kind_code t.kind) rhs definitions → Entry most n ts
 entry_case most n ts later t rhs place fits (inl s) = record {
-  form = plays s.form; rest = s.rest; place = s.place; within = s.within; fits = s.fits }
+  form = plays s.form;
+  rest = s.rest;
+  place = s.place;
+  within = s.within;
+  fits = s.fits;
+}
 entry_case most n ts later t rhs place fits (inr (inl (code, same))) =
     let after = table.listed table.parts (one semicolon ∷ table.entries ∷ ends) in
     let m = to_sign most Name tells_name n 0 (one equals ∷ after) later
-        (at_rule most n 0 (one Name ∷ one equals ∷ table.listed table.parts (one semicolon ∷ table.entries ∷ [])) rhs ends later same fits) in
+    (at_rule most n 0 (one Name ∷ one equals ∷ table.listed table.parts (one semicolon ∷ table.entries ∷ [])) rhs ends later same fits) in
     let q = to_sign most equals (tells_symbol 61) n 0 after m.rest m.fits in
     let ps = to_parts most n 0 (one semicolon ∷ table.entries ∷ ends) q.rest q.fits in
     let e = to_sign most semicolon (tells_symbol 59) n 0 (table.entries ∷ ends) ps.rest ps.fits in record {
-  form = shape (leaf_of t) m.form q.form ps.form e.form; rest = e.rest;
-  place = with_token ts later _ t (kinds.Keyword Shape) place (tells_keyword Shape t.kind code)
-    (m.place ∙ ap (λ (x : List Lexed). tok Name m.form ∷ x) (q.place ∙ ap (λ (x : List Lexed). tok equals q.form ∷ x)
-    (ps.place ∙ ap (λ (x : List Lexed). listed_text part_text ps.form x) e.place)));
-  within = tt; fits = e.fits }
+      form = shape (leaf_of t) m.form q.form ps.form e.form;
+      rest = e.rest;
+      place = with_token ts later _ t (kinds.Keyword Shape) place (tells_keyword Shape t.kind code)
+          (m.place ∙ ap (λ (x : List Lexed). tok Name m.form ∷ x) (q.place ∙ ap (λ (x : List Lexed). tok equals q.form ∷ x)
+          (ps.place ∙ ap (λ (x : List Lexed). listed_text part_text ps.form x) e.place)));
+      within = tt;
+      fits = e.fits;
+    }
 entry_case most n ts later t rhs place fits (inr (inr (inl (code, same)))) =
     let m = to_sign most Name tells_name n 0 (table.block (table.entries ∷ ends)) later
-        (at_rule most n 0 (one Name ∷ table.block (table.entries ∷ [])) rhs ends later same fits) in
+    (at_rule most n 0 (one Name ∷ table.block (table.entries ∷ [])) rhs ends later same fits) in
     let b = block_split most n (known most n) 0 (table.entries ∷ ends) m.rest m.fits in record {
-  form = phrase (leaf_of t) m.form b.form; rest = b.rest;
-  place = with_token ts later _ t (kinds.Keyword Phrase) place (tells_keyword Phrase t.kind code)
-    (m.place ∙ ap (λ (x : List Lexed). tok Name m.form ∷ x) b.place);
-  within = b.within; fits = b.fits }
+      form = phrase (leaf_of t) m.form b.form;
+      rest = b.rest;
+      place = with_token ts later _ t (kinds.Keyword Phrase) place (tells_keyword Phrase t.kind code)
+          (m.place ∙ ap (λ (x : List Lexed). tok Name m.form ∷ x) b.place);
+      within = b.within;
+      fits = b.fits;
+    }
 entry_case most n ts later t rhs place fits (inr (inr (inr none))) = absurd none
 
 to_entries : (most : Limits) (n u : ℕ) (ts : List Lexed) → Fits most n u (table.entries ∷ ends) ts → Entries most n ts
 to_entries most zero u ts fits = absurd fits
 to_entries most (suc n) u ts (inr l) = record {
-  form = no_entry; rest = ts; place = refl; within = tt; fits = more_steps most n 0 ends ts l.fits }
+  form = no_entry;
+  rest = ts;
+  place = refl;
+  within = tt;
+  fits = more_steps most n 0 ends ts l.fits;
+}
 to_entries most (suc n) u ts (inl t) =
     by (ruled_take most n u table.entries ends ts t) (λ later fits. to_entries most n 0 later fits)
   where
@@ -77,16 +89,25 @@ to_entries most (suc n) u ts (inl t) =
         → ((later : List Lexed) → Fits most n 0 (table.entries ∷ ends) later → Entries most n later) → Entries most (suc n) ts
     by r on =
         let e = entry_case most n ts r.rest r.token r.next r.place r.fits
-            (stmt_case most n (known most n) table.entries definitions ends ts r.rest r.token r.next r.place r.fits r.rule) in
+        (stmt_case most n (known most n) table.entries definitions ends ts r.rest r.token r.next r.place r.fits r.rule) in
         let es = on e.rest e.fits in record {
-      form = entry e.form es.form; rest = es.rest; place = e.place ∙ ap (λ (x : List Lexed). entry_text e.form x) es.place;
-      within = (e.within, es.within); fits = more_steps most n 0 ends es.rest es.fits }
+          form = entry e.form es.form;
+          rest = es.rest;
+          place = e.place ∙ ap (λ (x : List Lexed). entry_text e.form x) es.place;
+          within = (e.within, es.within);
+          fits = more_steps most n 0 ends es.rest es.fits;
+        }
 
 to_seed : (most : Limits) (n u : ℕ) (ss : List Sym) (ts : List Lexed) → Fits most n u (table.seeded ∷ ss) ts
     → Split most n ss ts seed_text Free
 to_seed most zero u ss ts fits = absurd fits
 to_seed most (suc n) u ss ts (inr l) = record {
-  form = no_seed; rest = ts; place = refl; within = tt; fits = more_steps most n 0 ss ts l.fits }
+  form = no_seed;
+  rest = ts;
+  place = refl;
+  within = tt;
+  fits = more_steps most n 0 ss ts l.fits;
+}
 to_seed most (suc n) u ss ts (inl t) = by (ruled_take most n u table.seeded ss ts t)
   where
     by : Ruled most n 0 table.seeded ss ts → Split most (suc n) ss ts seed_text Free
@@ -96,10 +117,13 @@ to_seed most (suc n) u ss ts (inl t) = by (ruled_take most n u table.seeded ss t
         known_rule (inl (code, same)) =
             let v = to_num most n 0 (one semicolon ∷ ss) r.rest (at_rule most n 0 (one any_number ∷ one semicolon ∷ []) r.next ss r.rest same r.fits) in
             let e = to_sign most semicolon (tells_symbol 59) n 0 ss v.rest v.fits in record {
-          form = seed (leaf_of r.token) v.form e.form; rest = e.rest;
-          place = with_token ts r.rest _ r.token (kinds.Keyword Seed) r.place (tells_keyword Seed r.token.kind code)
-            (v.place ∙ ap (λ (x : List Lexed). num v.form ∷ x) e.place);
-          within = tt; fits = more_steps most n 0 ss e.rest e.fits }
+              form = seed (leaf_of r.token) v.form e.form;
+              rest = e.rest;
+              place = with_token ts r.rest _ r.token (kinds.Keyword Seed) r.place (tells_keyword Seed r.token.kind code)
+                  (v.place ∙ ap (λ (x : List Lexed). num v.form ∷ x) e.place);
+              within = tt;
+              fits = more_steps most n 0 ss e.rest e.fits;
+            }
         known_rule (inr none) = absurd none
 
 -- the tokens are those of a score within the limits
@@ -121,8 +145,9 @@ to_score most n ts fits =
     let es = to_entries most n 0 s.rest s.fits in
     let l = to_sign most End tells_end n 0 [] es.rest es.fits in
     let none = nothing_left most n l.rest l.fits in record {
-  form = record { word = w.form; version = v.form; ends = e.form; seeded = s.form; entries = es.form; last = l.form };
-  text = w.place ∙ ap (λ (x : List Lexed). key Formula w.form ∷ x) (v.place ∙ ap (λ (x : List Lexed). num v.form ∷ x)
-    (e.place ∙ ap (λ (x : List Lexed). tok semicolon e.form ∷ x) (s.place ∙ ap (λ (x : List Lexed). seed_text s.form x)
-    (es.place ∙ ap (λ (x : List Lexed). entries_text es.form x) (l.place ∙ ap (λ (x : List Lexed). tok End l.form ∷ x) none)))));
-  within = es.within }
+      form = record { word = w.form; version = v.form; ends = e.form; seeded = s.form; entries = es.form; last = l.form };
+      text = w.place ∙ ap (λ (x : List Lexed). key Formula w.form ∷ x) (v.place ∙ ap (λ (x : List Lexed). num v.form ∷ x)
+          (e.place ∙ ap (λ (x : List Lexed). tok semicolon e.form ∷ x) (s.place ∙ ap (λ (x : List Lexed). seed_text s.form x)
+          (es.place ∙ ap (λ (x : List Lexed). entries_text es.form x) (l.place ∙ ap (λ (x : List Lexed). tok End l.form ∷ x) none)))));
+      within = es.within;
+    }

@@ -1,23 +1,21 @@
 -- What fits the symbols of values and lists is the tokens of one of their forms.
-use Rattle.std.proofs.Common.{◌≡◌, ℕ, zero, suc, ◌+◌, ◌≤◌, ◌<◌, Bool, true, false, cond, ◌⊎◌, inl, inr, List, [], ◌∷◌, ◌++◌, Option, Some, None, Ok, refl, sym, ap, ◌∙◌, subst, arith}
+use Rattle.std.proofs.Common.{◌≡◌, ℕ, zero, suc, ◌≤◌, inl, inr, List, [], ◌∷◌, ◌++◌, Ok, refl, ap, ◌∙◌}
 use Rattle.fm_lex.specs.Tokens.{Lexeme, Lexed}
-use Rattle.fm_lex.specs.declared.kind.Kind.{Kind}
 use Rattle.fm_lex.specs.declared.kind.Kind.TheVariants.{Name, Number, Pitch, Register, Index, End}
 use Rattle.fm_lex.specs.declared.kind.Kind.TheVariants as kinds
-use Rattle.fm_lex.specs.declared.keyword.Keyword.TheVariants.{Formula, Seed, Shape, Flat, By, Slope, To, Pause, Breath, Ticks, Phrase, Note, Play, Rest, Skip, Control, Program, Bend, Set, If, Else, Repeat, Max, Do, Par, Branch, Warp, Channel, Volume, Gate, Rhythm, Artic, Loud, Key, Pick, Min, Less, Same}
+use Rattle.fm_lex.specs.declared.keyword.Keyword.TheVariants.{Flat, By, Slope, To, Pause, Breath, Ticks, Max, Key}
 use Rattle.fm_grammar.specs.Score.{Leaf}
 use Rattle.fm_grammar.specs.Grammar.{NumForm, Mores, no_more, more, Listed, LengthForm, share, ticks, PartForm, flat, slope, pause, breath, Scaling, times, over, modulo, Adding, plus, minus, Comparing, least, greatest, below, equal, ExprForm, expr, FactorForm, register, index, negate, group, pick, compare, TermsForm, no_term, term, SumsForm, no_sum, sum, AmountForm, negative, DurationForm, fixed, PitchForm, named, keyed, Sending, program, bend, Setting, channel, volume, gate, Cycling, artic, loud, StmtsForm, no_stmt, stmt, BlockForm, block, ElseForm, no_else, otherwise, BranchesForm, no_branch, branch, StmtForm, note, play, rest, skip, control, send, set, choice, repeat, again, call, warp, par, setting, rhythm, cycling, EntryForm, shape, phrase, plays, EntriesForm, no_entry, entry, SeedForm, no_seed, seed, ScoreForm}
 use Rattle.fm_grammar.specs.Grammar as forms
-use Rattle.fm_grammar.specs.Signs.{semicolon, open_brace, close_brace, open_parenthesis, close_parenthesis, open_bracket, close_bracket, comma, equals, slash, plus_sign, minus_sign, asterisk, percent, tok, key, num}
-use Rattle.fm_grammar.specs.Spelling.{mores_text, listed_text, num_text, length_text, part_text, scaling_kind, adding_kind, comparing_word, expr_text, factor_text, terms_text, sums_text, amount_text, duration_text, pitch_text, sending_word, setting_word, cycling_word, stmts_text, block_text, else_text, branches_text, stmt_text, entry_text, entries_text, seed_text, score_text}
-use Rattle.fm_grammar.specs.Within.{Limits, expr_size, factor_size, terms_size, sums_size, AmountWithin, DurationWithin, PitchWithin, MoresWithin, ListedWithin, StmtsWithin, BlockWithin, ElseWithin, BranchesWithin, StmtWithin, EntryWithin, EntriesWithin}
+use Rattle.fm_grammar.specs.Signs.{open_parenthesis, close_parenthesis, comma, slash, minus_sign, tok, key, num}
+use Rattle.fm_grammar.specs.Spelling.{mores_text, listed_text, num_text, length_text, part_text, expr_text, amount_text, duration_text, pitch_text}
+use Rattle.fm_grammar.specs.Within.{Limits, expr_size, AmountWithin, DurationWithin, PitchWithin, MoresWithin, ListedWithin}
 use Rattle.fm_grammar.specs.Table.{Sym, one, inner, Item, any_number, any_register, any_index, any_pitch, kind_code, rules_of, may_end, inside, taking, after_token, left_out, opened}
 use Rattle.fm_grammar.specs.Table as table
-use Rattle.fm_grammar.proofs.Fits.{Take, Leave, Fits, more_steps, fits_counts, fits_opens}
-use Rattle.fm_grammar.proofs.Alive.{In, taking_in}
-use Rattle.fm_grammar.proofs.Telling.{Tells, tells_keyword, tells_symbol, tells_name, number_kind, register_kind, index_kind, pitch_kind, leaf_of, tok-leaf_of}
-
-use Rattle.fm_grammar.proofs.ToForms.{Ruled, ruled_take, ruled, at_rule, with_token, Split, Free, sign_text, to_sign, num_form, to_num}
+use Rattle.fm_grammar.proofs.Fits.{Fits, more_steps}
+use Rattle.fm_grammar.proofs.Alive.{In}
+use Rattle.fm_grammar.proofs.Telling.{tells_keyword, tells_symbol, number_kind, pitch_kind, leaf_of}
+use Rattle.fm_grammar.proofs.ToForms.{Ruled, ruled_take, ruled, at_rule, with_token, Split, Free, to_sign, num_form, to_num}
 use Rattle.fm_grammar.proofs.ToExprs.{to_expr}
 
 -- a form of one token more in front
@@ -44,18 +42,25 @@ counted_case : (most : Limits) (n : ℕ) (ss : List Sym) (ts later : List Lexed)
     → Split most (suc n) ss ts count_text (CountWithin most.tokens)
 counted_case most n ss ts later t next place fits (inl (code, same)) =
     let kind = number_kind t.kind code in record {
-  form = plain (num_form kind.0 t); rest = later; place = with_token ts later later t (Number kind.0) place kind.1 refl;
-  within = tt; fits = more_of most n ss later (at_rule most n 0 [] next ss later same fits) }
+      form = plain (num_form kind.0 t);
+      rest = later;
+      place = with_token ts later later t (Number kind.0) place kind.1 refl;
+      within = tt;
+      fits = more_of most n ss later (at_rule most n 0 [] next ss later same fits);
+    }
 counted_case most n ss ts later t next place fits (inr (inl (code, same))) =
     let e = to_expr most n (one close_parenthesis ∷ one (kinds.Keyword Max) ∷ one any_number ∷ ss) later (at_rule most n 0 (table.clamped []) next ss later same fits) in
     let c = to_sign most close_parenthesis (tells_symbol 41) n e.count (one (kinds.Keyword Max) ∷ one any_number ∷ ss) e.rest e.fits in
     let m = to_sign most (kinds.Keyword Max) (tells_keyword Max) n 0 (one any_number ∷ ss) c.rest c.fits in
     let v = to_num most n 0 ss m.rest m.fits in record {
-  form = clamped (leaf_of t) e.form c.form m.form v.form; rest = v.rest;
-  place = with_token ts later _ t open_parenthesis place (tells_symbol 40 t.kind code)
-    (e.place ∙ ap (λ (x : List Lexed). expr_text e.form x) (c.place ∙ ap (λ (x : List Lexed). tok close_parenthesis c.form ∷ x)
-    (m.place ∙ ap (λ (x : List Lexed). key Max m.form ∷ x) v.place)));
-  within = e.within; fits = more_of most n ss v.rest v.fits }
+      form = clamped (leaf_of t) e.form c.form m.form v.form;
+      rest = v.rest;
+      place = with_token ts later _ t open_parenthesis place (tells_symbol 40 t.kind code)
+          (e.place ∙ ap (λ (x : List Lexed). expr_text e.form x) (c.place ∙ ap (λ (x : List Lexed). tok close_parenthesis c.form ∷ x)
+          (m.place ∙ ap (λ (x : List Lexed). key Max m.form ∷ x) v.place)));
+      within = e.within;
+      fits = more_of most n ss v.rest v.fits;
+    }
 counted_case most n ss ts later t next place fits (inr (inr none)) = absurd none
 
 pub to_count : (most : Limits) (n u : ℕ) (ss : List Sym) (ts : List Lexed) → Fits most n u (table.counted ∷ ss) ts
@@ -71,19 +76,29 @@ amount_case : (most : Limits) (n : ℕ) (ss : List Sym) (ts later : List Lexed) 
     → Split most (suc n) ss ts amount_text (AmountWithin most.tokens)
 amount_case most n ss ts later t next place fits (inl (code, same)) =
     let kind = number_kind t.kind code in record {
-  form = forms.AmountForm.number (num_form kind.0 t); rest = later; place = with_token ts later later t (Number kind.0) place kind.1 refl;
-  within = tt; fits = more_of most n ss later (at_rule most n 0 [] next ss later same fits) }
+      form = forms.AmountForm.number (num_form kind.0 t);
+      rest = later;
+      place = with_token ts later later t (Number kind.0) place kind.1 refl;
+      within = tt;
+      fits = more_of most n ss later (at_rule most n 0 [] next ss later same fits);
+    }
 amount_case most n ss ts later t next place fits (inr (inl (code, same))) =
     let v = to_num most n 0 ss later (at_rule most n 0 (one any_number ∷ []) next ss later same fits) in record {
-  form = negative (leaf_of t) v.form; rest = v.rest;
-  place = with_token ts later (num v.form ∷ v.rest) t minus_sign place (tells_symbol 45 t.kind code) v.place;
-  within = tt; fits = more_of most n ss v.rest v.fits }
+      form = negative (leaf_of t) v.form;
+      rest = v.rest;
+      place = with_token ts later (num v.form ∷ v.rest) t minus_sign place (tells_symbol 45 t.kind code) v.place;
+      within = tt;
+      fits = more_of most n ss v.rest v.fits;
+    }
 amount_case most n ss ts later t next place fits (inr (inr (inl (code, same)))) =
     let e = to_expr most n (one close_parenthesis ∷ ss) later (at_rule most n 0 (table.expr (one close_parenthesis ∷ [])) next ss later same fits) in
     let c = to_sign most close_parenthesis (tells_symbol 41) n e.count ss e.rest e.fits in record {
-  form = forms.AmountForm.computed (leaf_of t) e.form c.form; rest = c.rest;
-  place = with_token ts later _ t open_parenthesis place (tells_symbol 40 t.kind code) (e.place ∙ ap (λ (x : List Lexed). expr_text e.form x) c.place);
-  within = e.within; fits = more_of most n ss c.rest c.fits }
+      form = forms.AmountForm.computed (leaf_of t) e.form c.form;
+      rest = c.rest;
+      place = with_token ts later _ t open_parenthesis place (tells_symbol 40 t.kind code) (e.place ∙ ap (λ (x : List Lexed). expr_text e.form x) c.place);
+      within = e.within;
+      fits = more_of most n ss c.rest c.fits;
+    }
 amount_case most n ss ts later t next place fits (inr (inr (inr none))) = absurd none
 
 pub to_amount : (most : Limits) (n u : ℕ) (ss : List Sym) (ts : List Lexed) → Fits most n u (table.amount ∷ ss) ts
@@ -99,14 +114,20 @@ length_case most n ss ts later t next place fits (inl (code, same)) =
     let kind = number_kind t.kind code in
     let s = to_sign most slash (tells_symbol 47) n 0 (one any_number ∷ ss) later (at_rule most n 0 (one slash ∷ one any_number ∷ []) next ss later same fits) in
     let v = to_num most n 0 ss s.rest s.fits in record {
-  form = share (num_form kind.0 t) s.form v.form; rest = v.rest;
-  place = with_token ts later _ t (Number kind.0) place kind.1 (s.place ∙ ap (λ (x : List Lexed). tok slash s.form ∷ x) v.place);
-  within = tt; fits = more_of most n ss v.rest v.fits }
+      form = share (num_form kind.0 t) s.form v.form;
+      rest = v.rest;
+      place = with_token ts later _ t (Number kind.0) place kind.1 (s.place ∙ ap (λ (x : List Lexed). tok slash s.form ∷ x) v.place);
+      within = tt;
+      fits = more_of most n ss v.rest v.fits;
+    }
 length_case most n ss ts later t next place fits (inr (inl (code, same))) =
     let v = to_num most n 0 ss later (at_rule most n 0 (one any_number ∷ []) next ss later same fits) in record {
-  form = ticks (leaf_of t) v.form; rest = v.rest;
-  place = with_token ts later (num v.form ∷ v.rest) t (kinds.Keyword Ticks) place (tells_keyword Ticks t.kind code) v.place;
-  within = tt; fits = more_of most n ss v.rest v.fits }
+      form = ticks (leaf_of t) v.form;
+      rest = v.rest;
+      place = with_token ts later (num v.form ∷ v.rest) t (kinds.Keyword Ticks) place (tells_keyword Ticks t.kind code) v.place;
+      within = tt;
+      fits = more_of most n ss v.rest v.fits;
+    }
 length_case most n ss ts later t next place fits (inr (inr none)) = absurd none
 
 pub to_length : (most : Limits) (n u : ℕ) (ss : List Sym) (ts : List Lexed) → Fits most n u (table.length ∷ ss) ts
@@ -137,14 +158,20 @@ duration_case most n ss ts later t next place fits (inl (code, same)) =
     let kind = number_kind t.kind code in
     let s = to_sign most slash (tells_symbol 47) n 0 (one any_number ∷ ss) later (at_rule most n 0 (one slash ∷ one any_number ∷ []) next ss later same fits) in
     let v = to_num most n 0 ss s.rest s.fits in record {
-  form = fixed (share (num_form kind.0 t) s.form v.form); rest = v.rest;
-  place = with_token ts later _ t (Number kind.0) place kind.1 (s.place ∙ ap (λ (x : List Lexed). tok slash s.form ∷ x) v.place);
-  within = tt; fits = more_of most n ss v.rest v.fits }
+      form = fixed (share (num_form kind.0 t) s.form v.form);
+      rest = v.rest;
+      place = with_token ts later _ t (Number kind.0) place kind.1 (s.place ∙ ap (λ (x : List Lexed). tok slash s.form ∷ x) v.place);
+      within = tt;
+      fits = more_of most n ss v.rest v.fits;
+    }
 duration_case most n ss ts later t next place fits (inr (inl (code, same))) =
     let c = to_count most n 0 ss later (at_rule most n 0 (table.counted ∷ []) next ss later same fits) in record {
-  form = ticks_duration (leaf_of t) c.form; rest = c.rest;
-  place = with_token ts later (count_text c.form c.rest) t (kinds.Keyword Ticks) place (tells_keyword Ticks t.kind code) c.place ∙ ticks_place (leaf_of t) c.form c.rest;
-  within = ticks_within most.tokens (leaf_of t) c.form c.within; fits = more_of most n ss c.rest c.fits }
+      form = ticks_duration (leaf_of t) c.form;
+      rest = c.rest;
+      place = with_token ts later (count_text c.form c.rest) t (kinds.Keyword Ticks) place (tells_keyword Ticks t.kind code) c.place ∙ ticks_place (leaf_of t) c.form c.rest;
+      within = ticks_within most.tokens (leaf_of t) c.form c.within;
+      fits = more_of most n ss c.rest c.fits;
+    }
 duration_case most n ss ts later t next place fits (inr (inr none)) = absurd none
 
 pub to_duration : (most : Limits) (n u : ℕ) (ss : List Sym) (ts : List Lexed) → Fits most n u (table.duration ∷ ss) ts
@@ -158,13 +185,20 @@ pitch_case : (most : Limits) (n : ℕ) (ss : List Sym) (ts later : List Lexed) (
     → Split most (suc n) ss ts pitch_text (PitchWithin most.tokens)
 pitch_case most n ss ts later t next place fits (inl (code, same)) =
     let kind = pitch_kind t.kind code in record {
-  form = named kind.0 (leaf_of t); rest = later; place = with_token ts later later t (Pitch kind.0) place kind.1 refl;
-  within = tt; fits = more_of most n ss later (at_rule most n 0 [] next ss later same fits) }
+      form = named kind.0 (leaf_of t);
+      rest = later;
+      place = with_token ts later later t (Pitch kind.0) place kind.1 refl;
+      within = tt;
+      fits = more_of most n ss later (at_rule most n 0 [] next ss later same fits);
+    }
 pitch_case most n ss ts later t next place fits (inr (inl (code, same))) =
     let a = to_amount most n 0 ss later (at_rule most n 0 (table.amount ∷ []) next ss later same fits) in record {
-  form = keyed (leaf_of t) a.form; rest = a.rest;
-  place = with_token ts later (amount_text a.form a.rest) t (kinds.Keyword Key) place (tells_keyword Key t.kind code) a.place;
-  within = a.within; fits = more_of most n ss a.rest a.fits }
+      form = keyed (leaf_of t) a.form;
+      rest = a.rest;
+      place = with_token ts later (amount_text a.form a.rest) t (kinds.Keyword Key) place (tells_keyword Key t.kind code) a.place;
+      within = a.within;
+      fits = more_of most n ss a.rest a.fits;
+    }
 pitch_case most n ss ts later t next place fits (inr (inr none)) = absurd none
 
 pub to_pitch : (most : Limits) (n u : ℕ) (ss : List Sym) (ts : List Lexed) → Fits most n u (table.pitch ∷ ss) ts
@@ -178,36 +212,48 @@ part_case : (most : Limits) (n : ℕ) (ss : List Sym) (ts later : List Lexed) (t
     → Split most (suc n) ss ts part_text Free
 part_case most n ss ts later t next place fits (inl (code, same)) =
     let l = to_length most n 0 (one (kinds.Keyword By) ∷ one any_number ∷ ss) later
-        (at_rule most n 0 (table.length ∷ one (kinds.Keyword By) ∷ one any_number ∷ []) next ss later same fits) in
+    (at_rule most n 0 (table.length ∷ one (kinds.Keyword By) ∷ one any_number ∷ []) next ss later same fits) in
     let b = to_sign most (kinds.Keyword By) (tells_keyword By) n 0 (one any_number ∷ ss) l.rest l.fits in
     let v = to_num most n 0 ss b.rest b.fits in record {
-  form = flat (leaf_of t) l.form b.form v.form; rest = v.rest;
-  place = with_token ts later _ t (kinds.Keyword Flat) place (tells_keyword Flat t.kind code)
-    (l.place ∙ ap (λ (x : List Lexed). length_text l.form x) (b.place ∙ ap (λ (x : List Lexed). key By b.form ∷ x) v.place));
-  within = tt; fits = more_of most n ss v.rest v.fits }
+      form = flat (leaf_of t) l.form b.form v.form;
+      rest = v.rest;
+      place = with_token ts later _ t (kinds.Keyword Flat) place (tells_keyword Flat t.kind code)
+          (l.place ∙ ap (λ (x : List Lexed). length_text l.form x) (b.place ∙ ap (λ (x : List Lexed). key By b.form ∷ x) v.place));
+      within = tt;
+      fits = more_of most n ss v.rest v.fits;
+    }
 part_case most n ss ts later t next place fits (inr (inl (code, same))) =
     let ends = one (kinds.Keyword To) ∷ one any_number ∷ ss in
     let l = to_length most n 0 (one (kinds.Keyword By) ∷ one any_number ∷ ends) later
-        (at_rule most n 0 (table.length ∷ one (kinds.Keyword By) ∷ one any_number ∷ one (kinds.Keyword To) ∷ one any_number ∷ []) next ss later same fits) in
+    (at_rule most n 0 (table.length ∷ one (kinds.Keyword By) ∷ one any_number ∷ one (kinds.Keyword To) ∷ one any_number ∷ []) next ss later same fits) in
     let b = to_sign most (kinds.Keyword By) (tells_keyword By) n 0 (one any_number ∷ ends) l.rest l.fits in
     let v = to_num most n 0 ends b.rest b.fits in
     let o = to_sign most (kinds.Keyword To) (tells_keyword To) n 0 (one any_number ∷ ss) v.rest v.fits in
     let e = to_num most n 0 ss o.rest o.fits in record {
-  form = slope (leaf_of t) l.form b.form v.form o.form e.form; rest = e.rest;
-  place = with_token ts later _ t (kinds.Keyword Slope) place (tells_keyword Slope t.kind code)
-    (l.place ∙ ap (λ (x : List Lexed). length_text l.form x) (b.place ∙ ap (λ (x : List Lexed). key By b.form ∷ x)
-    (v.place ∙ ap (λ (x : List Lexed). num v.form ∷ x) (o.place ∙ ap (λ (x : List Lexed). key To o.form ∷ x) e.place))));
-  within = tt; fits = more_of most n ss e.rest e.fits }
+      form = slope (leaf_of t) l.form b.form v.form o.form e.form;
+      rest = e.rest;
+      place = with_token ts later _ t (kinds.Keyword Slope) place (tells_keyword Slope t.kind code)
+          (l.place ∙ ap (λ (x : List Lexed). length_text l.form x) (b.place ∙ ap (λ (x : List Lexed). key By b.form ∷ x)
+          (v.place ∙ ap (λ (x : List Lexed). num v.form ∷ x) (o.place ∙ ap (λ (x : List Lexed). key To o.form ∷ x) e.place))));
+      within = tt;
+      fits = more_of most n ss e.rest e.fits;
+    }
 part_case most n ss ts later t next place fits (inr (inr (inl (code, same)))) =
     let l = to_length most n 0 ss later (at_rule most n 0 (table.length ∷ []) next ss later same fits) in record {
-  form = pause (leaf_of t) l.form; rest = l.rest;
-  place = with_token ts later (length_text l.form l.rest) t (kinds.Keyword Pause) place (tells_keyword Pause t.kind code) l.place;
-  within = tt; fits = more_of most n ss l.rest l.fits }
+      form = pause (leaf_of t) l.form;
+      rest = l.rest;
+      place = with_token ts later (length_text l.form l.rest) t (kinds.Keyword Pause) place (tells_keyword Pause t.kind code) l.place;
+      within = tt;
+      fits = more_of most n ss l.rest l.fits;
+    }
 part_case most n ss ts later t next place fits (inr (inr (inr (inl (code, same))))) =
     let l = to_length most n 0 ss later (at_rule most n 0 (table.length ∷ []) next ss later same fits) in record {
-  form = breath (leaf_of t) l.form; rest = l.rest;
-  place = with_token ts later (length_text l.form l.rest) t (kinds.Keyword Breath) place (tells_keyword Breath t.kind code) l.place;
-  within = tt; fits = more_of most n ss l.rest l.fits }
+      form = breath (leaf_of t) l.form;
+      rest = l.rest;
+      place = with_token ts later (length_text l.form l.rest) t (kinds.Keyword Breath) place (tells_keyword Breath t.kind code) l.place;
+      within = tt;
+      fits = more_of most n ss l.rest l.fits;
+    }
 part_case most n ss ts later t next place fits (inr (inr (inr (inr none)))) = absurd none
 
 pub to_part : (most : Limits) (n u : ℕ) (ss : List Sym) (ts : List Lexed) → Fits most n u (table.part ∷ ss) ts
@@ -228,7 +274,12 @@ to_mores : {A : Type 0} (most : Limits) (i : Item) (text : A → List Lexed → 
     → Split most n ss ts (mores_text text) (MoresWithin Within)
 to_mores most i text Within to_item zero u ss ts fits = absurd fits
 to_mores most i text Within to_item (suc n) u ss ts (inr l) = record {
-  form = no_more; rest = ts; place = refl; within = tt; fits = more_of most n ss ts l.fits }
+  form = no_more;
+  rest = ts;
+  place = refl;
+  within = tt;
+  fits = more_of most n ss ts l.fits;
+}
 to_mores {A} most i text Within to_item (suc n) u ss ts (inl t) =
     by (ruled_take most n u (table.mores i) ss ts t) (λ later. to_mores most i text Within to_item n 0 ss later)
   where
@@ -241,9 +292,12 @@ to_mores {A} most i text Within to_item (suc n) u ss ts (inl t) =
         comma_case (inl (code, same)) =
             let x = to_item n 0 (table.mores i ∷ ss) r.rest (at_rule most n 0 (table.listed i []) r.next ss r.rest same r.fits) in
             let xs = on x.rest x.fits in record {
-          form = more (leaf_of r.token) x.form xs.form; rest = xs.rest;
-          place = with_token ts r.rest _ r.token comma r.place (tells_symbol 44 r.token.kind code) (x.place ∙ ap (λ (y : List Lexed). text x.form y) xs.place);
-          within = (x.within, xs.within); fits = more_of most n ss xs.rest xs.fits }
+              form = more (leaf_of r.token) x.form xs.form;
+              rest = xs.rest;
+              place = with_token ts r.rest _ r.token comma r.place (tells_symbol 44 r.token.kind code) (x.place ∙ ap (λ (y : List Lexed). text x.form y) xs.place);
+              within = (x.within, xs.within);
+              fits = more_of most n ss xs.rest xs.fits;
+            }
         comma_case (inr none) = absurd none
 
 to_listed : {A : Type 0} (most : Limits) (i : Item) (text : A → List Lexed → List Lexed) (Within : A → Type 0) → ToItem most i text Within
@@ -252,9 +306,12 @@ to_listed : {A : Type 0} (most : Limits) (i : Item) (text : A → List Lexed →
 to_listed most i text Within to_item n u ss ts fits =
     let x = to_item n u (table.mores i ∷ ss) ts fits in
     let xs = to_mores most i text Within to_item n 0 ss x.rest x.fits in record {
-  form = record { first = x.form; others = xs.form }; rest = xs.rest;
-  place = x.place ∙ ap (λ (y : List Lexed). text x.form y) xs.place;
-  within = (x.within, xs.within); fits = xs.fits }
+      form = record { first = x.form; others = xs.form };
+      rest = xs.rest;
+      place = x.place ∙ ap (λ (y : List Lexed). text x.form y) xs.place;
+      within = (x.within, xs.within);
+      fits = xs.fits;
+    }
 
 pub to_pitches : (most : Limits) (n u : ℕ) (ss : List Sym) (ts : List Lexed) → Fits most n u (table.listed table.pitches ss) ts
     → Split most n ss ts (listed_text pitch_text) (ListedWithin (PitchWithin most.tokens))

@@ -1,18 +1,16 @@
 -- The first refusal of the table is the first token with which nothing goes on.
-use Rattle.std.proofs.Common.{◌≡◌, ℕ, zero, suc, ◌+◌, ◌≤◌, ◌<◌, Bool, true, false, cond, ◌&&◌, ◌⊎◌, inl, inr, List, [], ◌∷◌, ◌++◌, Option, Some, None, Ok, Err, refl, sym, ap, ◌∙◌, subst, arith, true≢false}
-use Rattle.std.specs.Prelude.{nat_le, if◌then◌else◌}
+use Rattle.std.proofs.Common.{◌≡◌, ℕ, zero, suc, ◌+◌, Bool, true, false, inl, inr, List, [], ◌∷◌, ◌++◌, Option, Some, None, Ok, Err, refl, sym, ap, ◌∙◌, subst, arith, true≢false}
 use Rattle.std.proofs.lemmas.Bool.Decides.{nat_tests}
 use Rattle.fm_lex.specs.Tokens.{Lexeme, Lexed}
-use Rattle.fm_lex.specs.declared.spot.Spot.{Spot}
 use Rattle.fm_lex.specs.declared.token.LexFault.{LexFault}
 use Rattle.fm_grammar.specs.Within.{Limits, limits}
 use Rattle.fm_grammar.specs.Reads.{Fault, lexical, expected, too_nested}
-use Rattle.fm_grammar.specs.Table.{Sym, may_end, Stack, after_token, left_out, feed, peak, want, goes_on, trip_on, trip}
-use Rattle.fm_grammar.proofs.Fits.{Take, Leave, Fits, Derives, wider}
+use Rattle.fm_grammar.specs.Table.{Sym, Stack, left_out, feed, peak, want, goes_on, trip_on, trip}
+use Rattle.fm_grammar.proofs.Fits.{Fits, Derives, wider}
 use Rattle.fm_grammar.proofs.Alive.{IsAlive, alive as is_alive}
-use Rattle.fm_grammar.proofs.Least.{Filled, filled}
+use Rattle.fm_grammar.proofs.Least.{filled}
 use Rattle.fm_grammar.proofs.Followers.{Fine, feed_fine}
-use Rattle.fm_grammar.proofs.Feeding.{fed, After, taken}
+use Rattle.fm_grammar.proofs.Feeding.{fed, taken}
 
 -- ---- the test of the limits
 
@@ -67,7 +65,15 @@ trips_here : (u : ℕ) (ss : List Sym) (at : Lexed) (ts : List Lexed) (f : Fault
     → ((w : List Lexed) → Derives limits u ss (at ∷ w) → ⊥) → Why u ss [] at f → Tripped u ss (at ∷ ts) f
 trips_here u ss at ts f alive stops why =
     let some = filled limits ss u alive in record {
-  before = []; at = at; after = ts; place = refl; rest = some.tokens; goes = some.derives; stops = stops; why = why }
+      before = [];
+      at = at;
+      after = ts;
+      place = refl;
+      rest = some.tokens;
+      goes = some.derives;
+      stops = stops;
+      why = why;
+    }
 
 -- limits that keep all of two
 abbrev both : Limits → Limits → Limits
@@ -82,7 +88,9 @@ why_later u ss t st before (Ok r) (expected spot) fine alive took why =
 why_later u ss t st before (Ok r) (too_nested spot) fine alive took (same, (most, w, derives)) =
     let wide = both most limits in
     let larger : Derives wide st.used st.syms (before ++ Ok r ∷ w) = record {
-      steps = derives.steps; fits = wider most wide (omega arith) (omega arith) derives.steps st.used st.syms (before ++ Ok r ∷ w) derives.fits } in
+      steps = derives.steps;
+      fits = wider most wide (omega arith) (omega arith) derives.steps st.used st.syms (before ++ Ok r ∷ w) derives.fits;
+    } in
     let here : IsAlive wide u ss = record { peaks = omega (arith, alive.peaks); wants = omega (arith, alive.wants) } in
     (same, (wide, w, fed wide ss u t (before ++ Ok r ∷ w) st here took larger))
 why_later u ss t st before at f fine alive took why = absurd why
@@ -90,11 +98,15 @@ why_later u ss t st before at f fine alive took why = absurd why
 trips_later : (u : ℕ) (ss : List Sym) (t : Lexeme) (ts : List Lexed) (st : Stack) (f : Fault) → Fine ss
     → IsAlive limits u ss → feed u ss t.kind ≡ Some st → Tripped st.used st.syms ts f → Tripped u ss (Ok t ∷ ts) f
 trips_later u ss t ts st f fine alive took later = record {
-  before = Ok t ∷ later.before; at = later.at; after = later.after; place = ap (λ (l : List Lexed). Ok t ∷ l) later.place;
+  before = Ok t ∷ later.before;
+  at = later.at;
+  after = later.after;
+  place = ap (λ (l : List Lexed). Ok t ∷ l) later.place;
   rest = later.rest;
   goes = fed limits ss u t (later.before ++ later.rest) st alive took later.goes;
   stops = λ w derives. later.stops w (behind limits u ss t st (later.before ++ later.at ∷ w) fine took derives);
-  why = why_later u ss t st later.before later.at f fine alive took later.why }
+  why = why_later u ss t st later.before later.at f fine alive took later.why;
+}
 
 -- a stack that passes the limits fits within others
 too_nested_here : (u : ℕ) (ss : List Sym) (t : Lexeme) (st : Stack) → IsAlive limits u ss → feed u ss t.kind ≡ Some st
@@ -116,7 +128,7 @@ token_trips : (u : ℕ) (ss : List Sym) (t : Lexeme) (ts : List Lexed) (f : Faul
 token_trips u ss t ts f None fine alive took trips on =
     let same : expected t.spot ≡ f = cc in
     let refused : (most : Limits) (w : List Lexed) → Derives most u ss (Ok t ∷ w) → ⊥ =
-        λ most w derives. (let after = taken most derives.steps u ss t w fine derives.fits in none_stack after.stack (sym took ∙ after.is_fed)) in
+    λ most w derives. (let after = taken most derives.steps u ss t w fine derives.fits in none_stack after.stack (sym took ∙ after.is_fed)) in
     subst (λ (g : Fault). Tripped u ss (Ok t ∷ ts) g) same
     (trips_here u ss (Ok t) ts (expected t.spot) alive (refused limits) (refl, refused))
   where
@@ -132,9 +144,9 @@ token_trips u ss t ts f (Some st) fine alive took trips on = on_limits (goes_on 
         let same : Some (too_nested t.spot) ≡ Some f = rw stops at trips in
         let is : too_nested t.spot ≡ f = cc in
         let refused : (w : List Lexed) → Derives limits u ss (Ok t ∷ w) → ⊥ =
-            λ w derives. (let on = behind limits u ss t st w fine took derives in
-                let goes : goes_on limits st ≡ true = alive_goes limits st (is_alive limits st.used st.syms w on) in
-                true≢false (sym goes ∙ stops)) in
+        λ w derives. (let on = behind limits u ss t st w fine took derives in
+        let goes : goes_on limits st ≡ true = alive_goes limits st (is_alive limits st.used st.syms w on) in
+        true≢false (sym goes ∙ stops)) in
         subst (λ (g : Fault). Tripped u ss (Ok t ∷ ts) g) is
         (trips_here u ss (Ok t) ts (too_nested t.spot) alive refused (refl, too_nested_here u ss t st alive took))
 
@@ -170,7 +182,7 @@ goes_token : (u : ℕ) (ss : List Sym) (t : Lexeme) (ts : List Lexed) (found : O
     → IsAlive limits u ss → feed u ss t.kind ≡ found
     → trip_on limits found t.spot (λ st. trip limits st.used st.syms ts) ≡ None
     → ((st : Stack) → Fine st.syms → IsAlive limits st.used st.syms → trip limits st.used st.syms ts ≡ None
-        → (w : List Lexed) × Derives limits st.used st.syms (ts ++ w))
+    → (w : List Lexed) × Derives limits st.used st.syms (ts ++ w))
     → (w : List Lexed) × Derives limits u ss (Ok t ∷ (ts ++ w))
 goes_token u ss t ts None fine alive took none on = some_none (expected t.spot) none
 goes_token u ss t ts (Some st) fine alive took none on = on_limits (goes_on limits st) refl

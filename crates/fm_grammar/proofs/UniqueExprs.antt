@@ -1,20 +1,17 @@
 -- Each expression is the only one of its tokens.
-use Rattle.std.proofs.Common.{◌≡◌, ◌≢◌, ℕ, suc, ◌+◌, ◌||◌, List, [], ◌∷◌, ◌++◌, Option, Some, None, Ok, Err, refl, sym, ap, ◌∙◌, arith, true≢false, true, false, Bool}
+use Rattle.std.proofs.Common.{◌≡◌, ℕ, ◌||◌, List, [], ◌∷◌, refl, sym, ap, ◌∙◌, arith, true, false, Bool}
 use Rattle.fm_lex.specs.Bytes.{one_of}
-use Rattle.fm_lex.specs.Tokens.{Lexeme, Lexed}
-use Rattle.fm_lex.specs.declared.kind.Kind.{Kind}
+use Rattle.fm_lex.specs.Tokens.{Lexed}
 use Rattle.fm_lex.specs.declared.kind.Kind.TheVariants.{Name, Number, Pitch, Register, Index, End}
 use Rattle.fm_lex.specs.declared.kind.Kind.TheVariants as kinds
-use Rattle.fm_lex.specs.declared.keyword.Keyword.TheVariants.{Formula, Seed, Shape, Flat, By, Slope, To, Pause, Breath, Ticks, Phrase, Note, Play, Rest, Skip, Control, Program, Bend, Set, If, Else, Repeat, Max, Do, Par, Branch, Warp, Channel, Volume, Gate, Rhythm, Artic, Loud, Key, Pick, Min, Less, Same}
-use Rattle.fm_grammar.specs.Score.{Leaf}
+use Rattle.fm_lex.specs.declared.keyword.Keyword.TheVariants.{Pick}
 use Rattle.fm_grammar.specs.Grammar.{NumForm, Mores, no_more, more, Listed, LengthForm, share, ticks, PartForm, flat, slope, pause, breath, Scaling, times, over, modulo, Adding, plus, minus, Comparing, least, greatest, below, equal, ExprForm, expr, FactorForm, register, index, negate, group, pick, compare, TermsForm, no_term, term, SumsForm, no_sum, sum, AmountForm, negative, DurationForm, fixed, PitchForm, named, keyed, Sending, program, bend, Setting, channel, volume, gate, Cycling, artic, loud, StmtsForm, no_stmt, stmt, BlockForm, block, ElseForm, no_else, otherwise, BranchesForm, no_branch, branch, StmtForm, note, play, rest, skip, control, send, set, choice, repeat, again, call, warp, par, setting, rhythm, cycling, EntryForm, shape, phrase, plays, EntriesForm, no_entry, entry, SeedForm, no_seed, seed, ScoreForm}
 use Rattle.fm_grammar.specs.Grammar as forms
-use Rattle.fm_grammar.specs.Signs.{semicolon, open_brace, close_brace, open_parenthesis, close_parenthesis, open_bracket, close_bracket, comma, equals, slash, plus_sign, minus_sign, asterisk, percent, tok, key, num}
-use Rattle.fm_grammar.specs.Spelling.{mores_text, listed_text, num_text, length_text, part_text, scaling_kind, adding_kind, comparing_word, expr_text, factor_text, terms_text, sums_text, amount_text, duration_text, pitch_text, sending_word, setting_word, cycling_word, stmts_text, block_text, else_text, branches_text, stmt_text, entry_text, entries_text, seed_text, score_text}
+use Rattle.fm_grammar.specs.Signs.{open_parenthesis, close_parenthesis, comma, slash, plus_sign, minus_sign, asterisk, percent, tok}
+use Rattle.fm_grammar.specs.Spelling.{scaling_kind, adding_kind, comparing_word, expr_text, factor_text, terms_text, sums_text}
 use Rattle.std.specs.Prelude.{if◌then◌else◌, ◌==◌}
 use Rattle.fm_grammar.specs.Table.{kind_code, any_number, any_register, any_index}
-
-use Rattle.fm_grammar.proofs.Unique.{first_code, Agree, differ, same_kind, same_leaf, same_rest, same_num, same_register, same_index, Apart, clash}
+use Rattle.fm_grammar.proofs.Unique.{first_code, Agree, same_kind, same_leaf, same_rest, same_num, same_register, same_index, Apart, clash}
 
 -- the operators between factors
 abbrev pub scalings : List ℕ
@@ -144,7 +141,7 @@ mutual
       let behind = same_rest _ _ _ _ same in
       let opens : o ≡ p = same_leaf open_parenthesis open_parenthesis o p _ _ behind in
       let left = unique_expr a d (tok comma m ∷ expr_text b (tok close_parenthesis c ∷ u)) (tok comma n ∷ expr_text e (tok close_parenthesis q ∷ v)) refl refl
-          (same_rest _ _ _ _ behind) in
+      (same_rest _ _ _ _ behind) in
       let middle : m ≡ n = same_leaf comma comma m n _ _ left.rests in
       let right = unique_expr b e (tok close_parenthesis c ∷ u) (tok close_parenthesis q ∷ v) refl refl (same_rest _ _ _ _ left.rests) in
       let closes : c ≡ q = same_leaf close_parenthesis close_parenthesis c q u v right.rests in

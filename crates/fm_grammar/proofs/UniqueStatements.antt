@@ -1,24 +1,21 @@
 -- Each statement and each score is the only one of its tokens.
-use Rattle.std.proofs.Common.{◌≡◌, ◌≢◌, ℕ, suc, ◌+◌, ◌≤◌, ◌||◌, List, [], ◌∷◌, ◌++◌, Option, Some, None, Ok, Err, refl, sym, ap, ◌∙◌, arith, true≢false, true, false, Bool}
+use Rattle.std.proofs.Common.{◌≡◌, ℕ, ◌||◌, List, [], ◌∷◌, refl, sym, ap, ◌∙◌, arith, true, false, Bool}
 use Rattle.std.specs.Prelude.{if◌then◌else◌, ◌==◌}
 use Rattle.fm_lex.specs.Bytes.{one_of}
-use Rattle.fm_lex.specs.Tokens.{Lexeme, Lexed}
-use Rattle.fm_lex.specs.declared.kind.Kind.{Kind}
+use Rattle.fm_lex.specs.Tokens.{Lexed}
 use Rattle.fm_lex.specs.declared.kind.Kind.TheVariants.{Name, Number, Pitch, Register, Index, End}
 use Rattle.fm_lex.specs.declared.kind.Kind.TheVariants as kinds
-use Rattle.fm_lex.specs.declared.keyword.Keyword.TheVariants.{Formula, Seed, Shape, Flat, By, Slope, To, Pause, Breath, Ticks, Phrase, Note, Play, Rest, Skip, Control, Program, Bend, Set, If, Else, Repeat, Max, Do, Par, Branch, Warp, Channel, Volume, Gate, Rhythm, Artic, Loud, Key, Pick, Min, Less, Same}
+use Rattle.fm_lex.specs.declared.keyword.Keyword.TheVariants.{Formula, Seed, Shape, Phrase, Note, Play, Rest, Skip, Control, Program, Bend, Set, If, Else, Repeat, Do, Par, Branch, Warp, Channel, Volume, Gate, Rhythm, Artic, Loud}
 use Rattle.fm_grammar.specs.Score.{Leaf}
-use Rattle.fm_grammar.specs.Grammar.{NumForm, Mores, no_more, more, Listed, LengthForm, share, ticks, PartForm, flat, slope, pause, breath, Scaling, times, over, modulo, Adding, plus, minus, Comparing, least, greatest, below, equal, ExprForm, expr, FactorForm, register, index, negate, group, pick, compare, TermsForm, no_term, term, SumsForm, no_sum, sum, AmountForm, negative, DurationForm, fixed, PitchForm, named, keyed, Sending, program, bend, Setting, channel, volume, gate, Cycling, artic, loud, StmtsForm, no_stmt, stmt, BlockForm, block, ElseForm, no_else, otherwise, BranchesForm, no_branch, branch, StmtForm, note, play, rest, skip, control, send, set, choice, repeat, again, call, warp, par, setting, rhythm, cycling, EntryForm, shape, phrase, plays, EntriesForm, no_entry, entry, SeedForm, no_seed, seed, ScoreForm}
-use Rattle.fm_grammar.specs.Grammar as forms
-use Rattle.fm_grammar.specs.Signs.{semicolon, open_brace, close_brace, open_parenthesis, close_parenthesis, open_bracket, close_bracket, comma, equals, slash, plus_sign, minus_sign, asterisk, percent, tok, key, num}
-use Rattle.fm_grammar.specs.Spelling.{mores_text, listed_text, num_text, length_text, part_text, scaling_kind, adding_kind, comparing_word, expr_text, factor_text, terms_text, sums_text, amount_text, duration_text, pitch_text, sending_word, setting_word, cycling_word, stmts_text, block_text, else_text, branches_text, stmt_text, entry_text, entries_text, seed_text, score_text}
+use Rattle.fm_grammar.specs.Grammar.{NumForm, Sending, program, bend, Setting, channel, volume, gate, Cycling, artic, loud, StmtsForm, no_stmt, stmt, BlockForm, block, ElseForm, no_else, otherwise, BranchesForm, no_branch, branch, StmtForm, note, play, rest, skip, control, send, set, choice, repeat, again, call, warp, par, setting, rhythm, cycling, EntryForm, shape, phrase, plays, EntriesForm, no_entry, entry, SeedForm, no_seed, seed, ScoreForm}
+use Rattle.fm_grammar.specs.Signs.{semicolon, open_brace, close_brace, open_parenthesis, open_bracket, close_bracket, equals, tok}
+use Rattle.fm_grammar.specs.Spelling.{num_text, length_text, part_text, duration_text, pitch_text, sending_word, setting_word, cycling_word, stmts_text, block_text, else_text, branches_text, stmt_text, entry_text, entries_text, seed_text, score_text}
 use Rattle.fm_grammar.specs.Table.{kind_code, any_number}
-
 use Rattle.std.specs.Prelude.{not}
 use Rattle.fm_grammar.proofs.Followers.{each_of}
-use Rattle.fm_grammar.proofs.Unique.{first_code, Agree, differ, same_kind, same_leaf, same_rest, same_num, same_register, Apart, clash}
-use Rattle.fm_grammar.proofs.UniqueExprs.{operators, unique_expr}
-use Rattle.fm_grammar.proofs.UniqueValues.{unique_num, unique_length, unique_part, unique_amount, unique_clamped, unique_duration, unique_pitch, commas, unique_listed, duration_apart}
+use Rattle.fm_grammar.proofs.Unique.{first_code, Agree, differ, same_kind, same_leaf, same_rest, same_register, Apart, clash}
+use Rattle.fm_grammar.proofs.UniqueExprs.{unique_expr}
+use Rattle.fm_grammar.proofs.UniqueValues.{unique_num, unique_length, unique_part, unique_amount, unique_clamped, unique_duration, unique_pitch, unique_listed, duration_apart}
 
 -- ---- which form of a statement
 
@@ -225,7 +222,7 @@ mutual
   unique_stmt (note w ps d e) (note x qs f g) u v p q same =
       let word : w ≡ x = same_leaf (kinds.Keyword Note) (kinds.Keyword Note) w x _ _ same in
       let pitches = unique_listed pitch_text unique_pitch ps qs (duration_text d (tok semicolon e ∷ u)) (duration_text f (tok semicolon g ∷ v))
-          (duration_apart d _) (duration_apart f _) (same_rest _ _ _ _ same) in
+      (duration_apart d _) (duration_apart f _) (same_rest _ _ _ _ same) in
       let durations = unique_duration d f _ _ pitches.rests in
       let ends : e ≡ g = same_leaf semicolon semicolon e g u v durations.rests in
       record { forms = cc; rests = same_rest _ _ u v durations.rests }
@@ -422,7 +419,7 @@ unique_score x y same =
     let version = unique_num x.version y.version _ _ (same_rest _ _ _ _ same) in
     let ends : x.ends ≡ y.ends = same_leaf semicolon semicolon x.ends y.ends _ _ version.rests in
     let seeded = unique_seed x.seeded y.seeded (entries_text x.entries (finish x.last)) (entries_text y.entries (finish y.last))
-        (entries_no_seed x.entries x.last) (entries_no_seed y.entries y.last) (same_rest _ _ _ _ version.rests) in
+    (entries_no_seed x.entries x.last) (entries_no_seed y.entries y.last) (same_rest _ _ _ _ version.rests) in
     let entries = unique_entries x.entries y.entries x.last y.last seeded.rests in
     let last : x.last ≡ y.last = same_leaf End End x.last y.last [] [] entries.rests in
     score_same x.word y.word x.version y.version x.ends y.ends x.seeded y.seeded x.entries y.entries x.last y.last

@@ -1,5 +1,5 @@
 -- The grammar of a score text. Each rule is a type of forms, with a leaf for each token of a form.
-use Rattle.std.specs.Prelude.{ℕ, List}
+use Rattle.std.specs.Prelude.{ℕ}
 use Rattle.fm_grammar.specs.Score.{Leaf}
 
 -- NUMBER

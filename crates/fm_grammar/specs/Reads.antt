@@ -1,5 +1,5 @@
 -- Which score a text reads as, and at which token a text trips.
-use Rattle.std.specs.Prelude.{◌≡◌, ℕ, ◌⊎◌, List, [], ◌∷◌, ◌++◌, Ok, Err}
+use Rattle.std.specs.Prelude.{◌≡◌, ◌⊎◌, List, [], ◌∷◌, ◌++◌, Ok, Err}
 use Rattle.fm_lex.specs.declared.spot.Spot.{Spot}
 use Rattle.fm_lex.specs.declared.token.LexFault.{LexFault}
 use Rattle.fm_lex.specs.Tokens.{Lexed}

@@ -1,5 +1,5 @@
 -- Tokens of each kind.
-use Rattle.std.specs.Prelude.{ℕ, Ok}
+use Rattle.std.specs.Prelude.{Ok}
 use Rattle.fm_lex.specs.declared.kind.Kind.{Kind}
 use Rattle.fm_lex.specs.declared.kind.Kind.TheVariants.{Number, Symbol}
 use Rattle.fm_lex.specs.declared.kind.Kind.TheVariants as kinds

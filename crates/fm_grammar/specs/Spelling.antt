@@ -1,5 +1,5 @@
 -- The tokens that spell a form of the grammar, before the tokens that follow it.
-use Rattle.std.specs.Prelude.{ℕ, List, [], ◌∷◌}
+use Rattle.std.specs.Prelude.{List, [], ◌∷◌}
 use Rattle.fm_lex.specs.declared.kind.Kind.{Kind}
 use Rattle.fm_lex.specs.declared.kind.Kind.TheVariants.{Name, Pitch, Register, Index, End}
 use Rattle.fm_lex.specs.declared.keyword.Keyword.{Keyword}

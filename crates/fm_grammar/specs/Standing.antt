@@ -1,5 +1,5 @@
 -- The score that a form of the grammar stands for.
-use Rattle.std.specs.Prelude.{ℕ, ℤ, pos, ◌-ℤ◌, List, [], ◌∷◌, ◌++◌, map, Option, Some, None}
+use Rattle.std.specs.Prelude.{pos, ◌-ℤ◌, List, [], ◌∷◌, ◌++◌, map, Option, Some, None}
 use Rattle.fm_lex.specs.declared.spot.Spot.{Spot}
 use Rattle.fm_value.specs.declared.node.Node.{Node}
 use Rattle.fm_value.specs.declared.node.Node.TheVariants as nodes

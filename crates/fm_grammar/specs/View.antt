@@ -11,7 +11,7 @@ use Rattle.fm_grammar.specs.declared.pitch.Pitch as code_pitch
 use Rattle.fm_grammar.specs.declared.pitch.Pitch.TheVariants as pitches
 use Rattle.fm_grammar.specs.declared.item.Item as code_item
 use Rattle.fm_grammar.specs.declared.item.What.TheOpen.{What-F, Item-F}
-use Rattle.fm_grammar.specs.declared.item.What.TheFolds.{fold-What, fold-Item}
+use Rattle.fm_grammar.specs.declared.item.What.TheFolds.{fold-Item}
 use Rattle.fm_grammar.specs.declared.entry.Entry as code_entry
 use Rattle.fm_grammar.specs.declared.entry.Entry.TheVariants as entries
 use Rattle.fm_grammar.specs.declared.score.Score as code_score
