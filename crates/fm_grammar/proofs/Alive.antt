@@ -5,7 +5,8 @@ use Rattle.std.specs.List.{list_all}
 use Rattle.std.proofs.lemmas.Bool.Decides.{nat_tests}
 use Rattle.fm_lex.specs.Tokens.{Lexed}
 use Rattle.fm_grammar.specs.Within.{Limits}
-use Rattle.fm_grammar.specs.Table.{Sym, inner, factor, terms, sums, Rule, kind_code, rules_of, may_end, inside, taking, after_token, left_out, opened, peak, need, want}
+use Rattle.fm_grammar.specs.Rules.{Sym, inner, factor, terms, sums, Rule, kind_code, rules_of, may_end, inside}
+use Rattle.fm_grammar.specs.Table.{taking, after_token, left_out, opened, peak, need, want}
 use Rattle.fm_grammar.proofs.Fits.{Fits, Derives}
 
 -- ---- the rule that was taken
@@ -25,6 +26,7 @@ in_rule code next r rs true same took on =
 in_rule code next r rs false same took on =
     let later : taking code rs ≡ Some next = rw same at took in inr (on later)
 
+-- a rule that was taken is one of the rules
 pub taking_in : (code : ℕ) (next : List Sym) (rs : List Rule) → taking code rs ≡ Some next → In code next rs
 taking_in code next [] took = cc
 taking_in code next (r ∷ rs) took = in_rule code next r rs (kind_code r.first == code) refl took (taking_in code next rs)
@@ -42,9 +44,11 @@ want_more : (ss : List Sym) (u v : ℕ) → u ≤ v → want u ss ≤ want v ss
 want_more [] u v le = le
 want_more (s ∷ ss) u v le =
     let on : want (u + need s) ss ≤ want (v + need s) ss = want_more ss (u + need s) (v + need s) (omega arith) in
-    elim (inside s) as (λ b. (if b then want (u + need s) ss else max u (want 0 ss)) ≤ (if b then want (v + need s) ss else max v (want 0 ss)))
+    elim (inside s) as
+    (λ b. (if b then want (u + need s) ss else max u (want 0 ss)) ≤ (if b then want (v + need s) ss else max v (want 0 ss)))
     [ true ↦ on | false ↦ omega arith ]
 
+-- no less is wanted than was read
 pub want_least : (ss : List Sym) (u : ℕ) → u ≤ want u ss
 want_least [] u = omega arith
 want_least (s ∷ ss) u =
@@ -95,10 +99,12 @@ need_none s may = refl
 
 -- ---- the braces that are wanted
 
+-- a part of a stack needs no more braces than the whole
 pub peak_below : (xs ss : List Sym) → peak ss ≤ peak (xs ++ ss)
 peak_below [] ss = omega arith
 peak_below (x ∷ xs) ss = let on : peak ss ≤ peak (xs ++ ss) = peak_below xs ss in omega arith
 
+-- the open braces are among those that are needed
 pub opened_peak : (ss : List Sym) → opened ss ≤ peak ss
 opened_peak [] = omega arith
 opened_peak (s ∷ ss) = omega arith
@@ -145,6 +151,7 @@ pub record IsAlive (most : Limits) (u : ℕ) (ss : List Sym) : Type 0 where
   pub peaks : peak ss ≤ most.braces
   pub wants : want u ss ≤ most.tokens
 
+-- what fits is within the limits
 pub alive : (most : Limits) (u : ℕ) (ss : List Sym) (ts : List Lexed) → Derives most u ss ts → IsAlive most u ss
 alive most u ss ts d = record {
   peaks = fits_peak most d.steps u ss ts d.fits;

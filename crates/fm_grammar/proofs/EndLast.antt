@@ -5,7 +5,8 @@ use Rattle.fm_lex.specs.Bytes.{one_of}
 use Rattle.fm_lex.specs.Tokens.{Lexeme, Lexed}
 use Rattle.fm_lex.specs.declared.kind.Kind.TheVariants.{End}
 use Rattle.fm_grammar.specs.Within.{Limits}
-use Rattle.fm_grammar.specs.Table.{Sym, one, inner, factor, terms, sums, length, part, amount, duration, pitch, counted, mores, stmts, otherwise, branches, entries, seeded, pitches, lengths, numbers, parts, kind_code, rules_of, may_end, taking, after_token, left_out}
+use Rattle.fm_grammar.specs.Rules.{Sym, one, inner, factor, terms, sums, length, part, amount, duration, pitch, counted, mores, stmts, otherwise, branches, entries, seeded, pitches, lengths, numbers, parts, kind_code, rules_of, may_end}
+use Rattle.fm_grammar.specs.Table.{taking, after_token, left_out}
 use Rattle.fm_grammar.proofs.Fits.{Fits}
 use Rattle.fm_grammar.proofs.Alive.{In, taking_in, each_rule}
 use Rattle.fm_grammar.proofs.Followers.{firsts, some_taken}
@@ -121,7 +122,8 @@ end_last most (suc n) u (s ∷ r ∷ ss) [] t w below is (inl f) =
 end_last most (suc n) u (s ∷ r ∷ ss) (b ∷ before) t w below is (inl f) =
     let later : before ++ Ok t ∷ w ≡ f.rest = cc in
     let next : list_all no_end f.next ≡ true =
-    each_rule (list_all no_end) (kind_code f.token.kind) f.next (rules_of s) (rules_end s below.0) (taking_in _ f.next (rules_of s) f.rule) in
+    each_rule (list_all no_end) (kind_code f.token.kind) f.next (rules_of s) (rules_end s below.0)
+    (taking_in _ f.next (rules_of s) f.rule) in
     end_last most n (after_token s u) (f.next ++ r ∷ ss) before t w (next_below f.next (r ∷ ss) next below.1) is
     (subst (λ (x : List Lexed). Fits most n (after_token s u) (f.next ++ r ∷ ss) x) (sym later) f.fits)
 end_last most (suc n) u (s ∷ r ∷ ss) before t w below is (inr f) = end_last most n (left_out s u) (r ∷ ss) before t w below.1 is f.fits

@@ -4,7 +4,8 @@ use Rattle.std.specs.Prelude.{if◌then◌else◌}
 use Rattle.fm_lex.specs.Tokens.{Lexeme, Lexed}
 use Rattle.fm_lex.specs.declared.kind.Kind.{Kind}
 use Rattle.fm_grammar.specs.Within.{Limits}
-use Rattle.fm_grammar.specs.Table.{Sym, kind_code, rules_of, may_end, inside, taking, Stack, after_token, left_out, fed_on, feed, opened, need}
+use Rattle.fm_grammar.specs.Rules.{Sym, kind_code, rules_of, may_end, inside}
+use Rattle.fm_grammar.specs.Table.{taking, Stack, after_token, left_out, fed_on, feed, opened, need}
 use Rattle.fm_grammar.proofs.Fits.{Fits, Derives, takes, leaves}
 use Rattle.fm_grammar.proofs.Alive.{IsAlive, want_least, need_none}
 use Rattle.fm_grammar.proofs.Followers.{Fine, may_begin, fits_begins, no_rule}
@@ -61,6 +62,7 @@ same_token t r w v same = cc
 same_rest : (t r : Lexeme) (w v : List Lexed) → Ok t ∷ w ≡ Ok r ∷ v → w ≡ v
 same_rest t r w v same = cc
 
+-- each token of what fits is taken, and the rest fits the stack behind it
 pub taken : (most : Limits) (n u : ℕ) (ss : List Sym) (t : Lexeme) (w : List Lexed) → Fine ss
     → Fits most n u ss (Ok t ∷ w) → After most u ss t.kind w
 taken most zero u ss t w fine fits = absurd fits
@@ -77,6 +79,7 @@ taken most (suc n) u (s ∷ ss) t w fine (inl f) =
 taken most (suc n) u (s ∷ ss) t w fine (inr f) =
     let on = taken most n (left_out s u) ss t w fine.1 f.fits in
     let begins : may_begin ss (kind_code t.kind) ≡ true = fits_begins most n (left_out s u) ss t w f.fits in
-    let rule : taking (kind_code t.kind) (rules_of s) ≡ None = no_rule s (kind_code t.kind) f.may (fine.0 (kind_code t.kind) f.may begins) in
+    let rule : taking (kind_code t.kind) (rules_of s) ≡ None =
+    no_rule s (kind_code t.kind) f.may (fine.0 (kind_code t.kind) f.may begins) in
     let may = f.may in
     record { stack = on.stack; is_fed = rw (rule, may) on.is_fed; derives = on.derives }

@@ -2,7 +2,8 @@
 use Rattle.std.proofs.Common.{◌≡◌, ℕ, zero, suc, ◌≤◌, true, ◌⊎◌, inl, inr, List, [], ◌∷◌, ◌++◌, Some, Ok, refl, arith}
 use Rattle.fm_lex.specs.Tokens.{Lexeme, Lexed}
 use Rattle.fm_grammar.specs.Within.{Limits}
-use Rattle.fm_grammar.specs.Table.{Sym, kind_code, rules_of, may_end, taking, after_token, left_out, opened}
+use Rattle.fm_grammar.specs.Rules.{Sym, kind_code, rules_of, may_end}
+use Rattle.fm_grammar.specs.Table.{taking, after_token, left_out, opened}
 
 -- the first symbol takes the token
 pub record Take (most : Limits) (u : ℕ) (s : Sym) (ss : List Sym) (ts : List Lexed)
@@ -37,6 +38,7 @@ pub record Derives (most : Limits) (u : ℕ) (ss : List Sym) (ts : List Lexed) :
 
 -- ---- one step more
 
+-- a derivation in fewer steps is one in more
 pub more_steps : (most : Limits) (n u : ℕ) (ss : List Sym) (ts : List Lexed)
     → Fits most n u ss ts → Fits most (suc n) u ss ts
 more_steps most zero u ss ts fits = absurd fits
@@ -60,12 +62,14 @@ more_steps most (suc n) u (s ∷ ss) ts (inr l) = inr (record {
 
 -- ---- what a derivation keeps
 
+-- no more tokens of an expression were read than the limit
 pub fits_counts : (most : Limits) (n u : ℕ) (ss : List Sym) (ts : List Lexed) → Fits most n u ss ts → u ≤ most.tokens
 fits_counts most zero u ss ts fits = absurd fits
 fits_counts most (suc n) u [] ts fits = fits.1
 fits_counts most (suc n) u (s ∷ ss) ts (inl t) = t.counts
 fits_counts most (suc n) u (s ∷ ss) ts (inr l) = l.counts
 
+-- no more braces are open than the limit
 pub fits_opens : (most : Limits) (n u : ℕ) (ss : List Sym) (ts : List Lexed) → Fits most n u ss ts → opened ss ≤ most.braces
 fits_opens most zero u ss ts fits = absurd fits
 fits_opens most (suc n) u [] ts fits = omega arith
@@ -74,6 +78,7 @@ fits_opens most (suc n) u (s ∷ ss) ts (inr l) = l.opens
 
 -- ---- larger limits
 
+-- what keeps limits keeps larger ones
 pub wider : (most wide : Limits) → most.braces ≤ wide.braces → most.tokens ≤ wide.tokens
     → (n u : ℕ) (ss : List Sym) (ts : List Lexed) → Fits most n u ss ts → Fits wide n u ss ts
 wider most wide braces tokens zero u ss ts fits = absurd fits
@@ -97,6 +102,7 @@ wider most wide braces tokens (suc n) u (s ∷ ss) ts (inr l) = inr (record {
 
 -- ---- building derivations
 
+-- a token that the first symbol takes, before what fits then
 pub takes : (most : Limits) (u : ℕ) (s : Sym) (ss : List Sym) (t : Lexeme) (rest : List Lexed) (next : List Sym)
     → opened (s ∷ ss) ≤ most.braces → u ≤ most.tokens → taking (kind_code t.kind) (rules_of s) ≡ Some next
     → Derives most (after_token s u) (next ++ ss) rest → Derives most u (s ∷ ss) (Ok t ∷ rest)
@@ -114,6 +120,7 @@ takes most u s ss t rest next opens counts rule on = record {
   });
 }
 
+-- a first symbol that is left out
 pub leaves : (most : Limits) (u : ℕ) (s : Sym) (ss : List Sym) (ts : List Lexed)
     → opened (s ∷ ss) ≤ most.braces → u ≤ most.tokens → may_end s ≡ true
     → Derives most (left_out s u) ss ts → Derives most u (s ∷ ss) ts

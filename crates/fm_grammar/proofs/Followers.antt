@@ -12,7 +12,8 @@ use Rattle.fm_lex.specs.declared.kind.Kind.TheVariants as kinds
 use Rattle.fm_lex.specs.declared.keyword.Keyword.TheVariants.{Ticks}
 use Rattle.fm_grammar.specs.Signs.{semicolon, close_brace, open_brace, close_parenthesis, comma, close_bracket, plus_sign, minus_sign}
 use Rattle.fm_grammar.specs.Within.{Limits}
-use Rattle.fm_grammar.specs.Table.{Sym, one, inner, factor, terms, sums, length, part, amount, duration, pitch, counted, mores, stmts, otherwise, branches, entries, seeded, pitches, lengths, numbers, parts, Rule, any_number, kind_code, rules_of, may_end, taking, Stack, left_out, fed_on, feed, whole}
+use Rattle.fm_grammar.specs.Rules.{Sym, one, inner, factor, terms, sums, length, part, amount, duration, pitch, counted, mores, stmts, otherwise, branches, entries, seeded, pitches, lengths, numbers, parts, Rule, any_number, kind_code, rules_of, may_end, whole}
+use Rattle.fm_grammar.specs.Table.{taking, Stack, left_out, fed_on, feed}
 use Rattle.fm_grammar.proofs.Fits.{Fits}
 use Rattle.fm_grammar.proofs.Alive.{taking_in, each_rule}
 
@@ -99,6 +100,7 @@ each_step holds code x xs true same all found on =
 each_step holds code x xs false same all found on =
     let later : one_of code xs ≡ true = rw same at found in on (grind arith) later
 
+-- what is true of each number of a list is true of one of them
 pub each_of : (holds : ℕ → Bool) (code : ℕ) (xs : List ℕ) → list_all holds xs ≡ true → one_of code xs ≡ true → holds code ≡ true
 each_of holds code [] all found = cc
 each_of holds code (x ∷ xs) all found = each_step holds code x xs (code == x) refl all found (each_of holds code xs)
@@ -118,6 +120,7 @@ none_taken : (code : ℕ) (rs : List Rule) → one_of code (firsts_of rs) ≡ fa
 none_taken code [] apart = refl
 none_taken code (r ∷ rs) apart = none_step code r rs (kind_code r.first == code) refl apart (none_taken code rs)
 
+-- a symbol takes nothing that may stand behind it
 pub no_rule : (s : Sym) (code : ℕ) → may_end s ≡ true → one_of code (followers s) ≡ true → taking code (rules_of s) ≡ None
 no_rule s code may follows =
     let apart : not (one_of code (firsts s)) ≡ true =
@@ -136,10 +139,12 @@ some_step code next r rs false same took on =
     let later : taking code rs ≡ Some next = rw same at took in
     rw is (on later)
 
+-- a token that is taken is one of the first ones
 pub some_taken : (code : ℕ) (next : List Sym) (rs : List Rule) → taking code rs ≡ Some next → one_of code (firsts_of rs) ≡ true
 some_taken code next [] took = cc
 some_taken code next (r ∷ rs) took = some_step code next r rs (kind_code r.first == code) refl took (some_taken code next rs)
 
+-- the first token of what fits may begin
 pub fits_begins : (most : Limits) (n u : ℕ) (ss : List Sym) (t : Lexeme) (w : List Lexed)
     → Fits most n u ss (Ok t ∷ w) → may_begin ss (kind_code t.kind) ≡ true
 fits_begins most zero u ss t w fits = absurd fits
@@ -215,7 +220,8 @@ next_fine : (ends : Bool) (last : List ℕ) (xs ss : List Sym) → fine_next end
     → ((code : ℕ) → ends ≡ true → may_begin ss code ≡ true → one_of code last ≡ true) → Fine ss → Fine (xs ++ ss)
 next_fine ends last [] ss fine behind fine_ss = fine_ss
 next_fine ends last (x ∷ xs) ss fine behind fine_ss = (
-  (λ code may begins. covers_begin ends last (followers x) xs ss code (covered_if (may_end x) (covers ends last (followers x) xs) may (and_left _ (fine_next ends last xs) fine)) (behind code) begins),
+  (λ code may begins. covers_begin ends last (followers x) xs ss code
+      (covered_if (may_end x) (covers ends last (followers x) xs) may (and_left _ (fine_next ends last xs) fine)) (behind code) begins),
   next_fine ends last xs ss (and_right (if may_end x then covers ends last (followers x) xs else true) _ fine) behind fine_ss,
 )
 
@@ -231,6 +237,7 @@ fed_fine u s ss k st (Some next) may took is fine taken on =
 fed_fine u s ss k st None true took is fine taken on = on (rw is at taken)
 fed_fine u s ss k st None false took is fine taken on = cc
 
+-- behind a token the followers are kept
 pub feed_fine : (u : ℕ) (ss : List Sym) (k : Kind) (st : Stack) → Fine ss → feed u ss k ≡ Some st → Fine st.syms
 feed_fine u [] k st fine taken = cc
 feed_fine u (s ∷ ss) k st fine taken =

@@ -6,13 +6,14 @@ use Rattle.fm_lex.specs.declared.kind.Kind.TheVariants.{Name, Number, Pitch, Reg
 use Rattle.fm_lex.specs.declared.kind.Kind.TheVariants as kinds
 use Rattle.fm_lex.specs.declared.keyword.Keyword.TheVariants.{Pick}
 use Rattle.fm_grammar.specs.Score.{Leaf}
-use Rattle.fm_grammar.specs.Grammar.{NumForm, Mores, no_more, more, Listed, LengthForm, share, ticks, PartForm, flat, slope, pause, breath, Scaling, times, over, modulo, Adding, plus, minus, Comparing, least, greatest, below, equal, ExprForm, expr, FactorForm, register, index, negate, group, pick, compare, TermsForm, no_term, term, SumsForm, no_sum, sum, AmountForm, negative, DurationForm, fixed, PitchForm, named, keyed, Sending, program, bend, Setting, channel, volume, gate, Cycling, artic, loud, StmtsForm, no_stmt, stmt, BlockForm, block, ElseForm, no_else, otherwise, BranchesForm, no_branch, branch, StmtForm, note, play, rest, skip, control, send, set, choice, repeat, again, call, warp, par, setting, rhythm, cycling, EntryForm, shape, phrase, plays, EntriesForm, no_entry, entry, SeedForm, no_seed, seed, ScoreForm}
+use Rattle.fm_grammar.specs.Grammar.{NumForm, Mores, no_more, more, Listed, LengthForm, share, ticks, PartForm, flat, slope, pause, breath, Scaling, times, over, modulo, Adding, plus, minus, Comparing, least, greatest, below, equal, ExprForm, expr, FactorForm, register, index, negate, group, pick, compare, TermsForm, no_term, term, SumsForm, no_sum, sum, AmountForm, negative, DurationForm, fixed, PitchForm, named, keyed, Sending, program, bend, Scoping, channel, volume, gate, Cycling, artic, loud, StmtsForm, no_stmt, stmt, BlockForm, block, ElseForm, no_else, otherwise, BranchesForm, no_branch, branch, StmtForm, note, play, rest, skip, control, send, set, choice, repeat, again, call, warp, par, scope, rhythm, cycling, EntryForm, shape, phrase, plays, EntriesForm, no_entry, entry, SeedForm, no_seed, seed, ScoreForm}
 use Rattle.fm_grammar.specs.Grammar as forms
 use Rattle.fm_grammar.specs.Signs.{open_parenthesis, close_parenthesis, comma, minus_sign, tok}
 use Rattle.fm_grammar.specs.Spelling.{scaling_kind, adding_kind, comparing_word, expr_text, factor_text, terms_text, sums_text}
 use Rattle.fm_grammar.specs.Within.{Limits, expr_size, factor_size, terms_size, sums_size}
-use Rattle.fm_grammar.specs.Table.{Sym, one, inner, Item, any_number, any_register, any_index, any_pitch, kind_code, rules_of, may_end, inside, taking, after_token, left_out, opened}
-use Rattle.fm_grammar.specs.Table as table
+use Rattle.fm_grammar.specs.Rules.{Sym, one, inner, Item, any_number, any_register, any_index, any_pitch, kind_code, rules_of, may_end, inside}
+use Rattle.fm_grammar.specs.Table.{taking, opened}
+use Rattle.fm_grammar.specs.Rules as table
 use Rattle.fm_grammar.proofs.Fits.{Derives, takes, leaves, fits_counts, fits_opens}
 
 -- whatever was read of an expression before
@@ -21,9 +22,11 @@ Anyhow most ss ts = (u : ℕ) → u ≤ most.tokens → Derives most u ss ts
 
 -- ---- inside an expression
 
+-- the count of a derivation is within the limit
 pub counts : (most : Limits) (u : ℕ) (ss : List Sym) (ts : List Lexed) → Derives most u ss ts → u ≤ most.tokens
 counts most u ss ts d = fits_counts most d.steps u ss ts d.fits
 
+-- and so are its braces
 pub opens : (most : Limits) (u : ℕ) (ss : List Sym) (ts : List Lexed) → Derives most u ss ts → opened ss ≤ most.braces
 opens most u ss ts d = fits_opens most d.steps u ss ts d.fits
 
@@ -91,31 +94,39 @@ mutual
       within most u table.factor ss (table.factor ∷ []) minus_sign m (factor_text f w) refl refl refl
       (fits_factor most f (u + 1) ss w (recounted most _ _ ss w (omega arith) d))
   fits_factor most (group o e c) u ss w d =
-      within most u table.factor ss (table.expr (inner close_parenthesis ∷ [])) open_parenthesis o (expr_text e (tok close_parenthesis c ∷ w)) refl refl refl
+      within most u table.factor ss (table.expr (inner close_parenthesis ∷ [])) open_parenthesis o
+      (expr_text e (tok close_parenthesis c ∷ w)) refl refl refl
       (fits_expr most e (u + 1) (inner close_parenthesis ∷ ss) (tok close_parenthesis c ∷ w)
-      (within most (u + 1 + expr_size e) (inner close_parenthesis) ss [] close_parenthesis c w refl refl refl (recounted most _ _ ss w (omega arith) d)))
+      (within most (u + 1 + expr_size e) (inner close_parenthesis) ss [] close_parenthesis c w refl refl refl
+      (recounted most _ _ ss w (omega arith) d)))
   fits_factor most (pick p o e c) u ss w d =
       within most u table.factor ss (inner open_parenthesis ∷ table.expr (inner close_parenthesis ∷ [])) (kinds.Keyword Pick) p
       (tok open_parenthesis o ∷ expr_text e (tok close_parenthesis c ∷ w)) refl refl refl
-      (within most (u + 1) (inner open_parenthesis) (table.expr (inner close_parenthesis ∷ ss)) [] open_parenthesis o (expr_text e (tok close_parenthesis c ∷ w)) refl refl refl
+      (within most (u + 1) (inner open_parenthesis) (table.expr (inner close_parenthesis ∷ ss)) [] open_parenthesis o
+      (expr_text e (tok close_parenthesis c ∷ w)) refl refl refl
       (fits_expr most e (u + 1 + 1) (inner close_parenthesis ∷ ss) (tok close_parenthesis c ∷ w)
-      (within most (u + 1 + 1 + expr_size e) (inner close_parenthesis) ss [] close_parenthesis c w refl refl refl (recounted most _ _ ss w (omega arith) d))))
+      (within most (u + 1 + 1 + expr_size e) (inner close_parenthesis) ss [] close_parenthesis c w refl refl refl
+      (recounted most _ _ ss w (omega arith) d))))
   fits_factor most (compare f p o a m b c) u ss w d =
       let last = tok close_parenthesis c ∷ w in
       let second = expr_text b last in
       within most u table.factor ss table.two_exprs (kinds.Keyword (comparing_word f)) p
       (tok open_parenthesis o ∷ expr_text a (tok comma m ∷ second)) refl (comparing_rule f) refl
-      (within most (u + 1) (inner open_parenthesis) (table.expr (inner comma ∷ table.expr (inner close_parenthesis ∷ ss))) [] open_parenthesis o (expr_text a (tok comma m ∷ second)) refl refl refl
+      (within most (u + 1) (inner open_parenthesis)
+      (table.expr (inner comma ∷ table.expr (inner close_parenthesis ∷ ss))) [] open_parenthesis o
+      (expr_text a (tok comma m ∷ second)) refl refl refl
       (fits_expr most a (u + 1 + 1) (inner comma ∷ table.expr (inner close_parenthesis ∷ ss)) (tok comma m ∷ second)
       (within most (u + 1 + 1 + expr_size a) (inner comma) (table.expr (inner close_parenthesis ∷ ss)) [] comma m second refl refl refl
       (fits_expr most b (u + 1 + 1 + expr_size a + 1) (inner close_parenthesis ∷ ss) last
-      (within most (u + 1 + 1 + expr_size a + 1 + expr_size b) (inner close_parenthesis) ss [] close_parenthesis c w refl refl refl (recounted most _ _ ss w (omega arith) d))))))
+      (within most (u + 1 + 1 + expr_size a + 1 + expr_size b) (inner close_parenthesis) ss [] close_parenthesis c w refl refl refl
+      (recounted most _ _ ss w (omega arith) d))))))
 
   fits_terms : (most : Limits) (ts : TermsForm) (u : ℕ) (ss : List Sym) (w : List Lexed)
       → Derives most (u + terms_size ts) ss w → Derives most u (table.terms ∷ ss) (terms_text ts w)
   fits_terms most no_term u ss w d = passed most u table.terms ss w refl refl refl (recounted most _ _ ss w (omega arith) d)
   fits_terms most (term s l f ts) u ss w d =
-      within most u table.terms ss (table.factor ∷ table.terms ∷ []) (scaling_kind s) l (factor_text f (terms_text ts w)) refl (scaling_rule s) refl
+      within most u table.terms ss (table.factor ∷ table.terms ∷ []) (scaling_kind s) l (factor_text f (terms_text ts w)) refl
+      (scaling_rule s) refl
       (fits_factor most f (u + 1) (table.terms ∷ ss) (terms_text ts w)
       (fits_terms most ts (u + 1 + factor_size f) ss w (recounted most _ _ ss w (omega arith) d)))
 
@@ -123,7 +134,8 @@ mutual
       → Derives most (u + sums_size xs) ss w → Derives most u (table.sums ∷ ss) (sums_text xs w)
   fits_sums most no_sum u ss w d = passed most u table.sums ss w refl refl refl (recounted most _ _ ss w (omega arith) d)
   fits_sums most (sum a l f ts xs) u ss w d =
-      within most u table.sums ss (table.expr []) (adding_kind a) l (factor_text f (terms_text ts (sums_text xs w))) refl (adding_rule a) refl
+      within most u table.sums ss (table.expr []) (adding_kind a) l (factor_text f (terms_text ts (sums_text xs w))) refl
+      (adding_rule a) refl
       (fits_factor most f (u + 1) (table.terms ∷ table.sums ∷ ss) (terms_text ts (sums_text xs w))
       (fits_terms most ts (u + 1 + factor_size f) (table.sums ∷ ss) (sums_text xs w)
       (fits_sums most xs (u + 1 + factor_size f + terms_size ts) ss w (recounted most _ _ ss w (omega arith) d))))

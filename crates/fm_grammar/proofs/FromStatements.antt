@@ -6,12 +6,13 @@ use Rattle.fm_lex.specs.declared.kind.Kind.TheVariants.{Name, Number, Pitch, Reg
 use Rattle.fm_lex.specs.declared.kind.Kind.TheVariants as kinds
 use Rattle.fm_lex.specs.declared.keyword.Keyword.TheVariants.{Formula, Seed, Shape, Phrase, Note, Play, Rest, Skip, Control, Set, If, Else, Repeat, Max, Do, Par, Branch, Warp, Rhythm}
 use Rattle.fm_grammar.specs.Score.{Leaf}
-use Rattle.fm_grammar.specs.Grammar.{Sending, program, bend, Setting, channel, volume, gate, Cycling, artic, loud, StmtsForm, no_stmt, stmt, BlockForm, block, ElseForm, no_else, otherwise, BranchesForm, no_branch, branch, StmtForm, note, play, rest, skip, control, send, set, choice, repeat, again, call, warp, par, setting, rhythm, cycling, shape, phrase, plays, EntriesForm, no_entry, entry, SeedForm, no_seed, seed, ScoreForm}
+use Rattle.fm_grammar.specs.Grammar.{Sending, program, bend, Scoping, channel, volume, gate, Cycling, artic, loud, StmtsForm, no_stmt, stmt, BlockForm, block, ElseForm, no_else, otherwise, BranchesForm, no_branch, branch, StmtForm, note, play, rest, skip, control, send, set, choice, repeat, again, call, warp, par, scope, rhythm, cycling, shape, phrase, plays, EntriesForm, no_entry, entry, SeedForm, no_seed, seed, ScoreForm}
 use Rattle.fm_grammar.specs.Signs.{semicolon, open_brace, close_brace, open_parenthesis, close_parenthesis, open_bracket, close_bracket, equals, tok, key, num}
-use Rattle.fm_grammar.specs.Spelling.{listed_text, num_text, length_text, part_text, expr_text, amount_text, duration_text, pitch_text, sending_word, setting_word, cycling_word, stmts_text, block_text, else_text, branches_text, stmt_text, entries_text, seed_text, score_text}
+use Rattle.fm_grammar.specs.Spelling.{listed_text, num_text, length_text, part_text, expr_text, amount_text, duration_text, pitch_text, sending_word, scoping_word, cycling_word, stmts_text, block_text, else_text, branches_text, stmt_text, entries_text, seed_text, score_text}
 use Rattle.fm_grammar.specs.Within.{Limits, expr_size, StmtsWithin, BlockWithin, ElseWithin, BranchesWithin, StmtWithin, EntriesWithin}
-use Rattle.fm_grammar.specs.Table.{Sym, one, inner, Item, Rule, any_number, any_register, any_index, any_pitch, kind_code, rules_of, may_end, inside, taking, after_token, left_out, opened}
-use Rattle.fm_grammar.specs.Table as table
+use Rattle.fm_grammar.specs.Rules.{Sym, one, inner, Item, Rule, any_number, any_register, any_index, any_pitch, kind_code, rules_of, may_end, inside}
+use Rattle.fm_grammar.specs.Table.{taking, opened}
+use Rattle.fm_grammar.specs.Rules as table
 use Rattle.fm_grammar.proofs.Fits.{Derives}
 use Rattle.fm_grammar.proofs.FromForms.{Anyhow, outer, skipped, fits_expr}
 use Rattle.fm_grammar.proofs.FromValues.{fits_num, fits_outermost, fits_clamped, fits_amount, fits_duration, fits_pitches, fits_lengths, fits_numbers, fits_parts}
@@ -29,19 +30,21 @@ entries_main : IsMain table.entries
 entries_main = record { further = _; rules = refl; outside = refl }
 
 sending_rule : (s : Sending) (next : Sym) (further : List Rule)
-    → taking (kind_code (kinds.Keyword (sending_word s))) (table.stmt_rules next further) ≡ Some (table.amount ∷ one semicolon ∷ next ∷ [])
+    → taking (kind_code (kinds.Keyword (sending_word s))) (table.stmt_rules next further)
+    ≡ Some (table.amount ∷ one semicolon ∷ next ∷ [])
 sending_rule program next further = refl
 sending_rule bend next further = refl
 
-setting_rule : (s : Setting) (next : Sym) (further : List Rule)
-    → taking (kind_code (kinds.Keyword (setting_word s))) (table.stmt_rules next further) ≡ Some (one any_number ∷ table.block (next ∷ []))
-setting_rule channel next further = refl
-setting_rule volume next further = refl
-setting_rule gate next further = refl
+scoping_rule : (s : Scoping) (next : Sym) (further : List Rule)
+    → taking (kind_code (kinds.Keyword (scoping_word s))) (table.stmt_rules next further)
+    ≡ Some (one any_number ∷ table.block (next ∷ []))
+scoping_rule channel next further = refl
+scoping_rule volume next further = refl
+scoping_rule gate next further = refl
 
 cycling_rule : (s : Cycling) (next : Sym) (further : List Rule)
     → taking (kind_code (kinds.Keyword (cycling_word s))) (table.stmt_rules next further)
-    ≡ Some (one open_bracket ∷ table.listed table.numbers (one close_bracket ∷ table.block (next ∷ [])))
+    ≡ Some (one open_bracket ∷ table.with_commas table.numbers (one close_bracket ∷ table.block (next ∷ [])))
 cycling_rule artic next further = refl
 cycling_rule loud next further = refl
 
@@ -74,13 +77,15 @@ mutual
       → opened ss ≤ most.braces → Anyhow most ss w → Anyhow most (table.otherwise ∷ ss) (else_text e w)
   fits_else most no_else ss w small o any = skipped most table.otherwise ss w refl refl refl any
   fits_else most (otherwise p b) ss w small o any =
-      outer most table.otherwise ss (table.block []) (kinds.Keyword Else) p (block_text b w) refl refl o (fits_block most b ss w small o any 0 (omega arith))
+      outer most table.otherwise ss (table.block []) (kinds.Keyword Else) p (block_text b w) refl refl o
+      (fits_block most b ss w small o any 0 (omega arith))
 
   fits_branches : (most : Limits) (bs : BranchesForm) (ss : List Sym) (w : List Lexed) → BranchesWithin most (opened ss) bs
       → opened ss ≤ most.braces → Anyhow most ss w → Anyhow most (table.branches ∷ ss) (branches_text bs w)
   fits_branches most no_branch ss w small o any = skipped most table.branches ss w refl refl refl any
   fits_branches most (branch p b bs) ss w small o any =
-      outer most table.branches ss (table.block (table.branches ∷ [])) (kinds.Keyword Branch) p (block_text b (branches_text bs w)) refl refl o
+      outer most table.branches ss (table.block (table.branches ∷ [])) (kinds.Keyword Branch) p
+      (block_text b (branches_text bs w)) refl refl o
       (fits_block most b (table.branches ∷ ss) (branches_text bs w) small.0 o (fits_branches most bs ss w small.1 o any) 0 (omega arith))
 
   fits_stmt : (most : Limits) (s : StmtForm) (next : Sym) (main : IsMain next) (ss : List Sym) (w : List Lexed)
@@ -88,37 +93,45 @@ mutual
       → Anyhow most (next ∷ ss) w → Anyhow most (next ∷ ss) (stmt_text s w)
   fits_stmt most (note p ps d e) next main ss w small o any =
       let after = tok semicolon e ∷ w in
-      word most next ss (table.listed table.pitches (table.duration ∷ one semicolon ∷ next ∷ [])) (kinds.Keyword Note) p
+      word most next ss (table.with_commas table.pitches (table.duration ∷ one semicolon ∷ next ∷ [])) (kinds.Keyword Note) p
       (listed_text pitch_text ps (duration_text d after)) main refl o
       (fits_pitches most ps (table.duration ∷ one semicolon ∷ next ∷ ss) (duration_text d after) small.0 o
       (fits_duration most d (one semicolon ∷ next ∷ ss) after small.1 o (ended most e (next ∷ ss) w o any)) 0 (omega arith))
   fits_stmt most (play p ps e) next main ss w small o any =
-      word most next ss (table.listed table.pitches (one semicolon ∷ next ∷ [])) (kinds.Keyword Play) p
+      word most next ss (table.with_commas table.pitches (one semicolon ∷ next ∷ [])) (kinds.Keyword Play) p
       (listed_text pitch_text ps (tok semicolon e ∷ w)) main refl o
       (fits_pitches most ps (one semicolon ∷ next ∷ ss) (tok semicolon e ∷ w) small o (ended most e (next ∷ ss) w o any) 0 (omega arith))
   fits_stmt most (rest p d e) next main ss w small o any =
-      word most next ss (table.duration ∷ one semicolon ∷ next ∷ []) (kinds.Keyword Rest) p (duration_text d (tok semicolon e ∷ w)) main refl o
+      word most next ss (table.duration ∷ one semicolon ∷ next ∷ []) (kinds.Keyword Rest) p
+      (duration_text d (tok semicolon e ∷ w)) main refl o
       (fits_duration most d (one semicolon ∷ next ∷ ss) (tok semicolon e ∷ w) small o (ended most e (next ∷ ss) w o any) 0 (omega arith))
   fits_stmt most (skip p e) next main ss w small o any =
       word most next ss (one semicolon ∷ next ∷ []) (kinds.Keyword Skip) p (tok semicolon e ∷ w) main refl o
       (ended most e (next ∷ ss) w o any 0 (omega arith))
   fits_stmt most (control p n a e) next main ss w small o any =
-      word most next ss (one any_number ∷ table.amount ∷ one semicolon ∷ next ∷ []) (kinds.Keyword Control) p (num n ∷ amount_text a (tok semicolon e ∷ w)) main refl o
+      word most next ss (one any_number ∷ table.amount ∷ one semicolon ∷ next ∷ []) (kinds.Keyword Control) p
+      (num n ∷ amount_text a (tok semicolon e ∷ w)) main refl o
       (fits_num most n (table.amount ∷ one semicolon ∷ next ∷ ss) (amount_text a (tok semicolon e ∷ w)) o
       (fits_amount most a (one semicolon ∷ next ∷ ss) (tok semicolon e ∷ w) small o (ended most e (next ∷ ss) w o any)) 0 (omega arith))
   fits_stmt most (send s p a e) next main ss w small o any =
-      word most next ss (table.amount ∷ one semicolon ∷ next ∷ []) (kinds.Keyword (sending_word s)) p (amount_text a (tok semicolon e ∷ w)) main (sending_rule s next main.further) o
+      word most next ss (table.amount ∷ one semicolon ∷ next ∷ []) (kinds.Keyword (sending_word s)) p
+      (amount_text a (tok semicolon e ∷ w)) main (sending_rule s next main.further) o
       (fits_amount most a (one semicolon ∷ next ∷ ss) (tok semicolon e ∷ w) small o (ended most e (next ∷ ss) w o any) 0 (omega arith))
   fits_stmt most (set p r l q x e) next main ss w small o any =
       let value = expr_text x (tok semicolon e ∷ w) in
-      word most next ss (one any_register ∷ one equals ∷ table.expr (one semicolon ∷ next ∷ [])) (kinds.Keyword Set) p (tok (Register r) l ∷ tok equals q ∷ value) main refl o
-      (outer most (one any_register) (one equals ∷ table.expr (one semicolon ∷ next ∷ ss)) [] (Register r) l (tok equals q ∷ value) refl refl o
+      word most next ss (one any_register ∷ one equals ∷ table.expr (one semicolon ∷ next ∷ [])) (kinds.Keyword Set) p
+      (tok (Register r) l ∷ tok equals q ∷ value) main refl o
+      (outer most (one any_register) (one equals ∷ table.expr (one semicolon ∷ next ∷ ss)) [] (Register r) l
+      (tok equals q ∷ value) refl refl o
       (outer most (one equals) (table.expr (one semicolon ∷ next ∷ ss)) [] equals q value refl refl o
       (fits_outermost most x semicolon e (next ∷ ss) w small (ended most e (next ∷ ss) w o any)) 0 (omega arith)) 0 (omega arith))
   fits_stmt most (choice p x b e) next main ss w small o any =
-      let body = fits_block most b (table.otherwise ∷ next ∷ ss) (else_text e w) small.1 o (fits_else most e (next ∷ ss) w small.2 o any) in
-      word most next ss (table.expr (table.block (table.otherwise ∷ next ∷ []))) (kinds.Keyword If) p (expr_text x (block_text b (else_text e w))) main refl o
-      (fits_expr most x 0 (table.block (table.otherwise ∷ next ∷ ss)) (block_text b (else_text e w)) (body (0 + expr_size x) (omega (arith, small.0))))
+      let body =
+      fits_block most b (table.otherwise ∷ next ∷ ss) (else_text e w) small.1 o (fits_else most e (next ∷ ss) w small.2 o any) in
+      word most next ss (table.expr (table.block (table.otherwise ∷ next ∷ []))) (kinds.Keyword If) p
+      (expr_text x (block_text b (else_text e w))) main refl o
+      (fits_expr most x 0 (table.block (table.otherwise ∷ next ∷ ss)) (block_text b (else_text e w))
+      (body (0 + expr_size x) (omega (arith, small.0))))
   fits_stmt most (repeat p n b) next main ss w small o any =
       word most next ss (table.counted ∷ table.block (next ∷ [])) (kinds.Keyword Repeat) p (num n ∷ block_text b w) main refl o
       (outer most table.counted (table.block (next ∷ ss)) [] (Number n.value) n.leaf (block_text b w) refl refl o
@@ -127,42 +140,52 @@ mutual
       let body = block_text b w in
       let count = expr_text x (tok close_parenthesis c ∷ key Max m ∷ num n ∷ body) in
       word most next ss (table.counted ∷ table.block (next ∷ [])) (kinds.Keyword Repeat) p (tok open_parenthesis q ∷ count) main refl o
-      (outer most table.counted (table.block (next ∷ ss)) (table.clamped []) open_parenthesis q count refl refl o
-      (fits_clamped most x c m n (table.block (next ∷ ss)) body small.0 o (fits_block most b (next ∷ ss) w small.1 o any)) 0 (omega arith))
+      (outer most table.counted (table.block (next ∷ ss)) (table.with_most []) open_parenthesis q count refl refl o
+      (fits_clamped most x c m n (table.block (next ∷ ss)) body small.0 o (fits_block most b (next ∷ ss) w small.1 o any)) 0
+      (omega arith))
   fits_stmt most (call p n e) next main ss w small o any =
       word most next ss (one Name ∷ one semicolon ∷ next ∷ []) (kinds.Keyword Do) p (tok Name n ∷ tok semicolon e ∷ w) main refl o
-      (outer most (one Name) (one semicolon ∷ next ∷ ss) [] Name n (tok semicolon e ∷ w) refl refl o (ended most e (next ∷ ss) w o any 0 (omega arith)) 0 (omega arith))
+      (outer most (one Name) (one semicolon ∷ next ∷ ss) [] Name n (tok semicolon e ∷ w) refl refl o
+      (ended most e (next ∷ ss) w o any 0 (omega arith)) 0 (omega arith))
   fits_stmt most (warp p n b) next main ss w small o any =
       word most next ss (one Name ∷ table.block (next ∷ [])) (kinds.Keyword Warp) p (tok Name n ∷ block_text b w) main refl o
-      (outer most (one Name) (table.block (next ∷ ss)) [] Name n (block_text b w) refl refl o (fits_block most b (next ∷ ss) w small o any 0 (omega arith)) 0 (omega arith))
+      (outer most (one Name) (table.block (next ∷ ss)) [] Name n (block_text b w) refl refl o
+      (fits_block most b (next ∷ ss) w small o any 0 (omega arith)) 0 (omega arith))
   fits_stmt most (par p q f b bs c) next main ss w small o any =
       let inner_ss = table.branches ∷ one close_brace ∷ next ∷ ss in
       let ends = branches_text bs (tok close_brace c ∷ w) in
-      word most next ss (one open_brace ∷ one (kinds.Keyword Branch) ∷ table.block (table.branches ∷ one close_brace ∷ next ∷ [])) (kinds.Keyword Par) p
+      word most next ss (one open_brace ∷ one (kinds.Keyword Branch) ∷ table.block (table.branches ∷ one close_brace ∷ next ∷ []))
+      (kinds.Keyword Par) p
       (tok open_brace q ∷ key Branch f ∷ block_text b ends) main refl o
-      (outer most (one open_brace) (one (kinds.Keyword Branch) ∷ table.block inner_ss) [] open_brace q (key Branch f ∷ block_text b ends) refl refl o
+      (outer most (one open_brace) (one (kinds.Keyword Branch) ∷ table.block inner_ss) [] open_brace q
+      (key Branch f ∷ block_text b ends) refl refl o
       (outer most (one (kinds.Keyword Branch)) (table.block inner_ss) [] (kinds.Keyword Branch) f (block_text b ends) refl refl small.0
       (fits_block most b inner_ss ends small.1 small.0
       (fits_branches most bs (one close_brace ∷ next ∷ ss) (tok close_brace c ∷ w) small.2 small.0
-      (outer most (one close_brace) (next ∷ ss) [] close_brace c w refl refl small.0 (any 0 (omega arith)))) 0 (omega arith)) 0 (omega arith)) 0 (omega arith))
-  fits_stmt most (setting s p n b) next main ss w small o any =
-      word most next ss (one any_number ∷ table.block (next ∷ [])) (kinds.Keyword (setting_word s)) p (num n ∷ block_text b w) main (setting_rule s next main.further) o
+      (outer most (one close_brace) (next ∷ ss) [] close_brace c w refl refl small.0 (any 0 (omega arith)))) 0 (omega arith)) 0
+      (omega arith)) 0 (omega arith))
+  fits_stmt most (scope s p n b) next main ss w small o any =
+      word most next ss (one any_number ∷ table.block (next ∷ [])) (kinds.Keyword (scoping_word s)) p (num n ∷ block_text b w) main
+      (scoping_rule s next main.further) o
       (fits_num most n (table.block (next ∷ ss)) (block_text b w) o (fits_block most b (next ∷ ss) w small o any) 0 (omega arith))
   fits_stmt most (rhythm p q ls c b) next main ss w small o any =
       let after = one close_bracket ∷ table.block (next ∷ ss) in
       let ends = tok close_bracket c ∷ block_text b w in
-      word most next ss (one open_bracket ∷ table.listed table.lengths (one close_bracket ∷ table.block (next ∷ []))) (kinds.Keyword Rhythm) p
+      word most next ss (one open_bracket ∷ table.with_commas table.lengths (one close_bracket ∷ table.block (next ∷ [])))
+      (kinds.Keyword Rhythm) p
       (tok open_bracket q ∷ listed_text length_text ls ends) main refl o
-      (outer most (one open_bracket) (table.listed table.lengths after) [] open_bracket q (listed_text length_text ls ends) refl refl o
+      (outer most (one open_bracket) (table.with_commas table.lengths after) [] open_bracket q
+      (listed_text length_text ls ends) refl refl o
       (fits_lengths most ls after ends o
       (outer most (one close_bracket) (table.block (next ∷ ss)) [] close_bracket c (block_text b w) refl refl o
       (fits_block most b (next ∷ ss) w small o any 0 (omega arith))) 0 (omega arith)) 0 (omega arith))
   fits_stmt most (cycling y p q ns c b) next main ss w small o any =
       let after = one close_bracket ∷ table.block (next ∷ ss) in
       let ends = tok close_bracket c ∷ block_text b w in
-      word most next ss (one open_bracket ∷ table.listed table.numbers (one close_bracket ∷ table.block (next ∷ []))) (kinds.Keyword (cycling_word y)) p
+      word most next ss (one open_bracket ∷ table.with_commas table.numbers (one close_bracket ∷ table.block (next ∷ [])))
+      (kinds.Keyword (cycling_word y)) p
       (tok open_bracket q ∷ listed_text num_text ns ends) main (cycling_rule y next main.further) o
-      (outer most (one open_bracket) (table.listed table.numbers after) [] open_bracket q (listed_text num_text ns ends) refl refl o
+      (outer most (one open_bracket) (table.with_commas table.numbers after) [] open_bracket q (listed_text num_text ns ends) refl refl o
       (fits_numbers most ns after ends o
       (outer most (one close_bracket) (table.block (next ∷ ss)) [] close_bracket c (block_text b w) refl refl o
       (fits_block most b (next ∷ ss) w small o any 0 (omega arith))) 0 (omega arith)) 0 (omega arith))
@@ -179,8 +202,9 @@ fits_entries most no_entry w small any = skipped most table.entries ends w refl 
 fits_entries most (entry (shape p n q ps e) es) w small any =
     let on = fits_entries most es w small.1 any in
     let after = listed_text part_text ps (tok semicolon e ∷ entries_text es w) in
-    let rest_ss = table.listed table.parts (one semicolon ∷ table.entries ∷ ends) in
-    outer most table.entries ends (one Name ∷ one equals ∷ table.listed table.parts (one semicolon ∷ table.entries ∷ [])) (kinds.Keyword Shape) p
+    let rest_ss = table.with_commas table.parts (one semicolon ∷ table.entries ∷ ends) in
+    outer most table.entries ends (one Name ∷ one equals ∷ table.with_commas table.parts (one semicolon ∷ table.entries ∷ []))
+    (kinds.Keyword Shape) p
     (tok Name n ∷ tok equals q ∷ after) refl refl (omega arith)
     (outer most (one Name) (one equals ∷ rest_ss) [] Name n (tok equals q ∷ after) refl refl (omega arith)
     (outer most (one equals) rest_ss [] equals q after refl refl (omega arith)
@@ -188,7 +212,8 @@ fits_entries most (entry (shape p n q ps e) es) w small any =
     (ended most e (table.entries ∷ ends) (entries_text es w) (omega arith) on) 0 (omega arith)) 0 (omega arith)) 0 (omega arith))
 fits_entries most (entry (phrase p n b) es) w small any =
     let on = fits_entries most es w small.1 any in
-    outer most table.entries ends (one Name ∷ table.block (table.entries ∷ [])) (kinds.Keyword Phrase) p (tok Name n ∷ block_text b (entries_text es w)) refl refl (omega arith)
+    outer most table.entries ends (one Name ∷ table.block (table.entries ∷ [])) (kinds.Keyword Phrase) p
+    (tok Name n ∷ block_text b (entries_text es w)) refl refl (omega arith)
     (outer most (one Name) (table.block (table.entries ∷ ends)) [] Name n (block_text b (entries_text es w)) refl refl (omega arith)
     (fits_block most b (table.entries ∷ ends) (entries_text es w) small.0 (omega arith) on 0 (omega arith)) 0 (omega arith))
 fits_entries most (entry (plays s) es) w small any =
@@ -201,14 +226,19 @@ fits_seed most (seed p n e) ss w o any =
     outer most table.seeded ss (one any_number ∷ one semicolon ∷ []) (kinds.Keyword Seed) p (num n ∷ tok semicolon e ∷ w) refl refl o
     (fits_num most n (one semicolon ∷ ss) (tok semicolon e ∷ w) o (ended most e ss w o any) 0 (omega arith))
 
+-- the tokens of a score fit the symbols of a whole text
 pub fits_score : (most : Limits) (s : ScoreForm) → EntriesWithin most s.entries → Derives most 0 table.whole (score_text s)
 fits_score most s small =
     let nothing : Anyhow most [] [] = λ u count. record { steps = 1; fits = (refl, count) } in
-    let last : Anyhow most ends (tok End s.last ∷ []) = outer most (one End) [] [] End s.last [] refl refl (omega arith) (nothing 0 (omega arith)) in
+    let last : Anyhow most ends (tok End s.last ∷ []) =
+    outer most (one End) [] [] End s.last [] refl refl (omega arith) (nothing 0 (omega arith)) in
     let entries_on = fits_entries most s.entries (tok End s.last ∷ []) small last in
     let text = entries_text s.entries (tok End s.last ∷ []) in
     let seed_on = fits_seed most s.seeded (table.entries ∷ ends) text (omega arith) entries_on in
-    outer most (one (kinds.Keyword Formula)) (one any_number ∷ one semicolon ∷ table.seeded ∷ table.entries ∷ ends) [] (kinds.Keyword Formula) s.word
+    outer most (one (kinds.Keyword Formula)) (one any_number ∷ one semicolon ∷ table.seeded ∷ table.entries ∷ ends) []
+    (kinds.Keyword Formula) s.word
     (num s.version ∷ tok semicolon s.ends ∷ seed_text s.seeded text) refl refl (omega arith)
-    (fits_num most s.version (one semicolon ∷ table.seeded ∷ table.entries ∷ ends) (tok semicolon s.ends ∷ seed_text s.seeded text) (omega arith)
-    (ended most s.ends (table.seeded ∷ table.entries ∷ ends) (seed_text s.seeded text) (omega arith) seed_on) 0 (omega arith)) 0 (omega arith)
+    (fits_num most s.version (one semicolon ∷ table.seeded ∷ table.entries ∷ ends) (tok semicolon s.ends ∷ seed_text s.seeded text)
+    (omega arith)
+    (ended most s.ends (table.seeded ∷ table.entries ∷ ends) (seed_text s.seeded text) (omega arith) seed_on) 0 (omega arith)) 0
+    (omega arith)

@@ -23,3 +23,9 @@ pub mod UniqueValues
 pub mod UniqueStatements
 pub mod Texts
 pub mod TreeRows
+pub mod UniqueWords
+pub mod UniqueScore
+pub mod ToBlocks
+pub mod ToSequences
+pub mod ToCounts
+pub mod ToLists

@@ -61,32 +61,37 @@ token_before_fault = refl
 
 -- `division` is a name
 versions :
-    verdict (codes "formula 2;") ∷ verdict (codes "formula 2; division 96;") ∷ verdict (codes "formula 3; division 96;") ∷ verdict (codes "formula 0;") ∷ []
+    verdict (codes "formula 2;") ∷ verdict (codes "formula 2; division 96;") ∷ verdict (codes "formula 3; division 96;") ∷ verdict
+    (codes "formula 0;") ∷ []
     ≡ (0, 0) ∷ (3, 12) ∷ (3, 12) ∷ (0, 0) ∷ []
 unfolding walk trip
 versions = refl
 
 -- the parentheses round the test of an `if` count, those of an amount, a duration and a count do not
 parentheses_of_test :
-    verdict (codes "formula 1; if " ++ repeated 31 (codes "(") (codes "1" ++ repeated 31 (codes ")") (codes " { }"))) ∷ verdict (codes "formula 1; if " ++ repeated 32 (codes "(") (codes "1" ++ repeated 32 (codes ")") (codes " { }"))) ∷ []
+    verdict (codes "formula 1; if " ++ repeated 31 (codes "(") (codes "1" ++ repeated 31 (codes ")") (codes " { }"))) ∷ verdict
+    (codes "formula 1; if " ++ repeated 32 (codes "(") (codes "1" ++ repeated 32 (codes ")") (codes " { }"))) ∷ []
     ≡ (0, 0) ∷ (4, 46) ∷ []
 unfolding walk trip
 parentheses_of_test = refl
 
 parentheses_of_amount :
-    verdict (codes "formula 1; program (" ++ repeated 63 (codes "-") (codes "1);")) ∷ verdict (codes "formula 1; program (" ++ repeated 64 (codes "-") (codes "1);")) ∷ []
+    verdict (codes "formula 1; program (" ++ repeated 63 (codes "-") (codes "1);")) ∷ verdict
+    (codes "formula 1; program (" ++ repeated 64 (codes "-") (codes "1);")) ∷ []
     ≡ (0, 0) ∷ (4, 84) ∷ []
 unfolding walk trip
 parentheses_of_amount = refl
 
 parentheses_of_duration :
-    verdict (codes "formula 1; rest ticks (" ++ repeated 63 (codes "-") (codes "1) max 5;")) ∷ verdict (codes "formula 1; rest ticks (" ++ repeated 64 (codes "-") (codes "1) max 5;")) ∷ []
+    verdict (codes "formula 1; rest ticks (" ++ repeated 63 (codes "-") (codes "1) max 5;")) ∷ verdict
+    (codes "formula 1; rest ticks (" ++ repeated 64 (codes "-") (codes "1) max 5;")) ∷ []
     ≡ (0, 0) ∷ (4, 87) ∷ []
 unfolding walk trip
 parentheses_of_duration = refl
 
 parentheses_of_count :
-    verdict (codes "formula 1; repeat (" ++ repeated 63 (codes "-") (codes "1) max 5 { }")) ∷ verdict (codes "formula 1; repeat (" ++ repeated 64 (codes "-") (codes "1) max 5 { }")) ∷ []
+    verdict (codes "formula 1; repeat (" ++ repeated 63 (codes "-") (codes "1) max 5 { }")) ∷ verdict
+    (codes "formula 1; repeat (" ++ repeated 64 (codes "-") (codes "1) max 5 { }")) ∷ []
     ≡ (0, 0) ∷ (4, 83) ∷ []
 unfolding walk trip
 parentheses_of_count = refl

@@ -5,7 +5,8 @@ use Rattle.fm_grammar.specs.Score.{Score}
 use Rattle.fm_grammar.specs.Standing.{score_tree}
 use Rattle.fm_grammar.specs.Within.{Limits, limits}
 use Rattle.fm_grammar.specs.Reads.{Reads, Begins, Fault, lexical, expected, too_nested, FaultAt, TripsWith}
-use Rattle.fm_grammar.specs.Table.{whole, first_fault}
+use Rattle.fm_grammar.specs.Rules.{whole}
+use Rattle.fm_grammar.specs.Table.{first_fault}
 use Rattle.fm_grammar.proofs.Fits.{Derives}
 use Rattle.fm_grammar.proofs.Alive.{IsAlive}
 use Rattle.fm_grammar.proofs.Followers.{whole_fine}
@@ -24,10 +25,12 @@ reads_from most ts derives =
     let s = to_score most derives.steps ts derives.fits in
     (score_tree s.form, record { form = s.form; text = s.text; within = s.within; stands_for = refl })
 
+-- tokens that fit with others behind them begin a text
 pub begins_from : (most : Limits) (ts w : List Lexed) → Derives most 0 whole (ts ++ w) → Begins most ts
 begins_from most ts w derives =
     let reads = reads_from most (ts ++ w) derives in record { rest = w; score = reads.0; reads = reads.1 }
 
+-- and those that begin a text fit so
 pub derives_begun : (most : Limits) (ts : List Lexed) (begins : Begins most ts) → Derives most 0 whole (ts ++ begins.rest)
 derives_begun most ts begins = derives_from most (ts ++ begins.rest) begins.score begins.reads
 
@@ -46,8 +49,11 @@ grouped most before w at derives = subst (λ (x : List Lexed). Derives most 0 wh
 
 fault_at : (before : List Lexed) (at : Lexed) (f : Fault) → Why 0 whole before at f → FaultAt before at f
 fault_at before (Err e) (lexical g) why = why
-fault_at before (Ok t) (expected spot) why =
-    (why.0, λ most begins. why.1 most begins.rest (regrouped most before begins.rest (Ok t) (derives_begun most (before ++ Ok t ∷ []) begins)))
+fault_at before (Ok t) (expected spot) why = (
+  why.0,
+  λ most begins. why.1 most begins.rest
+      (regrouped most before begins.rest (Ok t) (derives_begun most (before ++ Ok t ∷ []) begins)),
+)
 fault_at before (Ok t) (too_nested spot) (same, (most, w, derives)) =
     (same, most, begins_from most (before ++ Ok t ∷ []) w (grouped most before w (Ok t) derives))
 fault_at before at f why = absurd why
@@ -62,7 +68,8 @@ trips_with ts f found =
         after = t.after;
         place = t.place;
         goes = begins_from limits t.before t.rest t.goes;
-        stops = λ begins. t.stops begins.rest (regrouped limits t.before begins.rest t.at (derives_begun limits (t.before ++ t.at ∷ []) begins));
+        stops = λ begins. t.stops begins.rest
+            (regrouped limits t.before begins.rest t.at (derives_begun limits (t.before ++ t.at ∷ []) begins));
       };
       why = fault_at t.before t.at f t.why;
     }

@@ -9,7 +9,7 @@ use Rattle.fm_lex.specs.declared.keyword.Keyword.TheVariants.{Formula, Seed, Sha
 use Rattle.fm_lex.specs.Words.{keywords}
 use Rattle.fm_grammar.specs.Score.{Leaf}
 use Rattle.fm_grammar.specs.Signs.{tok}
-use Rattle.fm_grammar.specs.Table.{keyword_code, kind_code, any_number, any_register, any_index, any_pitch}
+use Rattle.fm_grammar.specs.Rules.{keyword_code, kind_code, any_number, any_register, any_index, any_pitch}
 
 -- the keyword of a number
 abbrev keyword_at : ℕ → Keyword
@@ -59,6 +59,7 @@ keyword_at-code Same = refl
 abbrev pub Tells : Kind → Type 0
 Tells k = (j : Kind) → kind_code k ≡ kind_code j → j ≡ k
 
+-- a keyword is told by its number
 pub tells_keyword : (w : Keyword) → Tells (kinds.Keyword w)
 tells_keyword w Name same = absurd (omega arith)
 tells_keyword w (Number n) same = absurd (omega arith)
@@ -72,6 +73,7 @@ tells_keyword w (kinds.Keyword v) same =
     ap kinds.Keyword (sym words)
 tells_keyword w (Symbol b) same = absurd (omega arith)
 
+-- and a symbol
 pub tells_symbol : (b : ℕ) → Tells (Symbol b)
 tells_symbol b Name same = absurd (omega arith)
 tells_symbol b (Number n) same = absurd (omega arith)
@@ -82,12 +84,14 @@ tells_symbol b End same = absurd (omega arith)
 tells_symbol b (kinds.Keyword v) same = absurd (omega arith)
 tells_symbol b (Symbol c) same = let bytes : c ≡ b = omega arith in ap Symbol bytes
 
+-- and a name
 pub tells_name : Tells Name
 tells_name Name same = refl
 tells_name (kinds.Keyword v) same = absurd (omega arith)
 tells_name (Symbol c) same = absurd (omega arith)
 tells_name j same = absurd (omega arith)
 
+-- and the end
 pub tells_end : Tells End
 tells_end End same = refl
 tells_end (kinds.Keyword v) same = absurd (omega arith)
@@ -101,18 +105,21 @@ number_kind (kinds.Keyword v) same = absurd (omega arith)
 number_kind (Symbol c) same = absurd (omega arith)
 number_kind j same = absurd (omega arith)
 
+-- any register
 pub register_kind : (j : Kind) → kind_code any_register ≡ kind_code j → (n : ℕ) × (j ≡ Register n)
 register_kind (Register n) same = (n, refl)
 register_kind (kinds.Keyword v) same = absurd (omega arith)
 register_kind (Symbol c) same = absurd (omega arith)
 register_kind j same = absurd (omega arith)
 
+-- any index
 pub index_kind : (j : Kind) → kind_code any_index ≡ kind_code j → (n : ℕ) × (j ≡ Index n)
 index_kind (Index n) same = (n, refl)
 index_kind (kinds.Keyword v) same = absurd (omega arith)
 index_kind (Symbol c) same = absurd (omega arith)
 index_kind j same = absurd (omega arith)
 
+-- any pitch
 pub pitch_kind : (j : Kind) → kind_code any_pitch ≡ kind_code j → (n : ℕ) × (j ≡ Pitch n)
 pitch_kind (Pitch n) same = (n, refl)
 pitch_kind (kinds.Keyword v) same = absurd (omega arith)
@@ -123,5 +130,6 @@ pitch_kind j same = absurd (omega arith)
 abbrev pub leaf_of : Lexeme → Leaf
 leaf_of t = record { text = t.text; spot = t.spot }
 
+-- a token of a known kind
 pub tok-leaf_of : (t : Lexeme) (k : Kind) → t.kind ≡ k → Ok t ≡ tok k (leaf_of t)
 tok-leaf_of t k same = ap (λ (j : Kind). tok j (leaf_of t)) same

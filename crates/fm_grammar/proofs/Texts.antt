@@ -11,15 +11,17 @@ use Rattle.fm_grammar.specs.Score.{Score}
 use Rattle.fm_grammar.specs.Standing.{score_tree}
 use Rattle.fm_grammar.specs.Within.{Limits, limits}
 use Rattle.fm_grammar.specs.Reads.{Reads, Begins, Fault, TripsWith, Verdict}
-use Rattle.fm_grammar.specs.Table.{Sym, kind_code, after_token, left_out, whole, first_fault}
+use Rattle.fm_grammar.specs.Rules.{Sym, kind_code, whole}
+use Rattle.fm_grammar.specs.Table.{after_token, left_out, first_fault}
 use Rattle.fm_grammar.proofs.Fits.{Fits, Derives}
 use Rattle.fm_grammar.proofs.EndLast.{EndsBelow, end_last}
 use Rattle.fm_grammar.proofs.Scores.{reads_from, derives_begun, trips_with, begins_passes, passes_begins}
 use Rattle.fm_grammar.proofs.OneTrip.{front_begins, one_trip_fault}
-use Rattle.fm_grammar.proofs.UniqueStatements.{unique_score}
+use Rattle.fm_grammar.proofs.UniqueScore.{unique_score}
 
 -- ---- one score
 
+-- tokens read as at most one score
 pub one_score : (most : Limits) (ts : List Lexed) (a b : Score) → Reads most ts a → Reads most ts b → a ≡ b
 one_score most ts a b left right =
     let same : left.form ≡ right.form = unique_score left.form right.form (sym left.text ∙ right.text) in
@@ -85,6 +87,7 @@ verdict : (ts : List Lexed) (found : Option Fault) → Closed ts → first_fault
 verdict ts None closed is = inl (whole_reads ts closed (passes_begins ts is))
 verdict ts (Some f) closed is = inr (f, trips_with ts f is)
 
+-- each text reads as a score, or trips
 pub text_verdict : (text : List ℕ) → Verdict (tokens text)
 text_verdict text = verdict (tokens text) (first_fault (tokens text)) (closed false [] text (tokens text) ((laid text).fresh [])) refl
 
@@ -103,5 +106,6 @@ found_fault ts f trips = by (first_fault ts) refl
 pub table_goes : (ts : List Lexed) → (first_fault ts ≡ None) ↔ Begins limits ts
 table_goes ts = (passes_begins ts, begins_passes ts)
 
+-- and refuses with the fault of the tokens
 pub table_trips : (ts : List Lexed) (f : Fault) → (first_fault ts ≡ Some f) ↔ TripsWith ts f
 table_trips ts f = (trips_with ts f, found_fault ts f)

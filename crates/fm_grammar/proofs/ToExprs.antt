@@ -6,13 +6,13 @@ use Rattle.fm_lex.specs.declared.kind.Kind.TheVariants.{Name, Number, Pitch, Reg
 use Rattle.fm_lex.specs.declared.kind.Kind.TheVariants as kinds
 use Rattle.fm_lex.specs.declared.keyword.Keyword.TheVariants.{Max, Pick, Min, Less, Same}
 use Rattle.fm_grammar.specs.Score.{Leaf}
-use Rattle.fm_grammar.specs.Grammar.{NumForm, Mores, no_more, more, Listed, LengthForm, share, ticks, PartForm, flat, slope, pause, breath, Scaling, times, over, modulo, Adding, plus, minus, Comparing, least, greatest, below, equal, ExprForm, expr, FactorForm, register, index, negate, group, pick, compare, TermsForm, no_term, term, SumsForm, no_sum, sum, AmountForm, negative, DurationForm, fixed, PitchForm, named, keyed, Sending, program, bend, Setting, channel, volume, gate, Cycling, artic, loud, StmtsForm, no_stmt, stmt, BlockForm, block, ElseForm, no_else, otherwise, BranchesForm, no_branch, branch, StmtForm, note, play, rest, skip, control, send, set, choice, repeat, again, call, warp, par, setting, rhythm, cycling, EntryForm, shape, phrase, plays, EntriesForm, no_entry, entry, SeedForm, no_seed, seed, ScoreForm}
+use Rattle.fm_grammar.specs.Grammar.{NumForm, Mores, no_more, more, Listed, LengthForm, share, ticks, PartForm, flat, slope, pause, breath, Scaling, times, over, modulo, Adding, plus, minus, Comparing, least, greatest, below, equal, ExprForm, expr, FactorForm, register, index, negate, group, pick, compare, TermsForm, no_term, term, SumsForm, no_sum, sum, AmountForm, negative, DurationForm, fixed, PitchForm, named, keyed, Sending, program, bend, Scoping, channel, volume, gate, Cycling, artic, loud, StmtsForm, no_stmt, stmt, BlockForm, block, ElseForm, no_else, otherwise, BranchesForm, no_branch, branch, StmtForm, note, play, rest, skip, control, send, set, choice, repeat, again, call, warp, par, scope, rhythm, cycling, EntryForm, shape, phrase, plays, EntriesForm, no_entry, entry, SeedForm, no_seed, seed, ScoreForm}
 use Rattle.fm_grammar.specs.Grammar as forms
 use Rattle.fm_grammar.specs.Signs.{open_parenthesis, close_parenthesis, comma, minus_sign, tok}
 use Rattle.fm_grammar.specs.Spelling.{scaling_kind, adding_kind, comparing_word, expr_text, factor_text, terms_text, sums_text}
 use Rattle.fm_grammar.specs.Within.{Limits, expr_size, factor_size, terms_size, sums_size}
-use Rattle.fm_grammar.specs.Table.{Sym, one, inner, Item, any_number, any_register, any_index, any_pitch, kind_code, rules_of, may_end, inside, taking, after_token, left_out, opened}
-use Rattle.fm_grammar.specs.Table as table
+use Rattle.fm_grammar.specs.Rules.{Sym, one, inner, Item, any_number, any_register, any_index, any_pitch, kind_code, rules_of, may_end, inside}
+use Rattle.fm_grammar.specs.Rules as table
 use Rattle.fm_grammar.proofs.Fits.{Fits, more_steps, fits_counts}
 use Rattle.fm_grammar.proofs.Alive.{In}
 use Rattle.fm_grammar.proofs.Telling.{Tells, tells_keyword, tells_symbol, number_kind, register_kind, index_kind, leaf_of}
@@ -53,7 +53,8 @@ to_inner most k tells (suc n) u ss ts fits = on (ruled most n u (inner k) ss ts 
 
 -- what is known of derivations of so many steps
 record Exprs (most : Limits) (n : ℕ) : Type 0 where
-  factors : (u : ℕ) (ss : List Sym) (ts : List Lexed) → Fits most n u (table.factor ∷ ss) ts → Inside most n u ss ts factor_text factor_size
+  factors : (u : ℕ) (ss : List Sym) (ts : List Lexed) → Fits most n u (table.factor ∷ ss) ts
+      → Inside most n u ss ts factor_text factor_size
   scaled : (u : ℕ) (ss : List Sym) (ts : List Lexed) → Fits most n u (table.terms ∷ ss) ts → Inside most n u ss ts terms_text terms_size
   added : (u : ℕ) (ss : List Sym) (ts : List Lexed) → Fits most n u (table.sums ∷ ss) ts → Inside most n u ss ts sums_text sums_size
 
@@ -127,7 +128,8 @@ factor_case most n known u ss ts later t next place fits (inr (inr (inr (inr (in
     let c = to_inner most close_parenthesis (tells_symbol 41) n (u + 1 + expr_size e.form) ss e.rest e.fits in record {
       form = group (leaf_of t) e.form c.form;
       rest = c.rest;
-      place = with_token ts later _ t open_parenthesis place (tells_symbol 40 t.kind code) (e.place ∙ ap (λ (x : List Lexed). expr_text e.form x) c.place);
+      place = with_token ts later _ t open_parenthesis place (tells_symbol 40 t.kind code)
+          (e.place ∙ ap (λ (x : List Lexed). expr_text e.form x) c.place);
       fits = more_steps most n _ ss c.rest (recount most n _ _ ss c.rest (omega arith) c.fits);
     }
 factor_case most n known u ss ts later t next place fits (inr (inr (inr (inr (inr (inl (code, same))))))) =
@@ -138,17 +140,22 @@ factor_case most n known u ss ts later t next place fits (inr (inr (inr (inr (in
       form = pick (leaf_of t) o.form e.form c.form;
       rest = c.rest;
       place = with_token ts later _ t (kinds.Keyword Pick) place (tells_keyword Pick t.kind code)
-          (o.place ∙ ap (λ (x : List Lexed). tok open_parenthesis o.form ∷ x) (e.place ∙ ap (λ (x : List Lexed). expr_text e.form x) c.place));
+          (o.place ∙ ap (λ (x : List Lexed). tok open_parenthesis o.form ∷ x)
+          (e.place ∙ ap (λ (x : List Lexed). expr_text e.form x) c.place));
       fits = more_steps most n _ ss c.rest (recount most n _ _ ss c.rest (omega arith) c.fits);
     }
 factor_case most n known u ss ts later t next place fits (inr (inr (inr (inr (inr (inr (inl (code, same)))))))) =
-    compare_inside most n known least u ss ts later t place (tells_keyword Min t.kind code) (at_rule most n (u + 1) table.two_exprs next ss later same fits)
+    compare_inside most n known least u ss ts later t place (tells_keyword Min t.kind code)
+    (at_rule most n (u + 1) table.two_exprs next ss later same fits)
 factor_case most n known u ss ts later t next place fits (inr (inr (inr (inr (inr (inr (inr (inl (code, same))))))))) =
-    compare_inside most n known greatest u ss ts later t place (tells_keyword Max t.kind code) (at_rule most n (u + 1) table.two_exprs next ss later same fits)
+    compare_inside most n known greatest u ss ts later t place (tells_keyword Max t.kind code)
+    (at_rule most n (u + 1) table.two_exprs next ss later same fits)
 factor_case most n known u ss ts later t next place fits (inr (inr (inr (inr (inr (inr (inr (inr (inl (code, same)))))))))) =
-    compare_inside most n known below u ss ts later t place (tells_keyword Less t.kind code) (at_rule most n (u + 1) table.two_exprs next ss later same fits)
+    compare_inside most n known below u ss ts later t place (tells_keyword Less t.kind code)
+    (at_rule most n (u + 1) table.two_exprs next ss later same fits)
 factor_case most n known u ss ts later t next place fits (inr (inr (inr (inr (inr (inr (inr (inr (inr (inl (code, same))))))))))) =
-    compare_inside most n known equal u ss ts later t place (tells_keyword Same t.kind code) (at_rule most n (u + 1) table.two_exprs next ss later same fits)
+    compare_inside most n known equal u ss ts later t place (tells_keyword Same t.kind code)
+    (at_rule most n (u + 1) table.two_exprs next ss later same fits)
 factor_case most n known u ss ts later t next place fits (inr (inr (inr (inr (inr (inr (inr (inr (inr (inr none)))))))))) = absurd none
 
 -- an operator between factors, and what follows it
@@ -160,7 +167,8 @@ scaled_by most n known s u ss ts later t place kind fits =
     let more_terms = known.scaled (u + 1 + factor_size f.form) ss f.rest f.fits in record {
       form = term s (leaf_of t) f.form more_terms.form;
       rest = more_terms.rest;
-      place = with_token ts later _ t (scaling_kind s) place kind (f.place ∙ ap (λ (x : List Lexed). factor_text f.form x) more_terms.place);
+      place = with_token ts later _ t (scaling_kind s) place kind
+          (f.place ∙ ap (λ (x : List Lexed). factor_text f.form x) more_terms.place);
       fits = more_steps most n _ ss more_terms.rest (recount most n _ _ ss more_terms.rest (omega arith) more_terms.fits);
     }
 
@@ -168,11 +176,14 @@ scaled_case : (most : Limits) (n : ℕ) → Exprs most n → (u : ℕ) (ss : Lis
     → ts ≡ Ok t ∷ later → Fits most n (u + 1) (next ++ ss) later → In (kind_code t.kind) next (rules_of table.terms)
     → Inside most (suc n) u ss ts terms_text terms_size
 scaled_case most n known u ss ts later t next place fits (inl (code, same)) =
-    scaled_by most n known times u ss ts later t place (tells_symbol 42 t.kind code) (at_rule most n (u + 1) (table.factor ∷ table.terms ∷ []) next ss later same fits)
+    scaled_by most n known times u ss ts later t place (tells_symbol 42 t.kind code)
+    (at_rule most n (u + 1) (table.factor ∷ table.terms ∷ []) next ss later same fits)
 scaled_case most n known u ss ts later t next place fits (inr (inl (code, same))) =
-    scaled_by most n known over u ss ts later t place (tells_symbol 47 t.kind code) (at_rule most n (u + 1) (table.factor ∷ table.terms ∷ []) next ss later same fits)
+    scaled_by most n known over u ss ts later t place (tells_symbol 47 t.kind code)
+    (at_rule most n (u + 1) (table.factor ∷ table.terms ∷ []) next ss later same fits)
 scaled_case most n known u ss ts later t next place fits (inr (inr (inl (code, same)))) =
-    scaled_by most n known modulo u ss ts later t place (tells_symbol 37 t.kind code) (at_rule most n (u + 1) (table.factor ∷ table.terms ∷ []) next ss later same fits)
+    scaled_by most n known modulo u ss ts later t place (tells_symbol 37 t.kind code)
+    (at_rule most n (u + 1) (table.factor ∷ table.terms ∷ []) next ss later same fits)
 scaled_case most n known u ss ts later t next place fits (inr (inr (inr none))) = absurd none
 
 -- an operator between terms, and what follows it
@@ -186,7 +197,8 @@ added_by most n known a u ss ts later t place kind fits =
       form = sum a (leaf_of t) f.form more_terms.form more_sums.form;
       rest = more_sums.rest;
       place = with_token ts later _ t (adding_kind a) place kind
-          (f.place ∙ ap (λ (x : List Lexed). factor_text f.form x) (more_terms.place ∙ ap (λ (x : List Lexed). terms_text more_terms.form x) more_sums.place));
+          (f.place ∙ ap (λ (x : List Lexed). factor_text f.form x)
+          (more_terms.place ∙ ap (λ (x : List Lexed). terms_text more_terms.form x) more_sums.place));
       fits = more_steps most n _ ss more_sums.rest (recount most n _ _ ss more_sums.rest (omega arith) more_sums.fits);
     }
 
@@ -194,18 +206,22 @@ added_case : (most : Limits) (n : ℕ) → Exprs most n → (u : ℕ) (ss : List
     → ts ≡ Ok t ∷ later → Fits most n (u + 1) (next ++ ss) later → In (kind_code t.kind) next (rules_of table.sums)
     → Inside most (suc n) u ss ts sums_text sums_size
 added_case most n known u ss ts later t next place fits (inl (code, same)) =
-    added_by most n known plus u ss ts later t place (tells_symbol 43 t.kind code) (at_rule most n (u + 1) (table.expr []) next ss later same fits)
+    added_by most n known plus u ss ts later t place (tells_symbol 43 t.kind code)
+    (at_rule most n (u + 1) (table.expr []) next ss later same fits)
 added_case most n known u ss ts later t next place fits (inr (inl (code, same))) =
-    added_by most n known minus u ss ts later t place (tells_symbol 45 t.kind code) (at_rule most n (u + 1) (table.expr []) next ss later same fits)
+    added_by most n known minus u ss ts later t place (tells_symbol 45 t.kind code)
+    (at_rule most n (u + 1) (table.expr []) next ss later same fits)
 added_case most n known u ss ts later t next place fits (inr (inr none)) = absurd none
 
-factors_step : (most : Limits) (n : ℕ) → Exprs most n → (u : ℕ) (ss : List Sym) (ts : List Lexed) → Fits most (suc n) u (table.factor ∷ ss) ts
+factors_step : (most : Limits) (n : ℕ) → Exprs most n → (u : ℕ) (ss : List Sym) (ts : List Lexed)
+    → Fits most (suc n) u (table.factor ∷ ss) ts
     → Inside most (suc n) u ss ts factor_text factor_size
 factors_step most n known u ss ts fits =
     let r = ruled most n u table.factor ss ts refl fits in
     factor_case most n known u ss ts r.rest r.token r.next r.place r.fits r.rule
 
-scaled_step : (most : Limits) (n : ℕ) → Exprs most n → (u : ℕ) (ss : List Sym) (ts : List Lexed) → Fits most (suc n) u (table.terms ∷ ss) ts
+scaled_step : (most : Limits) (n : ℕ) → Exprs most n → (u : ℕ) (ss : List Sym) (ts : List Lexed)
+    → Fits most (suc n) u (table.terms ∷ ss) ts
     → Inside most (suc n) u ss ts terms_text terms_size
 scaled_step most n known u ss ts (inl t) =
     let r = ruled_take most n u table.terms ss ts t in scaled_case most n known u ss ts r.rest r.token r.next r.place r.fits r.rule
@@ -248,6 +264,7 @@ pub record Outermost (most : Limits) (n : ℕ) (ss : List Sym) (ts : List Lexed)
   pub count : ℕ
   pub fits : Fits most n count ss rest
 
+-- what fits the symbols of an expression is the tokens of one
 pub to_expr : (most : Limits) (n : ℕ) (ss : List Sym) (ts : List Lexed) → Fits most n 0 (table.expr ss) ts → Outermost most n ss ts
 to_expr most n ss ts fits =
     let e = expr_inside most n (exprs most n) 0 ss ts fits in record {

@@ -8,7 +8,8 @@ use Rattle.fm_grammar.specs.Grammar.{NumForm}
 use Rattle.fm_grammar.specs.Signs.{tok}
 use Rattle.fm_grammar.specs.Spelling.{num_text}
 use Rattle.fm_grammar.specs.Within.{Limits}
-use Rattle.fm_grammar.specs.Table.{Sym, one, any_number, kind_code, rules_of, may_end, after_token}
+use Rattle.fm_grammar.specs.Rules.{Sym, one, any_number, kind_code, rules_of, may_end}
+use Rattle.fm_grammar.specs.Table.{after_token}
 use Rattle.fm_grammar.proofs.Fits.{Take, Fits, more_steps}
 use Rattle.fm_grammar.proofs.Alive.{In, taking_in}
 use Rattle.fm_grammar.proofs.Telling.{Tells, number_kind, leaf_of, tok-leaf_of}
@@ -24,6 +25,7 @@ pub record Ruled (most : Limits) (n v : ℕ) (s : Sym) (ss : List Sym) (ts : Lis
   pub rule : In (kind_code token.kind) next (rules_of s)
   pub fits : Fits most n v (next ++ ss) rest
 
+-- a token that was taken, by its rule
 pub ruled_take : (most : Limits) (n u : ℕ) (s : Sym) (ss : List Sym) (ts : List Lexed) → Take most u s ss ts (Fits most n)
     → Ruled most n (after_token s u) s ss ts
 ruled_take most n u s ss ts t = record {
@@ -74,6 +76,7 @@ Free x = Unit {0}
 abbrev pub sign_text : Kind → Leaf → List Lexed → List Lexed
 sign_text k l next = tok k l ∷ next
 
+-- a token of a kind that its number tells
 pub to_sign : (most : Limits) (k : Kind) → Tells k → (n u : ℕ) (ss : List Sym) (ts : List Lexed)
     → Fits most n u (one k ∷ ss) ts → Split most n ss ts (sign_text k) Free
 to_sign most k tells zero u ss ts fits = absurd fits
@@ -96,6 +99,7 @@ to_sign most k tells (suc n) u ss ts fits = on (ruled most n u (one k) ss ts ref
 abbrev pub num_form : ℕ → Lexeme → NumForm
 num_form v t = record { value = v; leaf = leaf_of t }
 
+-- a number
 pub to_num : (most : Limits) (n u : ℕ) (ss : List Sym) (ts : List Lexed)
     → Fits most n u (one any_number ∷ ss) ts → Split most n ss ts num_text Free
 to_num most zero u ss ts fits = absurd fits

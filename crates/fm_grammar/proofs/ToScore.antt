@@ -8,14 +8,16 @@ use Rattle.fm_grammar.specs.Grammar.{shape, phrase, plays, no_entry, entry, no_s
 use Rattle.fm_grammar.specs.Signs.{semicolon, equals, tok, key, num}
 use Rattle.fm_grammar.specs.Spelling.{listed_text, part_text, entry_text, entries_text, seed_text, score_text}
 use Rattle.fm_grammar.specs.Within.{Limits, EntryWithin, EntriesWithin}
-use Rattle.fm_grammar.specs.Table.{Sym, one, inner, Item, Rule, any_number, any_register, any_index, any_pitch, kind_code, rules_of, may_end, inside, taking, after_token, left_out, opened}
-use Rattle.fm_grammar.specs.Table as table
+use Rattle.fm_grammar.specs.Rules.{Sym, one, inner, Item, Rule, any_number, any_register, any_index, any_pitch, kind_code, rules_of, may_end, inside}
+use Rattle.fm_grammar.specs.Rules as table
 use Rattle.fm_grammar.proofs.Fits.{Fits, more_steps}
 use Rattle.fm_grammar.proofs.Alive.{In}
 use Rattle.fm_grammar.proofs.Telling.{tells_keyword, tells_symbol, tells_name, tells_end, leaf_of}
 use Rattle.fm_grammar.proofs.ToForms.{Ruled, ruled_take, at_rule, with_token, Split, Free, to_sign, to_num}
-use Rattle.fm_grammar.proofs.ToValues.{to_parts}
-use Rattle.fm_grammar.proofs.ToStatements.{Stmt, block_split, stmt_case, known}
+use Rattle.fm_grammar.proofs.ToLists.{to_parts}
+use Rattle.fm_grammar.proofs.ToBlocks.{Stmt, block_split}
+use Rattle.fm_grammar.proofs.ToStatements.{stmt_case}
+use Rattle.fm_grammar.proofs.ToSequences.{known}
 
 -- the end behind the entries
 abbrev ends : List Sym
@@ -24,7 +26,7 @@ ends = one End ∷ []
 -- the rules of an entry that is no statement
 abbrev definitions : List Rule
 definitions =
-    table.at (kinds.Keyword Shape) (one Name ∷ one equals ∷ table.listed table.parts (one semicolon ∷ table.entries ∷ []))
+    table.at (kinds.Keyword Shape) (one Name ∷ one equals ∷ table.with_commas table.parts (one semicolon ∷ table.entries ∷ []))
     ∷ table.at (kinds.Keyword Phrase) (one Name ∷ table.block (table.entries ∷ [])) ∷ []
 
 -- the tokens of entries
@@ -46,9 +48,10 @@ entry_case most n ts later t rhs place fits (inl s) = record {
   fits = s.fits;
 }
 entry_case most n ts later t rhs place fits (inr (inl (code, same))) =
-    let after = table.listed table.parts (one semicolon ∷ table.entries ∷ ends) in
+    let after = table.with_commas table.parts (one semicolon ∷ table.entries ∷ ends) in
     let m = to_sign most Name tells_name n 0 (one equals ∷ after) later
-    (at_rule most n 0 (one Name ∷ one equals ∷ table.listed table.parts (one semicolon ∷ table.entries ∷ [])) rhs ends later same fits) in
+    (at_rule most n 0 (one Name ∷ one equals ∷ table.with_commas table.parts (one semicolon ∷ table.entries ∷ [])) rhs ends later same
+    fits) in
     let q = to_sign most equals (tells_symbol 61) n 0 after m.rest m.fits in
     let ps = to_parts most n 0 (one semicolon ∷ table.entries ∷ ends) q.rest q.fits in
     let e = to_sign most semicolon (tells_symbol 59) n 0 (table.entries ∷ ends) ps.rest ps.fits in record {
@@ -115,7 +118,8 @@ to_seed most (suc n) u ss ts (inl t) = by (ruled_take most n u table.seeded ss t
       where
         known_rule : In (kind_code r.token.kind) r.next (rules_of table.seeded) → Split most (suc n) ss ts seed_text Free
         known_rule (inl (code, same)) =
-            let v = to_num most n 0 (one semicolon ∷ ss) r.rest (at_rule most n 0 (one any_number ∷ one semicolon ∷ []) r.next ss r.rest same r.fits) in
+            let v = to_num most n 0 (one semicolon ∷ ss) r.rest
+            (at_rule most n 0 (one any_number ∷ one semicolon ∷ []) r.next ss r.rest same r.fits) in
             let e = to_sign most semicolon (tells_symbol 59) n 0 ss v.rest v.fits in record {
               form = seed (leaf_of r.token) v.form e.form;
               rest = e.rest;
@@ -136,9 +140,11 @@ nothing_left : (most : Limits) (n : ℕ) (ts : List Lexed) → Fits most n 0 [] 
 nothing_left most zero ts fits = absurd fits
 nothing_left most (suc n) ts fits = fits.0
 
+-- what fits the symbols of a whole text is the tokens of a score
 pub to_score : (most : Limits) (n : ℕ) (ts : List Lexed) → Fits most n 0 table.whole ts → IsScore most ts
 to_score most n ts fits =
-    let w = to_sign most (kinds.Keyword Formula) (tells_keyword Formula) n 0 (one any_number ∷ one semicolon ∷ table.seeded ∷ table.entries ∷ ends) ts fits in
+    let w = to_sign most (kinds.Keyword Formula) (tells_keyword Formula) n 0
+    (one any_number ∷ one semicolon ∷ table.seeded ∷ table.entries ∷ ends) ts fits in
     let v = to_num most n 0 (one semicolon ∷ table.seeded ∷ table.entries ∷ ends) w.rest w.fits in
     let e = to_sign most semicolon (tells_symbol 59) n 0 (table.seeded ∷ table.entries ∷ ends) v.rest v.fits in
     let s = to_seed most n 0 (table.entries ∷ ends) e.rest e.fits in

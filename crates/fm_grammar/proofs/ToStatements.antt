@@ -1,128 +1,76 @@
--- What fits the symbols of statements is the tokens of statements.
-use Rattle.std.proofs.Common.{◌≡◌, ℕ, zero, suc, ◌⊎◌, inl, inr, List, [], ◌∷◌, ◌++◌, Ok, refl, ap, ◌∙◌}
+-- What fits the symbols of a statement is the tokens of one.
+use Rattle.std.proofs.Common.{◌≡◌, ℕ, ◌⊎◌, inl, inr, List, [], ◌∷◌, ◌++◌, Ok, ap, ◌∙◌}
 use Rattle.fm_lex.specs.Tokens.{Lexeme, Lexed}
 use Rattle.fm_lex.specs.declared.kind.Kind.TheVariants.{Name, Number, Pitch, Register, Index, End}
 use Rattle.fm_lex.specs.declared.kind.Kind.TheVariants as kinds
-use Rattle.fm_lex.specs.declared.keyword.Keyword.TheVariants.{Note, Play, Rest, Skip, Control, Program, Bend, Set, If, Else, Repeat, Do, Par, Branch, Warp, Channel, Volume, Gate, Rhythm, Artic, Loud}
-use Rattle.fm_grammar.specs.Score.{Leaf}
-use Rattle.fm_grammar.specs.Grammar.{program, bend, channel, volume, gate, artic, loud, no_stmt, stmt, BlockForm, block, no_else, otherwise, no_branch, branch, StmtForm, note, play, rest, skip, control, send, set, choice, repeat, again, call, warp, par, setting, rhythm, cycling}
+use Rattle.fm_lex.specs.declared.keyword.Keyword.TheVariants.{Note, Play, Rest, Skip, Control, Program, Bend, Set, If, Repeat, Do, Par, Branch, Warp, Channel, Volume, Gate, Rhythm, Artic, Loud}
+use Rattle.fm_grammar.specs.Grammar.{program, bend, channel, volume, gate, artic, loud, note, play, rest, skip, control, send, set, choice, call, warp, par, scope, rhythm, cycling}
 use Rattle.fm_grammar.specs.Signs.{semicolon, open_brace, close_brace, open_bracket, close_bracket, equals, tok, key, num}
-use Rattle.fm_grammar.specs.Spelling.{listed_text, num_text, length_text, expr_text, amount_text, duration_text, pitch_text, stmts_text, block_text, else_text, branches_text, stmt_text}
-use Rattle.fm_grammar.specs.Within.{Limits, StmtsWithin, BlockWithin, ElseWithin, BranchesWithin, StmtWithin}
-use Rattle.fm_grammar.specs.Table.{Sym, one, inner, Item, Rule, any_number, any_register, any_index, any_pitch, kind_code, rules_of, may_end, inside, taking, after_token, left_out, opened}
-use Rattle.fm_grammar.specs.Table as table
-use Rattle.fm_grammar.proofs.Fits.{Fits, more_steps, fits_opens}
+use Rattle.fm_grammar.specs.Spelling.{listed_text, num_text, length_text, expr_text, amount_text, duration_text, pitch_text, block_text, branches_text}
+use Rattle.fm_grammar.specs.Within.{Limits}
+use Rattle.fm_grammar.specs.Rules.{Sym, one, inner, Item, Rule, any_number, any_register, any_index, any_pitch, kind_code, rules_of, may_end, inside}
+use Rattle.fm_grammar.specs.Table.{opened}
+use Rattle.fm_grammar.specs.Rules as table
+use Rattle.fm_grammar.proofs.Fits.{Fits, fits_opens}
 use Rattle.fm_grammar.proofs.Alive.{In}
-use Rattle.fm_grammar.proofs.Telling.{tells_keyword, tells_symbol, tells_name, register_kind, leaf_of}
-use Rattle.fm_grammar.proofs.ToForms.{Ruled, ruled_take, ruled, at_rule, with_token, Split, Free, to_sign, to_num}
+use Rattle.fm_grammar.proofs.Telling.{tells_keyword, tells_symbol, tells_name, leaf_of}
+use Rattle.fm_grammar.proofs.ToForms.{at_rule, with_token, to_sign, to_num}
 use Rattle.fm_grammar.proofs.ToExprs.{to_expr}
-use Rattle.fm_grammar.proofs.ToValues.{CountForm, plain, clamped, count_text, CountWithin, to_count, to_amount, to_duration, to_pitches, to_lengths, to_numbers}
-
--- what is known of derivations of so many steps
-pub record Known (most : Limits) (n : ℕ) : Type 0 where
-  pub stmts : (u : ℕ) (ss : List Sym) (ts : List Lexed) → Fits most n u (table.stmts ∷ ss) ts
-      → Split most n ss ts stmts_text (StmtsWithin most (opened ss))
-  pub elses : (u : ℕ) (ss : List Sym) (ts : List Lexed) → Fits most n u (table.otherwise ∷ ss) ts
-      → Split most n ss ts else_text (ElseWithin most (opened ss))
-  pub branches : (u : ℕ) (ss : List Sym) (ts : List Lexed) → Fits most n u (table.branches ∷ ss) ts
-      → Split most n ss ts branches_text (BranchesWithin most (opened ss))
-
-pub block_split : (most : Limits) (n : ℕ) → Known most n → (u : ℕ) (ss : List Sym) (ts : List Lexed) → Fits most n u (table.block ss) ts
-    → Split most n ss ts block_text (BlockWithin most (opened ss))
-block_split most n known u ss ts fits =
-    let o = to_sign most open_brace (tells_symbol 123) n u (table.stmts ∷ one close_brace ∷ ss) ts fits in
-    let c = known.stmts 0 (one close_brace ∷ ss) o.rest o.fits in
-    let e = to_sign most close_brace (tells_symbol 125) n 0 ss c.rest c.fits in record {
-      form = block o.form c.form e.form;
-      rest = e.rest;
-      place = o.place ∙ ap (λ (x : List Lexed). tok open_brace o.form ∷ x) (c.place ∙ ap (λ (x : List Lexed). stmts_text c.form x) e.place);
-      within = (fits_opens most n 0 (one close_brace ∷ ss) c.rest c.fits, c.within);
-      fits = e.fits;
-    }
-
--- ---- statements
-
--- the tokens of a statement behind its word
-abbrev pub Stmt : Limits → ℕ → Sym → List Sym → List Lexed → Type 0
-Stmt most n next ss ts = Split most n (next ∷ ss) ts stmt_text (StmtWithin most (opened (next ∷ ss)))
-
--- any register
-to_register : (most : Limits) (n u : ℕ) (ss : List Sym) (ts : List Lexed)
-    → Fits most n u (one any_register ∷ ss) ts → Split most n ss ts (λ (r : ℕ × Leaf) next. tok (Register r.0) r.1 ∷ next) Free
-to_register most zero u ss ts fits = absurd fits
-to_register most (suc n) u ss ts fits = by (ruled most n u (one any_register) ss ts refl fits)
-  where
-    by : Ruled most n 0 (one any_register) ss ts → Split most (suc n) ss ts (λ (r : ℕ × Leaf) next. tok (Register r.0) r.1 ∷ next) Free
-    by r = known_rule r.rule
-      where
-        known_rule : In (kind_code r.token.kind) r.next (rules_of (one any_register))
-            → Split most (suc n) ss ts (λ (r : ℕ × Leaf) next. tok (Register r.0) r.1 ∷ next) Free
-        known_rule (inl (code, same)) =
-            let kind = register_kind r.token.kind code in record {
-              form = (kind.0, leaf_of r.token);
-              rest = r.rest;
-              place = with_token ts r.rest r.rest r.token (Register kind.0) r.place kind.1 refl;
-              within = tt;
-              fits = more_steps most n 0 ss r.rest (at_rule most n 0 [] r.next ss r.rest same r.fits);
-            }
-        known_rule (inr none) = absurd none
-
--- a loop by its count
-abbrev repeat_form : Leaf → CountForm → BlockForm → StmtForm
-repeat_form w (plain n) b = repeat w n b
-repeat_form w (clamped o e c m n) b = again w o e c m n b
-
-repeat_place : (w : Leaf) (c : CountForm) (b : BlockForm) (next : List Lexed)
-    → key Repeat w ∷ count_text c (block_text b next) ≡ stmt_text (repeat_form w c b) next
-repeat_place w (plain n) b next = refl
-repeat_place w (clamped o e c m n) b next = refl
-
-repeat_within : (most : Limits) (depth : ℕ) (w : Leaf) (c : CountForm) (b : BlockForm) → CountWithin most.tokens c → BlockWithin most depth b
-    → StmtWithin most depth (repeat_form w c b)
-repeat_within most depth w (plain n) b small deep = deep
-repeat_within most depth w (clamped o e c m n) b small deep = (small, deep)
+use Rattle.fm_grammar.proofs.ToCounts.{count_text, to_count}
+use Rattle.fm_grammar.proofs.ToValues.{to_amount, to_duration}
+use Rattle.fm_grammar.proofs.ToLists.{to_pitches, to_lengths, to_numbers}
+use Rattle.fm_grammar.proofs.ToBlocks.{Known, block_split, Stmt, to_register, repeat_form, repeat_place, repeat_within}
 
 -- a statement by the rule of its word, or a rule of no statement
-pub stmt_case : (most : Limits) (n : ℕ) → Known most n → (next : Sym) (further : List Rule) (ss : List Sym) (ts later : List Lexed) (t : Lexeme) (rhs : List Sym)
+pub stmt_case : (most : Limits) (n : ℕ) → Known most n
+    → (next : Sym) (further : List Rule) (ss : List Sym) (ts later : List Lexed) (t : Lexeme) (rhs : List Sym)
     → ts ≡ Ok t ∷ later → Fits most n 0 (rhs ++ ss) later → In (kind_code t.kind) rhs (table.stmt_rules next further)
     → Stmt most n next ss ts ⊎ In (kind_code t.kind) rhs further
 stmt_case most n known next further ss ts later t rhs place fits (inl (code, same)) =
     let w = leaf_of t in
-    let ps = to_pitches most n 0 (table.duration ∷ one semicolon ∷ next ∷ ss) later (at_rule most n 0 (table.listed table.pitches (table.duration ∷ one semicolon ∷ next ∷ [])) rhs ss later same fits) in
+    let ps = to_pitches most n 0 (table.duration ∷ one semicolon ∷ next ∷ ss) later
+    (at_rule most n 0 (table.with_commas table.pitches (table.duration ∷ one semicolon ∷ next ∷ [])) rhs ss later same fits) in
     let d = to_duration most n 0 (one semicolon ∷ next ∷ ss) ps.rest ps.fits in
     let e = to_sign most semicolon (tells_symbol 59) n 0 (next ∷ ss) d.rest d.fits in
     inl (record {
       form = note w ps.form d.form e.form;
       rest = e.rest;
-      place = with_token ts later _ t (kinds.Keyword Note) place (tells_keyword Note t.kind code) (ps.place ∙ ap (λ (x : List Lexed). listed_text pitch_text ps.form x) (d.place ∙ ap (λ (x : List Lexed). duration_text d.form x) e.place));
+      place = with_token ts later _ t (kinds.Keyword Note) place (tells_keyword Note t.kind code)
+          (ps.place ∙ ap (λ (x : List Lexed). listed_text pitch_text ps.form x)
+          (d.place ∙ ap (λ (x : List Lexed). duration_text d.form x) e.place));
       within = (ps.within, d.within);
       fits = e.fits;
     })
 stmt_case most n known next further ss ts later t rhs place fits (inr (inl (code, same))) =
     let w = leaf_of t in
-    let ps = to_pitches most n 0 (one semicolon ∷ next ∷ ss) later (at_rule most n 0 (table.listed table.pitches (one semicolon ∷ next ∷ [])) rhs ss later same fits) in
+    let ps = to_pitches most n 0 (one semicolon ∷ next ∷ ss) later
+    (at_rule most n 0 (table.with_commas table.pitches (one semicolon ∷ next ∷ [])) rhs ss later same fits) in
     let e = to_sign most semicolon (tells_symbol 59) n 0 (next ∷ ss) ps.rest ps.fits in
     inl (record {
       form = play w ps.form e.form;
       rest = e.rest;
-      place = with_token ts later _ t (kinds.Keyword Play) place (tells_keyword Play t.kind code) (ps.place ∙ ap (λ (x : List Lexed). listed_text pitch_text ps.form x) e.place);
+      place = with_token ts later _ t (kinds.Keyword Play) place (tells_keyword Play t.kind code)
+          (ps.place ∙ ap (λ (x : List Lexed). listed_text pitch_text ps.form x) e.place);
       within = ps.within;
       fits = e.fits;
     })
 stmt_case most n known next further ss ts later t rhs place fits (inr (inr (inl (code, same)))) =
     let w = leaf_of t in
-    let d = to_duration most n 0 (one semicolon ∷ next ∷ ss) later (at_rule most n 0 (table.duration ∷ one semicolon ∷ next ∷ []) rhs ss later same fits) in
+    let d = to_duration most n 0 (one semicolon ∷ next ∷ ss) later
+    (at_rule most n 0 (table.duration ∷ one semicolon ∷ next ∷ []) rhs ss later same fits) in
     let e = to_sign most semicolon (tells_symbol 59) n 0 (next ∷ ss) d.rest d.fits in
     inl (record {
       form = rest w d.form e.form;
       rest = e.rest;
-      place = with_token ts later _ t (kinds.Keyword Rest) place (tells_keyword Rest t.kind code) (d.place ∙ ap (λ (x : List Lexed). duration_text d.form x) e.place);
+      place = with_token ts later _ t (kinds.Keyword Rest) place (tells_keyword Rest t.kind code)
+          (d.place ∙ ap (λ (x : List Lexed). duration_text d.form x) e.place);
       within = d.within;
       fits = e.fits;
     })
 stmt_case most n known next further ss ts later t rhs place fits (inr (inr (inr (inl (code, same))))) =
     let w = leaf_of t in
-    let e = to_sign most semicolon (tells_symbol 59) n 0 (next ∷ ss) later (at_rule most n 0 (one semicolon ∷ next ∷ []) rhs ss later same fits) in
+    let e = to_sign most semicolon (tells_symbol 59) n 0 (next ∷ ss) later
+    (at_rule most n 0 (one semicolon ∷ next ∷ []) rhs ss later same fits) in
     inl (record {
       form = skip w e.form;
       rest = e.rest;
@@ -132,270 +80,240 @@ stmt_case most n known next further ss ts later t rhs place fits (inr (inr (inr 
     })
 stmt_case most n known next further ss ts later t rhs place fits (inr (inr (inr (inr (inl (code, same)))))) =
     let w = leaf_of t in
-    let c = to_num most n 0 (table.amount ∷ one semicolon ∷ next ∷ ss) later (at_rule most n 0 (one any_number ∷ table.amount ∷ one semicolon ∷ next ∷ []) rhs ss later same fits) in
+    let c = to_num most n 0 (table.amount ∷ one semicolon ∷ next ∷ ss) later
+    (at_rule most n 0 (one any_number ∷ table.amount ∷ one semicolon ∷ next ∷ []) rhs ss later same fits) in
     let a = to_amount most n 0 (one semicolon ∷ next ∷ ss) c.rest c.fits in
     let e = to_sign most semicolon (tells_symbol 59) n 0 (next ∷ ss) a.rest a.fits in
     inl (record {
       form = control w c.form a.form e.form;
       rest = e.rest;
-      place = with_token ts later _ t (kinds.Keyword Control) place (tells_keyword Control t.kind code) (c.place ∙ ap (λ (x : List Lexed). num c.form ∷ x) (a.place ∙ ap (λ (x : List Lexed). amount_text a.form x) e.place));
+      place = with_token ts later _ t (kinds.Keyword Control) place (tells_keyword Control t.kind code)
+          (c.place ∙ ap (λ (x : List Lexed). num c.form ∷ x) (a.place ∙ ap (λ (x : List Lexed). amount_text a.form x) e.place));
       within = a.within;
       fits = e.fits;
     })
 stmt_case most n known next further ss ts later t rhs place fits (inr (inr (inr (inr (inr (inl (code, same))))))) =
     let w = leaf_of t in
-    let a = to_amount most n 0 (one semicolon ∷ next ∷ ss) later (at_rule most n 0 (table.amount ∷ one semicolon ∷ next ∷ []) rhs ss later same fits) in
+    let a = to_amount most n 0 (one semicolon ∷ next ∷ ss) later
+    (at_rule most n 0 (table.amount ∷ one semicolon ∷ next ∷ []) rhs ss later same fits) in
     let e = to_sign most semicolon (tells_symbol 59) n 0 (next ∷ ss) a.rest a.fits in
     inl (record {
       form = send program w a.form e.form;
       rest = e.rest;
-      place = with_token ts later _ t (kinds.Keyword Program) place (tells_keyword Program t.kind code) (a.place ∙ ap (λ (x : List Lexed). amount_text a.form x) e.place);
+      place = with_token ts later _ t (kinds.Keyword Program) place (tells_keyword Program t.kind code)
+          (a.place ∙ ap (λ (x : List Lexed). amount_text a.form x) e.place);
       within = a.within;
       fits = e.fits;
     })
 stmt_case most n known next further ss ts later t rhs place fits (inr (inr (inr (inr (inr (inr (inl (code, same)))))))) =
     let w = leaf_of t in
-    let a = to_amount most n 0 (one semicolon ∷ next ∷ ss) later (at_rule most n 0 (table.amount ∷ one semicolon ∷ next ∷ []) rhs ss later same fits) in
+    let a = to_amount most n 0 (one semicolon ∷ next ∷ ss) later
+    (at_rule most n 0 (table.amount ∷ one semicolon ∷ next ∷ []) rhs ss later same fits) in
     let e = to_sign most semicolon (tells_symbol 59) n 0 (next ∷ ss) a.rest a.fits in
     inl (record {
       form = send bend w a.form e.form;
       rest = e.rest;
-      place = with_token ts later _ t (kinds.Keyword Bend) place (tells_keyword Bend t.kind code) (a.place ∙ ap (λ (x : List Lexed). amount_text a.form x) e.place);
+      place = with_token ts later _ t (kinds.Keyword Bend) place (tells_keyword Bend t.kind code)
+          (a.place ∙ ap (λ (x : List Lexed). amount_text a.form x) e.place);
       within = a.within;
       fits = e.fits;
     })
 stmt_case most n known next further ss ts later t rhs place fits (inr (inr (inr (inr (inr (inr (inr (inl (code, same))))))))) =
     let w = leaf_of t in
-    let r = to_register most n 0 (one equals ∷ table.expr (one semicolon ∷ next ∷ ss)) later (at_rule most n 0 (one any_register ∷ one equals ∷ table.expr (one semicolon ∷ next ∷ [])) rhs ss later same fits) in
+    let r = to_register most n 0 (one equals ∷ table.expr (one semicolon ∷ next ∷ ss)) later
+    (at_rule most n 0 (one any_register ∷ one equals ∷ table.expr (one semicolon ∷ next ∷ [])) rhs ss later same fits) in
     let q = to_sign most equals (tells_symbol 61) n 0 (table.expr (one semicolon ∷ next ∷ ss)) r.rest r.fits in
     let v = to_expr most n (one semicolon ∷ next ∷ ss) q.rest q.fits in
     let e = to_sign most semicolon (tells_symbol 59) n v.count (next ∷ ss) v.rest v.fits in
     inl (record {
       form = set w r.form.0 r.form.1 q.form v.form e.form;
       rest = e.rest;
-      place = with_token ts later _ t (kinds.Keyword Set) place (tells_keyword Set t.kind code) (r.place ∙ ap (λ (x : List Lexed). tok (Register r.form.0) r.form.1 ∷ x) (q.place ∙ ap (λ (x : List Lexed). tok equals q.form ∷ x) (v.place ∙ ap (λ (x : List Lexed). expr_text v.form x) e.place)));
+      place = with_token ts later _ t (kinds.Keyword Set) place (tells_keyword Set t.kind code)
+          (r.place ∙ ap (λ (x : List Lexed). tok (Register r.form.0) r.form.1 ∷ x)
+          (q.place ∙ ap (λ (x : List Lexed). tok equals q.form ∷ x) (v.place ∙ ap (λ (x : List Lexed). expr_text v.form x) e.place)));
       within = v.within;
       fits = e.fits;
     })
 stmt_case most n known next further ss ts later t rhs place fits (inr (inr (inr (inr (inr (inr (inr (inr (inl (code, same)))))))))) =
     let w = leaf_of t in
-    let v = to_expr most n (table.block (table.otherwise ∷ next ∷ ss)) later (at_rule most n 0 (table.expr (table.block (table.otherwise ∷ next ∷ []))) rhs ss later same fits) in
+    let v = to_expr most n (table.block (table.otherwise ∷ next ∷ ss)) later
+    (at_rule most n 0 (table.expr (table.block (table.otherwise ∷ next ∷ []))) rhs ss later same fits) in
     let b = block_split most n known v.count (table.otherwise ∷ next ∷ ss) v.rest v.fits in
     let o = known.elses 0 (next ∷ ss) b.rest b.fits in
     inl (record {
       form = choice w v.form b.form o.form;
       rest = o.rest;
-      place = with_token ts later _ t (kinds.Keyword If) place (tells_keyword If t.kind code) (v.place ∙ ap (λ (x : List Lexed). expr_text v.form x) (b.place ∙ ap (λ (x : List Lexed). block_text b.form x) o.place));
+      place = with_token ts later _ t (kinds.Keyword If) place (tells_keyword If t.kind code)
+          (v.place ∙ ap (λ (x : List Lexed). expr_text v.form x) (b.place ∙ ap (λ (x : List Lexed). block_text b.form x) o.place));
       within = (v.within, b.within, o.within);
       fits = o.fits;
     })
-stmt_case most n known next further ss ts later t rhs place fits (inr (inr (inr (inr (inr (inr (inr (inr (inr (inl (code, same))))))))))) =
+stmt_case most n known next further ss ts later t rhs place fits
+    (inr (inr (inr (inr (inr (inr (inr (inr (inr (inl (code, same))))))))))) =
     let w = leaf_of t in
-    let c = to_count most n 0 (table.block (next ∷ ss)) later (at_rule most n 0 (table.counted ∷ table.block (next ∷ [])) rhs ss later same fits) in
+    let c = to_count most n 0 (table.block (next ∷ ss)) later
+    (at_rule most n 0 (table.counted ∷ table.block (next ∷ [])) rhs ss later same fits) in
     let b = block_split most n known 0 (next ∷ ss) c.rest c.fits in
     inl (record {
       form = repeat_form w c.form b.form;
       rest = b.rest;
-      place = with_token ts later _ t (kinds.Keyword Repeat) place (tells_keyword Repeat t.kind code) (c.place ∙ ap (λ (x : List Lexed). count_text c.form x) b.place) ∙ repeat_place w c.form b.form b.rest;
+      place = with_token ts later _ t (kinds.Keyword Repeat) place (tells_keyword Repeat t.kind code)
+          (c.place ∙ ap (λ (x : List Lexed). count_text c.form x) b.place) ∙ repeat_place w c.form b.form b.rest;
       within = repeat_within most (opened (next ∷ ss)) w c.form b.form c.within b.within;
       fits = b.fits;
     })
-stmt_case most n known next further ss ts later t rhs place fits (inr (inr (inr (inr (inr (inr (inr (inr (inr (inr (inl (code, same)))))))))))) =
+stmt_case most n known next further ss ts later t rhs place fits
+    (inr (inr (inr (inr (inr (inr (inr (inr (inr (inr (inl (code, same)))))))))))) =
     let w = leaf_of t in
-    let m = to_sign most Name tells_name n 0 (one semicolon ∷ next ∷ ss) later (at_rule most n 0 (one Name ∷ one semicolon ∷ next ∷ []) rhs ss later same fits) in
+    let m = to_sign most Name tells_name n 0 (one semicolon ∷ next ∷ ss) later
+    (at_rule most n 0 (one Name ∷ one semicolon ∷ next ∷ []) rhs ss later same fits) in
     let e = to_sign most semicolon (tells_symbol 59) n 0 (next ∷ ss) m.rest m.fits in
     inl (record {
       form = call w m.form e.form;
       rest = e.rest;
-      place = with_token ts later _ t (kinds.Keyword Do) place (tells_keyword Do t.kind code) (m.place ∙ ap (λ (x : List Lexed). tok Name m.form ∷ x) e.place);
+      place = with_token ts later _ t (kinds.Keyword Do) place (tells_keyword Do t.kind code)
+          (m.place ∙ ap (λ (x : List Lexed). tok Name m.form ∷ x) e.place);
       within = tt;
       fits = e.fits;
     })
-stmt_case most n known next further ss ts later t rhs place fits (inr (inr (inr (inr (inr (inr (inr (inr (inr (inr (inr (inl (code, same))))))))))))) =
+stmt_case most n known next further ss ts later t rhs place fits
+    (inr (inr (inr (inr (inr (inr (inr (inr (inr (inr (inr (inl (code, same))))))))))))) =
     let w = leaf_of t in
-    let m = to_sign most Name tells_name n 0 (table.block (next ∷ ss)) later (at_rule most n 0 (one Name ∷ table.block (next ∷ [])) rhs ss later same fits) in
+    let m = to_sign most Name tells_name n 0 (table.block (next ∷ ss)) later
+    (at_rule most n 0 (one Name ∷ table.block (next ∷ [])) rhs ss later same fits) in
     let b = block_split most n known 0 (next ∷ ss) m.rest m.fits in
     inl (record {
       form = warp w m.form b.form;
       rest = b.rest;
-      place = with_token ts later _ t (kinds.Keyword Warp) place (tells_keyword Warp t.kind code) (m.place ∙ ap (λ (x : List Lexed). tok Name m.form ∷ x) b.place);
+      place = with_token ts later _ t (kinds.Keyword Warp) place (tells_keyword Warp t.kind code)
+          (m.place ∙ ap (λ (x : List Lexed). tok Name m.form ∷ x) b.place);
       within = b.within;
       fits = b.fits;
     })
-stmt_case most n known next further ss ts later t rhs place fits (inr (inr (inr (inr (inr (inr (inr (inr (inr (inr (inr (inr (inl (code, same)))))))))))))) =
+stmt_case most n known next further ss ts later t rhs place fits
+    (inr (inr (inr (inr (inr (inr (inr (inr (inr (inr (inr (inr (inl (code, same)))))))))))))) =
     let w = leaf_of t in
-    let o = to_sign most open_brace (tells_symbol 123) n 0 (one (kinds.Keyword Branch) ∷ table.block (table.branches ∷ one close_brace ∷ next ∷ ss)) later (at_rule most n 0 (one open_brace ∷ one (kinds.Keyword Branch) ∷ table.block (table.branches ∷ one close_brace ∷ next ∷ [])) rhs ss later same fits) in
-    let f = to_sign most (kinds.Keyword Branch) (tells_keyword Branch) n 0 (table.block (table.branches ∷ one close_brace ∷ next ∷ ss)) o.rest o.fits in
+    let o = to_sign most open_brace (tells_symbol 123) n 0
+    (one (kinds.Keyword Branch) ∷ table.block (table.branches ∷ one close_brace ∷ next ∷ ss)) later
+    (at_rule most n 0 (one open_brace ∷ one (kinds.Keyword Branch) ∷ table.block (table.branches ∷ one close_brace ∷ next ∷ [])) rhs
+    ss later same fits) in
+    let f = to_sign most (kinds.Keyword Branch) (tells_keyword Branch) n 0
+    (table.block (table.branches ∷ one close_brace ∷ next ∷ ss)) o.rest o.fits in
     let b = block_split most n known 0 (table.branches ∷ one close_brace ∷ next ∷ ss) f.rest f.fits in
     let bs = known.branches 0 (one close_brace ∷ next ∷ ss) b.rest b.fits in
     let e = to_sign most close_brace (tells_symbol 125) n 0 (next ∷ ss) bs.rest bs.fits in
     inl (record {
       form = par w o.form f.form b.form bs.form e.form;
       rest = e.rest;
-      place = with_token ts later _ t (kinds.Keyword Par) place (tells_keyword Par t.kind code) (o.place ∙ ap (λ (x : List Lexed). tok open_brace o.form ∷ x) (f.place ∙ ap (λ (x : List Lexed). key Branch f.form ∷ x) (b.place ∙ ap (λ (x : List Lexed). block_text b.form x) (bs.place ∙ ap (λ (x : List Lexed). branches_text bs.form x) e.place))));
+      place = with_token ts later _ t (kinds.Keyword Par) place (tells_keyword Par t.kind code)
+          (o.place ∙ ap (λ (x : List Lexed). tok open_brace o.form ∷ x)
+          (f.place ∙ ap (λ (x : List Lexed). key Branch f.form ∷ x)
+          (b.place ∙ ap (λ (x : List Lexed). block_text b.form x)
+          (bs.place ∙ ap (λ (x : List Lexed). branches_text bs.form x) e.place))));
       within = (fits_opens most n 0 (one close_brace ∷ next ∷ ss) bs.rest bs.fits, b.within, bs.within);
       fits = e.fits;
     })
-stmt_case most n known next further ss ts later t rhs place fits (inr (inr (inr (inr (inr (inr (inr (inr (inr (inr (inr (inr (inr (inl (code, same))))))))))))))) =
+stmt_case most n known next further ss ts later t rhs place fits
+    (inr (inr (inr (inr (inr (inr (inr (inr (inr (inr (inr (inr (inr (inl (code, same))))))))))))))) =
     let w = leaf_of t in
-    let c = to_num most n 0 (table.block (next ∷ ss)) later (at_rule most n 0 (one any_number ∷ table.block (next ∷ [])) rhs ss later same fits) in
+    let c = to_num most n 0 (table.block (next ∷ ss)) later
+    (at_rule most n 0 (one any_number ∷ table.block (next ∷ [])) rhs ss later same fits) in
     let b = block_split most n known 0 (next ∷ ss) c.rest c.fits in
     inl (record {
-      form = setting channel w c.form b.form;
+      form = scope channel w c.form b.form;
       rest = b.rest;
-      place = with_token ts later _ t (kinds.Keyword Channel) place (tells_keyword Channel t.kind code) (c.place ∙ ap (λ (x : List Lexed). num c.form ∷ x) b.place);
+      place = with_token ts later _ t (kinds.Keyword Channel) place (tells_keyword Channel t.kind code)
+          (c.place ∙ ap (λ (x : List Lexed). num c.form ∷ x) b.place);
       within = b.within;
       fits = b.fits;
     })
-stmt_case most n known next further ss ts later t rhs place fits (inr (inr (inr (inr (inr (inr (inr (inr (inr (inr (inr (inr (inr (inr (inl (code, same)))))))))))))))) =
+stmt_case most n known next further ss ts later t rhs place fits
+    (inr (inr (inr (inr (inr (inr (inr (inr (inr (inr (inr (inr (inr (inr (inl (code, same)))))))))))))))) =
     let w = leaf_of t in
-    let c = to_num most n 0 (table.block (next ∷ ss)) later (at_rule most n 0 (one any_number ∷ table.block (next ∷ [])) rhs ss later same fits) in
+    let c = to_num most n 0 (table.block (next ∷ ss)) later
+    (at_rule most n 0 (one any_number ∷ table.block (next ∷ [])) rhs ss later same fits) in
     let b = block_split most n known 0 (next ∷ ss) c.rest c.fits in
     inl (record {
-      form = setting volume w c.form b.form;
+      form = scope volume w c.form b.form;
       rest = b.rest;
-      place = with_token ts later _ t (kinds.Keyword Volume) place (tells_keyword Volume t.kind code) (c.place ∙ ap (λ (x : List Lexed). num c.form ∷ x) b.place);
+      place = with_token ts later _ t (kinds.Keyword Volume) place (tells_keyword Volume t.kind code)
+          (c.place ∙ ap (λ (x : List Lexed). num c.form ∷ x) b.place);
       within = b.within;
       fits = b.fits;
     })
-stmt_case most n known next further ss ts later t rhs place fits (inr (inr (inr (inr (inr (inr (inr (inr (inr (inr (inr (inr (inr (inr (inr (inl (code, same))))))))))))))))) =
+stmt_case most n known next further ss ts later t rhs place fits
+    (inr (inr (inr (inr (inr (inr (inr (inr (inr (inr (inr (inr (inr (inr (inr (inl (code, same))))))))))))))))) =
     let w = leaf_of t in
-    let c = to_num most n 0 (table.block (next ∷ ss)) later (at_rule most n 0 (one any_number ∷ table.block (next ∷ [])) rhs ss later same fits) in
+    let c = to_num most n 0 (table.block (next ∷ ss)) later
+    (at_rule most n 0 (one any_number ∷ table.block (next ∷ [])) rhs ss later same fits) in
     let b = block_split most n known 0 (next ∷ ss) c.rest c.fits in
     inl (record {
-      form = setting gate w c.form b.form;
+      form = scope gate w c.form b.form;
       rest = b.rest;
-      place = with_token ts later _ t (kinds.Keyword Gate) place (tells_keyword Gate t.kind code) (c.place ∙ ap (λ (x : List Lexed). num c.form ∷ x) b.place);
+      place = with_token ts later _ t (kinds.Keyword Gate) place (tells_keyword Gate t.kind code)
+          (c.place ∙ ap (λ (x : List Lexed). num c.form ∷ x) b.place);
       within = b.within;
       fits = b.fits;
     })
-stmt_case most n known next further ss ts later t rhs place fits (inr (inr (inr (inr (inr (inr (inr (inr (inr (inr (inr (inr (inr (inr (inr (inr (inl (code, same)))))))))))))))))) =
+stmt_case most n known next further ss ts later t rhs place fits
+    (inr (inr (inr (inr (inr (inr (inr (inr (inr (inr (inr (inr (inr (inr (inr (inr (inl (code, same)))))))))))))))))) =
     let w = leaf_of t in
-    let o = to_sign most open_bracket (tells_symbol 91) n 0 (table.listed table.lengths (one close_bracket ∷ table.block (next ∷ ss))) later (at_rule most n 0 (one open_bracket ∷ table.listed table.lengths (one close_bracket ∷ table.block (next ∷ []))) rhs ss later same fits) in
+    let o = to_sign most open_bracket (tells_symbol 91) n 0
+    (table.with_commas table.lengths (one close_bracket ∷ table.block (next ∷ ss))) later
+    (at_rule most n 0 (one open_bracket ∷ table.with_commas table.lengths (one close_bracket ∷ table.block (next ∷ []))) rhs ss later
+    same fits) in
     let l = to_lengths most n 0 (one close_bracket ∷ table.block (next ∷ ss)) o.rest o.fits in
     let c = to_sign most close_bracket (tells_symbol 93) n 0 (table.block (next ∷ ss)) l.rest l.fits in
     let b = block_split most n known 0 (next ∷ ss) c.rest c.fits in
     inl (record {
       form = rhythm w o.form l.form c.form b.form;
       rest = b.rest;
-      place = with_token ts later _ t (kinds.Keyword Rhythm) place (tells_keyword Rhythm t.kind code) (o.place ∙ ap (λ (x : List Lexed). tok open_bracket o.form ∷ x) (l.place ∙ ap (λ (x : List Lexed). listed_text length_text l.form x) (c.place ∙ ap (λ (x : List Lexed). tok close_bracket c.form ∷ x) b.place)));
+      place = with_token ts later _ t (kinds.Keyword Rhythm) place (tells_keyword Rhythm t.kind code)
+          (o.place ∙ ap (λ (x : List Lexed). tok open_bracket o.form ∷ x)
+          (l.place ∙ ap (λ (x : List Lexed). listed_text length_text l.form x)
+          (c.place ∙ ap (λ (x : List Lexed). tok close_bracket c.form ∷ x) b.place)));
       within = b.within;
       fits = b.fits;
     })
-stmt_case most n known next further ss ts later t rhs place fits (inr (inr (inr (inr (inr (inr (inr (inr (inr (inr (inr (inr (inr (inr (inr (inr (inr (inl (code, same))))))))))))))))))) =
+stmt_case most n known next further ss ts later t rhs place fits
+    (inr (inr (inr (inr (inr (inr (inr (inr (inr (inr (inr (inr (inr (inr (inr (inr (inr (inl (code, same))))))))))))))))))) =
     let w = leaf_of t in
-    let o = to_sign most open_bracket (tells_symbol 91) n 0 (table.listed table.numbers (one close_bracket ∷ table.block (next ∷ ss))) later (at_rule most n 0 (one open_bracket ∷ table.listed table.numbers (one close_bracket ∷ table.block (next ∷ []))) rhs ss later same fits) in
+    let o = to_sign most open_bracket (tells_symbol 91) n 0
+    (table.with_commas table.numbers (one close_bracket ∷ table.block (next ∷ ss))) later
+    (at_rule most n 0 (one open_bracket ∷ table.with_commas table.numbers (one close_bracket ∷ table.block (next ∷ []))) rhs ss later
+    same fits) in
     let l = to_numbers most n 0 (one close_bracket ∷ table.block (next ∷ ss)) o.rest o.fits in
     let c = to_sign most close_bracket (tells_symbol 93) n 0 (table.block (next ∷ ss)) l.rest l.fits in
     let b = block_split most n known 0 (next ∷ ss) c.rest c.fits in
     inl (record {
       form = cycling artic w o.form l.form c.form b.form;
       rest = b.rest;
-      place = with_token ts later _ t (kinds.Keyword Artic) place (tells_keyword Artic t.kind code) (o.place ∙ ap (λ (x : List Lexed). tok open_bracket o.form ∷ x) (l.place ∙ ap (λ (x : List Lexed). listed_text num_text l.form x) (c.place ∙ ap (λ (x : List Lexed). tok close_bracket c.form ∷ x) b.place)));
+      place = with_token ts later _ t (kinds.Keyword Artic) place (tells_keyword Artic t.kind code)
+          (o.place ∙ ap (λ (x : List Lexed). tok open_bracket o.form ∷ x)
+          (l.place ∙ ap (λ (x : List Lexed). listed_text num_text l.form x)
+          (c.place ∙ ap (λ (x : List Lexed). tok close_bracket c.form ∷ x) b.place)));
       within = b.within;
       fits = b.fits;
     })
-stmt_case most n known next further ss ts later t rhs place fits (inr (inr (inr (inr (inr (inr (inr (inr (inr (inr (inr (inr (inr (inr (inr (inr (inr (inr (inl (code, same)))))))))))))))))))) =
+stmt_case most n known next further ss ts later t rhs place fits
+    (inr (inr (inr (inr (inr (inr (inr (inr (inr (inr (inr (inr (inr (inr (inr (inr (inr (inr (inl (code, same)))))))))))))))))))) =
     let w = leaf_of t in
-    let o = to_sign most open_bracket (tells_symbol 91) n 0 (table.listed table.numbers (one close_bracket ∷ table.block (next ∷ ss))) later (at_rule most n 0 (one open_bracket ∷ table.listed table.numbers (one close_bracket ∷ table.block (next ∷ []))) rhs ss later same fits) in
+    let o = to_sign most open_bracket (tells_symbol 91) n 0
+    (table.with_commas table.numbers (one close_bracket ∷ table.block (next ∷ ss))) later
+    (at_rule most n 0 (one open_bracket ∷ table.with_commas table.numbers (one close_bracket ∷ table.block (next ∷ []))) rhs ss later
+    same fits) in
     let l = to_numbers most n 0 (one close_bracket ∷ table.block (next ∷ ss)) o.rest o.fits in
     let c = to_sign most close_bracket (tells_symbol 93) n 0 (table.block (next ∷ ss)) l.rest l.fits in
     let b = block_split most n known 0 (next ∷ ss) c.rest c.fits in
     inl (record {
       form = cycling loud w o.form l.form c.form b.form;
       rest = b.rest;
-      place = with_token ts later _ t (kinds.Keyword Loud) place (tells_keyword Loud t.kind code) (o.place ∙ ap (λ (x : List Lexed). tok open_bracket o.form ∷ x) (l.place ∙ ap (λ (x : List Lexed). listed_text num_text l.form x) (c.place ∙ ap (λ (x : List Lexed). tok close_bracket c.form ∷ x) b.place)));
+      place = with_token ts later _ t (kinds.Keyword Loud) place (tells_keyword Loud t.kind code)
+          (o.place ∙ ap (λ (x : List Lexed). tok open_bracket o.form ∷ x)
+          (l.place ∙ ap (λ (x : List Lexed). listed_text num_text l.form x)
+          (c.place ∙ ap (λ (x : List Lexed). tok close_bracket c.form ∷ x) b.place)));
       within = b.within;
       fits = b.fits;
     })
-stmt_case most n known next further ss ts later t rhs place fits (inr (inr (inr (inr (inr (inr (inr (inr (inr (inr (inr (inr (inr (inr (inr (inr (inr (inr (inr others))))))))))))))))))) = inr others
-
--- ---- sequences, one step more
-
-stmts_step : (most : Limits) (n : ℕ) → Known most n → (u : ℕ) (ss : List Sym) (ts : List Lexed) → Fits most (suc n) u (table.stmts ∷ ss) ts
-    → Split most (suc n) ss ts stmts_text (StmtsWithin most (opened ss))
-stmts_step most n known u ss ts (inr l) = record {
-  form = no_stmt;
-  rest = ts;
-  place = refl;
-  within = tt;
-  fits = more_steps most n 0 ss ts l.fits;
-}
-stmts_step most n known u ss ts (inl t) =
-    let r = ruled_take most n u table.stmts ss ts t in
-    by (kind_code r.token.kind) r.next (stmt_case most n known table.stmts [] ss ts r.rest r.token r.next r.place r.fits r.rule)
-  where
-    by : (code : ℕ) (rhs : List Sym) → Stmt most n table.stmts ss ts ⊎ In code rhs [] → Split most (suc n) ss ts stmts_text (StmtsWithin most (opened ss))
-    by code rhs (inl s) =
-        let c = known.stmts 0 ss s.rest s.fits in record {
-          form = stmt s.form c.form;
-          rest = c.rest;
-          place = s.place ∙ ap (λ (x : List Lexed). stmt_text s.form x) c.place;
-          within = (s.within, c.within);
-          fits = more_steps most n 0 ss c.rest c.fits;
-        }
-    by code rhs (inr none) = absurd none
-
-elses_step : (most : Limits) (n : ℕ) → Known most n → (u : ℕ) (ss : List Sym) (ts : List Lexed) → Fits most (suc n) u (table.otherwise ∷ ss) ts
-    → Split most (suc n) ss ts else_text (ElseWithin most (opened ss))
-elses_step most n known u ss ts (inr l) = record {
-  form = no_else;
-  rest = ts;
-  place = refl;
-  within = tt;
-  fits = more_steps most n 0 ss ts l.fits;
-}
-elses_step most n known u ss ts (inl t) = by (ruled_take most n u table.otherwise ss ts t)
-  where
-    by : Ruled most n 0 table.otherwise ss ts → Split most (suc n) ss ts else_text (ElseWithin most (opened ss))
-    by r = known_rule r.rule
-      where
-        known_rule : In (kind_code r.token.kind) r.next (rules_of table.otherwise) → Split most (suc n) ss ts else_text (ElseWithin most (opened ss))
-        known_rule (inl (code, same)) =
-            let b = block_split most n known 0 ss r.rest (at_rule most n 0 (table.block []) r.next ss r.rest same r.fits) in record {
-              form = otherwise (leaf_of r.token) b.form;
-              rest = b.rest;
-              place = with_token ts r.rest (block_text b.form b.rest) r.token (kinds.Keyword Else) r.place (tells_keyword Else r.token.kind code) b.place;
-              within = b.within;
-              fits = more_steps most n 0 ss b.rest b.fits;
-            }
-        known_rule (inr none) = absurd none
-
-branches_step : (most : Limits) (n : ℕ) → Known most n → (u : ℕ) (ss : List Sym) (ts : List Lexed) → Fits most (suc n) u (table.branches ∷ ss) ts
-    → Split most (suc n) ss ts branches_text (BranchesWithin most (opened ss))
-branches_step most n known u ss ts (inr l) = record {
-  form = no_branch;
-  rest = ts;
-  place = refl;
-  within = tt;
-  fits = more_steps most n 0 ss ts l.fits;
-}
-branches_step most n known u ss ts (inl t) = by (ruled_take most n u table.branches ss ts t)
-  where
-    by : Ruled most n 0 table.branches ss ts → Split most (suc n) ss ts branches_text (BranchesWithin most (opened ss))
-    by r = known_rule r.rule
-      where
-        known_rule : In (kind_code r.token.kind) r.next (rules_of table.branches) → Split most (suc n) ss ts branches_text (BranchesWithin most (opened ss))
-        known_rule (inl (code, same)) =
-            let b = block_split most n known 0 (table.branches ∷ ss) r.rest (at_rule most n 0 (table.block (table.branches ∷ [])) r.next ss r.rest same r.fits) in
-            let bs = known.branches 0 ss b.rest b.fits in record {
-              form = branch (leaf_of r.token) b.form bs.form;
-              rest = bs.rest;
-              place = with_token ts r.rest _ r.token (kinds.Keyword Branch) r.place (tells_keyword Branch r.token.kind code)
-                  (b.place ∙ ap (λ (x : List Lexed). block_text b.form x) bs.place);
-              within = (b.within, bs.within);
-              fits = more_steps most n 0 ss bs.rest bs.fits;
-            }
-        known_rule (inr none) = absurd none
-
-pub known : (most : Limits) (n : ℕ) → Known most n
-known most zero = record {
-  stmts = λ u ss ts none. absurd none;
-  elses = λ u ss ts none. absurd none;
-  branches = λ u ss ts none. absurd none;
-}
-known most (suc n) = let so_far = known most n in record {
-  stmts = stmts_step most n so_far;
-  elses = elses_step most n so_far;
-  branches = branches_step most n so_far;
-}
+stmt_case most n known next further ss ts later t rhs place fits
+    (inr (inr (inr (inr (inr (inr (inr (inr (inr (inr (inr (inr (inr (inr (inr (inr (inr (inr (inr others))))))))))))))))))) = inr others

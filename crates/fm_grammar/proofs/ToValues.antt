@@ -1,73 +1,23 @@
--- What fits the symbols of values and lists is the tokens of one of their forms.
-use Rattle.std.proofs.Common.{◌≡◌, ℕ, zero, suc, ◌≤◌, inl, inr, List, [], ◌∷◌, ◌++◌, Ok, refl, ap, ◌∙◌}
+-- What fits the symbols of values is the tokens of one.
+use Rattle.std.proofs.Common.{◌≡◌, ℕ, zero, suc, inl, inr, List, [], ◌∷◌, ◌++◌, Ok, refl, ap, ◌∙◌}
 use Rattle.fm_lex.specs.Tokens.{Lexeme, Lexed}
 use Rattle.fm_lex.specs.declared.kind.Kind.TheVariants.{Name, Number, Pitch, Register, Index, End}
 use Rattle.fm_lex.specs.declared.kind.Kind.TheVariants as kinds
-use Rattle.fm_lex.specs.declared.keyword.Keyword.TheVariants.{Flat, By, Slope, To, Pause, Breath, Ticks, Max, Key}
+use Rattle.fm_lex.specs.declared.keyword.Keyword.TheVariants.{Flat, By, Slope, To, Pause, Breath, Ticks, Key}
 use Rattle.fm_grammar.specs.Score.{Leaf}
-use Rattle.fm_grammar.specs.Grammar.{NumForm, Mores, no_more, more, Listed, LengthForm, share, ticks, PartForm, flat, slope, pause, breath, Scaling, times, over, modulo, Adding, plus, minus, Comparing, least, greatest, below, equal, ExprForm, expr, FactorForm, register, index, negate, group, pick, compare, TermsForm, no_term, term, SumsForm, no_sum, sum, AmountForm, negative, DurationForm, fixed, PitchForm, named, keyed, Sending, program, bend, Setting, channel, volume, gate, Cycling, artic, loud, StmtsForm, no_stmt, stmt, BlockForm, block, ElseForm, no_else, otherwise, BranchesForm, no_branch, branch, StmtForm, note, play, rest, skip, control, send, set, choice, repeat, again, call, warp, par, setting, rhythm, cycling, EntryForm, shape, phrase, plays, EntriesForm, no_entry, entry, SeedForm, no_seed, seed, ScoreForm}
+use Rattle.fm_grammar.specs.Grammar.{NumForm, Mores, no_more, more, Listed, LengthForm, share, ticks, PartForm, flat, slope, pause, breath, Scaling, times, over, modulo, Adding, plus, minus, Comparing, least, greatest, below, equal, ExprForm, expr, FactorForm, register, index, negate, group, pick, compare, TermsForm, no_term, term, SumsForm, no_sum, sum, AmountForm, negative, DurationForm, fixed, PitchForm, named, keyed, Sending, program, bend, Scoping, channel, volume, gate, Cycling, artic, loud, StmtsForm, no_stmt, stmt, BlockForm, block, ElseForm, no_else, otherwise, BranchesForm, no_branch, branch, StmtForm, note, play, rest, skip, control, send, set, choice, repeat, again, call, warp, par, scope, rhythm, cycling, EntryForm, shape, phrase, plays, EntriesForm, no_entry, entry, SeedForm, no_seed, seed, ScoreForm}
 use Rattle.fm_grammar.specs.Grammar as forms
-use Rattle.fm_grammar.specs.Signs.{open_parenthesis, close_parenthesis, comma, slash, minus_sign, tok, key, num}
-use Rattle.fm_grammar.specs.Spelling.{mores_text, listed_text, num_text, length_text, part_text, expr_text, amount_text, duration_text, pitch_text}
-use Rattle.fm_grammar.specs.Within.{Limits, expr_size, AmountWithin, DurationWithin, PitchWithin, MoresWithin, ListedWithin}
-use Rattle.fm_grammar.specs.Table.{Sym, one, inner, Item, any_number, any_register, any_index, any_pitch, kind_code, rules_of, may_end, inside, taking, after_token, left_out, opened}
-use Rattle.fm_grammar.specs.Table as table
-use Rattle.fm_grammar.proofs.Fits.{Fits, more_steps}
+use Rattle.fm_grammar.specs.Signs.{open_parenthesis, close_parenthesis, slash, minus_sign, tok, key, num}
+use Rattle.fm_grammar.specs.Spelling.{length_text, part_text, expr_text, amount_text, duration_text, pitch_text}
+use Rattle.fm_grammar.specs.Within.{Limits, AmountWithin, DurationWithin, PitchWithin}
+use Rattle.fm_grammar.specs.Rules.{Sym, one, inner, Item, any_number, any_register, any_index, any_pitch, kind_code, rules_of, may_end, inside}
+use Rattle.fm_grammar.specs.Rules as table
+use Rattle.fm_grammar.proofs.Fits.{Fits}
 use Rattle.fm_grammar.proofs.Alive.{In}
 use Rattle.fm_grammar.proofs.Telling.{tells_keyword, tells_symbol, number_kind, pitch_kind, leaf_of}
-use Rattle.fm_grammar.proofs.ToForms.{Ruled, ruled_take, ruled, at_rule, with_token, Split, Free, to_sign, num_form, to_num}
+use Rattle.fm_grammar.proofs.ToForms.{ruled, at_rule, with_token, Split, Free, to_sign, num_form, to_num}
 use Rattle.fm_grammar.proofs.ToExprs.{to_expr}
-
--- a form of one token more in front
-more_of : (most : Limits) (n : ℕ) (ss : List Sym) (w : List Lexed) → Fits most n 0 ss w → Fits most (suc n) 0 ss w
-more_of most n ss w fits = more_steps most n 0 ss w fits
-
--- ---- a keyword and a number; a count
-
--- a count: a number, or an expression with its greatest value
-pub data CountForm : Type 0 where
-  plain : NumForm → CountForm
-  clamped : (opens : Leaf) → ExprForm → (closes max : Leaf) → NumForm → CountForm
-
-abbrev pub count_text : CountForm → List Lexed → List Lexed
-count_text (plain n) next = num n ∷ next
-count_text (clamped o e c m n) next = tok open_parenthesis o ∷ expr_text e (tok close_parenthesis c ∷ key Max m ∷ num n ∷ next)
-
-abbrev pub CountWithin : ℕ → CountForm → Type 0
-CountWithin most (plain n) = Unit {0}
-CountWithin most (clamped o e c m n) = expr_size e ≤ most
-
-counted_case : (most : Limits) (n : ℕ) (ss : List Sym) (ts later : List Lexed) (t : Lexeme) (next : List Sym) → ts ≡ Ok t ∷ later
-    → Fits most n 0 (next ++ ss) later → In (kind_code t.kind) next (rules_of table.counted)
-    → Split most (suc n) ss ts count_text (CountWithin most.tokens)
-counted_case most n ss ts later t next place fits (inl (code, same)) =
-    let kind = number_kind t.kind code in record {
-      form = plain (num_form kind.0 t);
-      rest = later;
-      place = with_token ts later later t (Number kind.0) place kind.1 refl;
-      within = tt;
-      fits = more_of most n ss later (at_rule most n 0 [] next ss later same fits);
-    }
-counted_case most n ss ts later t next place fits (inr (inl (code, same))) =
-    let e = to_expr most n (one close_parenthesis ∷ one (kinds.Keyword Max) ∷ one any_number ∷ ss) later (at_rule most n 0 (table.clamped []) next ss later same fits) in
-    let c = to_sign most close_parenthesis (tells_symbol 41) n e.count (one (kinds.Keyword Max) ∷ one any_number ∷ ss) e.rest e.fits in
-    let m = to_sign most (kinds.Keyword Max) (tells_keyword Max) n 0 (one any_number ∷ ss) c.rest c.fits in
-    let v = to_num most n 0 ss m.rest m.fits in record {
-      form = clamped (leaf_of t) e.form c.form m.form v.form;
-      rest = v.rest;
-      place = with_token ts later _ t open_parenthesis place (tells_symbol 40 t.kind code)
-          (e.place ∙ ap (λ (x : List Lexed). expr_text e.form x) (c.place ∙ ap (λ (x : List Lexed). tok close_parenthesis c.form ∷ x)
-          (m.place ∙ ap (λ (x : List Lexed). key Max m.form ∷ x) v.place)));
-      within = e.within;
-      fits = more_of most n ss v.rest v.fits;
-    }
-counted_case most n ss ts later t next place fits (inr (inr none)) = absurd none
-
-pub to_count : (most : Limits) (n u : ℕ) (ss : List Sym) (ts : List Lexed) → Fits most n u (table.counted ∷ ss) ts
-    → Split most n ss ts count_text (CountWithin most.tokens)
-to_count most zero u ss ts fits = absurd fits
-to_count most (suc n) u ss ts fits =
-    let r = ruled most n u table.counted ss ts refl fits in counted_case most n ss ts r.rest r.token r.next r.place r.fits r.rule
+use Rattle.fm_grammar.proofs.ToCounts.{more_of, CountForm, plain, clamped, count_text, CountWithin, to_count}
 
 -- ---- values
 
@@ -91,16 +41,19 @@ amount_case most n ss ts later t next place fits (inr (inl (code, same))) =
       fits = more_of most n ss v.rest v.fits;
     }
 amount_case most n ss ts later t next place fits (inr (inr (inl (code, same)))) =
-    let e = to_expr most n (one close_parenthesis ∷ ss) later (at_rule most n 0 (table.expr (one close_parenthesis ∷ [])) next ss later same fits) in
+    let e = to_expr most n (one close_parenthesis ∷ ss) later
+    (at_rule most n 0 (table.expr (one close_parenthesis ∷ [])) next ss later same fits) in
     let c = to_sign most close_parenthesis (tells_symbol 41) n e.count ss e.rest e.fits in record {
       form = forms.AmountForm.computed (leaf_of t) e.form c.form;
       rest = c.rest;
-      place = with_token ts later _ t open_parenthesis place (tells_symbol 40 t.kind code) (e.place ∙ ap (λ (x : List Lexed). expr_text e.form x) c.place);
+      place = with_token ts later _ t open_parenthesis place (tells_symbol 40 t.kind code)
+          (e.place ∙ ap (λ (x : List Lexed). expr_text e.form x) c.place);
       within = e.within;
       fits = more_of most n ss c.rest c.fits;
     }
 amount_case most n ss ts later t next place fits (inr (inr (inr none))) = absurd none
 
+-- an amount
 pub to_amount : (most : Limits) (n u : ℕ) (ss : List Sym) (ts : List Lexed) → Fits most n u (table.amount ∷ ss) ts
     → Split most n ss ts amount_text (AmountWithin most.tokens)
 to_amount most zero u ss ts fits = absurd fits
@@ -112,7 +65,8 @@ length_case : (most : Limits) (n : ℕ) (ss : List Sym) (ts later : List Lexed) 
     → Split most (suc n) ss ts length_text Free
 length_case most n ss ts later t next place fits (inl (code, same)) =
     let kind = number_kind t.kind code in
-    let s = to_sign most slash (tells_symbol 47) n 0 (one any_number ∷ ss) later (at_rule most n 0 (one slash ∷ one any_number ∷ []) next ss later same fits) in
+    let s = to_sign most slash (tells_symbol 47) n 0 (one any_number ∷ ss) later
+    (at_rule most n 0 (one slash ∷ one any_number ∷ []) next ss later same fits) in
     let v = to_num most n 0 ss s.rest s.fits in record {
       form = share (num_form kind.0 t) s.form v.form;
       rest = v.rest;
@@ -130,6 +84,7 @@ length_case most n ss ts later t next place fits (inr (inl (code, same))) =
     }
 length_case most n ss ts later t next place fits (inr (inr none)) = absurd none
 
+-- a length
 pub to_length : (most : Limits) (n u : ℕ) (ss : List Sym) (ts : List Lexed) → Fits most n u (table.length ∷ ss) ts
     → Split most n ss ts length_text Free
 to_length most zero u ss ts fits = absurd fits
@@ -156,7 +111,8 @@ duration_case : (most : Limits) (n : ℕ) (ss : List Sym) (ts later : List Lexed
     → Split most (suc n) ss ts duration_text (DurationWithin most.tokens)
 duration_case most n ss ts later t next place fits (inl (code, same)) =
     let kind = number_kind t.kind code in
-    let s = to_sign most slash (tells_symbol 47) n 0 (one any_number ∷ ss) later (at_rule most n 0 (one slash ∷ one any_number ∷ []) next ss later same fits) in
+    let s = to_sign most slash (tells_symbol 47) n 0 (one any_number ∷ ss) later
+    (at_rule most n 0 (one slash ∷ one any_number ∷ []) next ss later same fits) in
     let v = to_num most n 0 ss s.rest s.fits in record {
       form = fixed (share (num_form kind.0 t) s.form v.form);
       rest = v.rest;
@@ -168,12 +124,14 @@ duration_case most n ss ts later t next place fits (inr (inl (code, same))) =
     let c = to_count most n 0 ss later (at_rule most n 0 (table.counted ∷ []) next ss later same fits) in record {
       form = ticks_duration (leaf_of t) c.form;
       rest = c.rest;
-      place = with_token ts later (count_text c.form c.rest) t (kinds.Keyword Ticks) place (tells_keyword Ticks t.kind code) c.place ∙ ticks_place (leaf_of t) c.form c.rest;
+      place = with_token ts later (count_text c.form c.rest) t (kinds.Keyword Ticks) place (tells_keyword Ticks t.kind code) c.place
+          ∙ ticks_place (leaf_of t) c.form c.rest;
       within = ticks_within most.tokens (leaf_of t) c.form c.within;
       fits = more_of most n ss c.rest c.fits;
     }
 duration_case most n ss ts later t next place fits (inr (inr none)) = absurd none
 
+-- a duration
 pub to_duration : (most : Limits) (n u : ℕ) (ss : List Sym) (ts : List Lexed) → Fits most n u (table.duration ∷ ss) ts
     → Split most n ss ts duration_text (DurationWithin most.tokens)
 to_duration most zero u ss ts fits = absurd fits
@@ -201,6 +159,7 @@ pitch_case most n ss ts later t next place fits (inr (inl (code, same))) =
     }
 pitch_case most n ss ts later t next place fits (inr (inr none)) = absurd none
 
+-- a pitch
 pub to_pitch : (most : Limits) (n u : ℕ) (ss : List Sym) (ts : List Lexed) → Fits most n u (table.pitch ∷ ss) ts
     → Split most n ss ts pitch_text (PitchWithin most.tokens)
 to_pitch most zero u ss ts fits = absurd fits
@@ -225,7 +184,8 @@ part_case most n ss ts later t next place fits (inl (code, same)) =
 part_case most n ss ts later t next place fits (inr (inl (code, same))) =
     let ends = one (kinds.Keyword To) ∷ one any_number ∷ ss in
     let l = to_length most n 0 (one (kinds.Keyword By) ∷ one any_number ∷ ends) later
-    (at_rule most n 0 (table.length ∷ one (kinds.Keyword By) ∷ one any_number ∷ one (kinds.Keyword To) ∷ one any_number ∷ []) next ss later same fits) in
+    (at_rule most n 0 (table.length ∷ one (kinds.Keyword By) ∷ one any_number ∷ one (kinds.Keyword To) ∷ one any_number ∷ []) next ss
+    later same fits) in
     let b = to_sign most (kinds.Keyword By) (tells_keyword By) n 0 (one any_number ∷ ends) l.rest l.fits in
     let v = to_num most n 0 ends b.rest b.fits in
     let o = to_sign most (kinds.Keyword To) (tells_keyword To) n 0 (one any_number ∷ ss) v.rest v.fits in
@@ -256,75 +216,9 @@ part_case most n ss ts later t next place fits (inr (inr (inr (inl (code, same))
     }
 part_case most n ss ts later t next place fits (inr (inr (inr (inr none)))) = absurd none
 
+-- a part of a shape
 pub to_part : (most : Limits) (n u : ℕ) (ss : List Sym) (ts : List Lexed) → Fits most n u (table.part ∷ ss) ts
     → Split most n ss ts part_text Free
 to_part most zero u ss ts fits = absurd fits
 to_part most (suc n) u ss ts fits =
     let r = ruled most n u table.part ss ts refl fits in part_case most n ss ts r.rest r.token r.next r.place r.fits r.rule
-
--- ---- lists
-
--- what fits the symbol of an item is the tokens of an item
-abbrev pub ToItem : Limits → Item → {A : Type 0} → (A → List Lexed → List Lexed) → (A → Type 0) → Type 0
-ToItem most i {A} text Within = (n u : ℕ) (ss : List Sym) (ts : List Lexed) → Fits most n u (table.item i ∷ ss) ts
-    → Split most n ss ts text Within
-
-to_mores : {A : Type 0} (most : Limits) (i : Item) (text : A → List Lexed → List Lexed) (Within : A → Type 0) → ToItem most i text Within
-    → (n u : ℕ) (ss : List Sym) (ts : List Lexed) → Fits most n u (table.mores i ∷ ss) ts
-    → Split most n ss ts (mores_text text) (MoresWithin Within)
-to_mores most i text Within to_item zero u ss ts fits = absurd fits
-to_mores most i text Within to_item (suc n) u ss ts (inr l) = record {
-  form = no_more;
-  rest = ts;
-  place = refl;
-  within = tt;
-  fits = more_of most n ss ts l.fits;
-}
-to_mores {A} most i text Within to_item (suc n) u ss ts (inl t) =
-    by (ruled_take most n u (table.mores i) ss ts t) (λ later. to_mores most i text Within to_item n 0 ss later)
-  where
-    by : Ruled most n 0 (table.mores i) ss ts
-        → ((later : List Lexed) → Fits most n 0 (table.mores i ∷ ss) later → Split most n ss later (mores_text text) (MoresWithin Within))
-        → Split most (suc n) ss ts (mores_text text) (MoresWithin Within)
-    by r on = comma_case r.rule
-      where
-        comma_case : In (kind_code r.token.kind) r.next (rules_of (table.mores i)) → Split most (suc n) ss ts (mores_text text) (MoresWithin Within)
-        comma_case (inl (code, same)) =
-            let x = to_item n 0 (table.mores i ∷ ss) r.rest (at_rule most n 0 (table.listed i []) r.next ss r.rest same r.fits) in
-            let xs = on x.rest x.fits in record {
-              form = more (leaf_of r.token) x.form xs.form;
-              rest = xs.rest;
-              place = with_token ts r.rest _ r.token comma r.place (tells_symbol 44 r.token.kind code) (x.place ∙ ap (λ (y : List Lexed). text x.form y) xs.place);
-              within = (x.within, xs.within);
-              fits = more_of most n ss xs.rest xs.fits;
-            }
-        comma_case (inr none) = absurd none
-
-to_listed : {A : Type 0} (most : Limits) (i : Item) (text : A → List Lexed → List Lexed) (Within : A → Type 0) → ToItem most i text Within
-    → (n u : ℕ) (ss : List Sym) (ts : List Lexed) → Fits most n u (table.listed i ss) ts
-    → Split most n ss ts (listed_text text) (ListedWithin Within)
-to_listed most i text Within to_item n u ss ts fits =
-    let x = to_item n u (table.mores i ∷ ss) ts fits in
-    let xs = to_mores most i text Within to_item n 0 ss x.rest x.fits in record {
-      form = record { first = x.form; others = xs.form };
-      rest = xs.rest;
-      place = x.place ∙ ap (λ (y : List Lexed). text x.form y) xs.place;
-      within = (x.within, xs.within);
-      fits = xs.fits;
-    }
-
-pub to_pitches : (most : Limits) (n u : ℕ) (ss : List Sym) (ts : List Lexed) → Fits most n u (table.listed table.pitches ss) ts
-    → Split most n ss ts (listed_text pitch_text) (ListedWithin (PitchWithin most.tokens))
-to_pitches most n u ss ts fits = to_listed most table.pitches pitch_text (PitchWithin most.tokens) (to_pitch most) n u ss ts fits
-
-pub to_lengths : (most : Limits) (n u : ℕ) (ss : List Sym) (ts : List Lexed) → Fits most n u (table.listed table.lengths ss) ts
-    → Split most n ss ts (listed_text length_text) (ListedWithin Free)
-to_lengths most n u ss ts fits = to_listed most table.lengths length_text Free (to_length most) n u ss ts fits
-
-pub to_numbers : (most : Limits) (n u : ℕ) (ss : List Sym) (ts : List Lexed) → Fits most n u (table.listed table.numbers ss) ts
-    → Split most n ss ts (listed_text num_text) (ListedWithin Free)
-to_numbers most n u ss ts fits = to_listed most table.numbers num_text Free (to_num most) n u ss ts fits
-
-pub to_parts : (most : Limits) (n u : ℕ) (ss : List Sym) (ts : List Lexed) → Fits most n u (table.listed table.parts ss) ts
-    → Split most n ss ts (listed_text part_text) (ListedWithin Free)
-to_parts most n u ss ts fits = to_listed most table.parts part_text Free (to_part most) n u ss ts fits

@@ -11,7 +11,7 @@ use Rattle.fm_grammar.specs.declared.length.Length.TheVariants.{Share, Ticks}
 use Rattle.fm_grammar.specs.declared.part_text.PartText.TheVariants.{Flat, Slope, Pause, Breath}
 use Rattle.fm_grammar.specs.Score.{Leaf, Postfix, Score}
 use Rattle.fm_grammar.specs.Score as tree
-use Rattle.fm_grammar.specs.Grammar.{NumForm, Mores, no_more, more, Listed, share, ticks, flat, slope, pause, breath, times, over, modulo, plus, minus, least, greatest, below, equal, expr, register, index, negate, group, pick, compare, no_term, term, no_sum, sum, negative, fixed, named, keyed, program, bend, channel, volume, gate, artic, loud, no_stmt, stmt, block, no_else, otherwise, no_branch, branch, note, play, rest, skip, control, send, set, choice, repeat, again, call, warp, par, setting, rhythm, cycling, shape, phrase, plays, no_entry, entry, no_seed, seed, ScoreForm}
+use Rattle.fm_grammar.specs.Grammar.{NumForm, Mores, no_more, more, Listed, share, ticks, flat, slope, pause, breath, times, over, modulo, plus, minus, least, greatest, below, equal, expr, register, index, negate, group, pick, compare, no_term, term, no_sum, sum, negative, fixed, named, keyed, program, bend, channel, volume, gate, artic, loud, no_stmt, stmt, block, no_else, otherwise, no_branch, branch, note, play, rest, skip, control, send, set, choice, repeat, again, call, warp, par, scope, rhythm, cycling, shape, phrase, plays, no_entry, entry, no_seed, seed, ScoreForm}
 use Rattle.fm_grammar.specs.Grammar as forms
 use Rattle.fm_grammar.specs.Within.{limits}
 use Rattle.fm_grammar.specs.Reads.{Reads}
@@ -166,8 +166,8 @@ blocks_form = record {
       (codes "{") 101) (leaf (codes "branch") 103) (block (leaf (codes "{") 110) no_stmt (leaf (codes "}") 112)) (branch (leaf (codes
       "branch") 114) (block (leaf (codes "{") 121) (stmt (rest (leaf (codes "rest") 123) (fixed (share (number 1 (codes "1") 128) (leaf
       (codes "/") 129) (number 2 (codes "2") 130))) (leaf (codes ";") 131)) no_stmt) (leaf (codes "}") 133)) no_branch) (leaf (codes "}")
-      135))) (entry (plays (setting channel (leaf (codes "channel") 137) (number 15 (codes "15") 145) (block (leaf (codes "{") 148) (stmt
-      (setting volume (leaf (codes "volume") 150) (number 64 (codes "64") 157) (block (leaf (codes "{") 160) (stmt (setting gate (leaf
+      135))) (entry (plays (scope channel (leaf (codes "channel") 137) (number 15 (codes "15") 145) (block (leaf (codes "{") 148) (stmt
+      (scope volume (leaf (codes "volume") 150) (number 64 (codes "64") 157) (block (leaf (codes "{") 160) (stmt (scope gate (leaf
       (codes "gate") 162) (number 90 (codes "90") 167) (block (leaf (codes "{") 170) no_stmt (leaf (codes "}") 172))) no_stmt) (leaf
       (codes "}") 174))) no_stmt) (leaf (codes "}") 176)))) (entry (plays (rhythm (leaf (codes "rhythm") 178) (leaf (codes "[") 185)
       (listed (share (number 1 (codes "1") 186) (leaf (codes "/") 187) (number 4 (codes "4") 188)) (more (leaf (codes ",") 189) (ticks

@@ -5,7 +5,8 @@ use Rattle.fm_lex.specs.Tokens.{Lexeme, Lexed}
 use Rattle.fm_lex.specs.declared.token.LexFault.{LexFault}
 use Rattle.fm_grammar.specs.Within.{Limits, limits}
 use Rattle.fm_grammar.specs.Reads.{Fault, lexical, expected, too_nested}
-use Rattle.fm_grammar.specs.Table.{Sym, Stack, left_out, feed, peak, want, goes_on, trip_on, trip}
+use Rattle.fm_grammar.specs.Rules.{Sym}
+use Rattle.fm_grammar.specs.Table.{Stack, left_out, feed, peak, want, goes_on, trip_on, trip}
 use Rattle.fm_grammar.proofs.Fits.{Fits, Derives, wider}
 use Rattle.fm_grammar.proofs.Alive.{IsAlive, alive as is_alive}
 use Rattle.fm_grammar.proofs.Least.{filled}
@@ -14,9 +15,11 @@ use Rattle.fm_grammar.proofs.Feeding.{fed, taken}
 
 -- ---- the test of the limits
 
+-- a stack within the limits passes the test
 pub alive_goes : (most : Limits) (st : Stack) → IsAlive most st.used st.syms → goes_on most st ≡ true
 alive_goes most st alive = let peaks = alive.peaks in let wants = alive.wants in grind (arith, nat_tests)
 
+-- and one that passes the test is within them
 pub goes_alive : (most : Limits) (st : Stack) → goes_on most st ≡ true → IsAlive most st.used st.syms
 goes_alive most st goes = record { peaks = grind (arith, nat_tests); wants = grind (arith, nat_tests) }
 
@@ -123,12 +126,14 @@ none_some f same = cc
 token_trips : (u : ℕ) (ss : List Sym) (t : Lexeme) (ts : List Lexed) (f : Fault) (found : Option Stack) → Fine ss
     → IsAlive limits u ss → feed u ss t.kind ≡ found
     → trip_on limits found t.spot (λ st. trip limits st.used st.syms ts) ≡ Some f
-    → ((st : Stack) → Fine st.syms → IsAlive limits st.used st.syms → trip limits st.used st.syms ts ≡ Some f → Tripped st.used st.syms ts f)
+    → ((st : Stack) → Fine st.syms → IsAlive limits st.used st.syms → trip limits st.used st.syms ts ≡ Some f
+    → Tripped st.used st.syms ts f)
     → Tripped u ss (Ok t ∷ ts) f
 token_trips u ss t ts f None fine alive took trips on =
     let same : expected t.spot ≡ f = cc in
     let refused : (most : Limits) (w : List Lexed) → Derives most u ss (Ok t ∷ w) → ⊥ =
-    λ most w derives. (let after = taken most derives.steps u ss t w fine derives.fits in none_stack after.stack (sym took ∙ after.is_fed)) in
+    λ most w derives. (let after = taken most derives.steps u ss t w fine derives.fits in
+    none_stack after.stack (sym took ∙ after.is_fed)) in
     subst (λ (g : Fault). Tripped u ss (Ok t ∷ ts) g) same
     (trips_here u ss (Ok t) ts (expected t.spot) alive (refused limits) (refl, refused))
   where
@@ -150,12 +155,14 @@ token_trips u ss t ts f (Some st) fine alive took trips on = on_limits (goes_on 
         subst (λ (g : Fault). Tripped u ss (Ok t ∷ ts) g) is
         (trips_here u ss (Ok t) ts (too_nested t.spot) alive refused (refl, too_nested_here u ss t st alive took))
 
+-- the first refusal of the table is where the stack refuses
 pub tripped : (ts : List Lexed) (u : ℕ) (ss : List Sym) (f : Fault) → Fine ss → IsAlive limits u ss
     → trip limits u ss ts ≡ Some f → Tripped u ss ts f
 unfolding trip
 tripped [] u ss f fine alive trips = none_some f trips
 tripped (Ok t ∷ ts) u ss f fine alive trips =
-    token_trips u ss t ts f (feed u ss t.kind) fine alive refl trips (λ st fine_st alive_st on. tripped ts st.used st.syms f fine_st alive_st on)
+    token_trips u ss t ts f (feed u ss t.kind) fine alive refl trips
+    (λ st fine_st alive_st on. tripped ts st.used st.syms f fine_st alive_st on)
 tripped (Err e ∷ ts) u ss f fine alive trips =
     let same : lexical e ≡ f = cc in
     subst (λ (g : Fault). Tripped u ss (Err e ∷ ts) g) same
@@ -163,13 +170,15 @@ tripped (Err e ∷ ts) u ss f fine alive trips =
 
 -- ---- what goes on is not refused
 
+-- what fits is not refused
 pub accepted : (ts : List Lexed) (u : ℕ) (ss : List Sym) (w : List Lexed) → Fine ss → Derives limits u ss (ts ++ w)
     → trip limits u ss ts ≡ None
 unfolding trip
 accepted [] u ss w fine derives = refl
 accepted (Ok t ∷ ts) u ss w fine derives =
     let after = taken limits derives.steps u ss t (ts ++ w) fine derives.fits in
-    let goes : goes_on limits after.stack ≡ true = alive_goes limits after.stack (is_alive limits after.stack.used after.stack.syms (ts ++ w) after.derives) in
+    let goes : goes_on limits after.stack ≡ true =
+    alive_goes limits after.stack (is_alive limits after.stack.used after.stack.syms (ts ++ w) after.derives) in
     let is_fed = after.is_fed in
     rw (is_fed, goes) (accepted ts after.stack.used after.stack.syms w (feed_fine u ss t.kind after.stack fine is_fed) after.derives)
 accepted (Err e ∷ ts) u ss w fine derives = absurd (no_fault_fits limits derives.steps u ss e (ts ++ w) derives.fits)
@@ -193,10 +202,12 @@ goes_token u ss t ts (Some st) fine alive took none on = on_limits (goes_on limi
         (later.0, fed limits ss u t (ts ++ later.0) st alive took later.1)
     on_limits false stops = some_none (too_nested t.spot) (rw stops at none)
 
+-- what is not refused goes on
 pub goes_from : (ts : List Lexed) (u : ℕ) (ss : List Sym) → Fine ss → IsAlive limits u ss → trip limits u ss ts ≡ None
     → (w : List Lexed) × Derives limits u ss (ts ++ w)
 unfolding trip
 goes_from [] u ss fine alive none = let some = filled limits ss u alive in (some.tokens, some.derives)
 goes_from (Ok t ∷ ts) u ss fine alive none =
-    goes_token u ss t ts (feed u ss t.kind) fine alive refl none (λ st fine_st alive_st on. goes_from ts st.used st.syms fine_st alive_st on)
+    goes_token u ss t ts (feed u ss t.kind) fine alive refl none
+    (λ st fine_st alive_st on. goes_from ts st.used st.syms fine_st alive_st on)
 goes_from (Err e ∷ ts) u ss fine alive none = cc

@@ -8,7 +8,7 @@ use Rattle.fm_grammar.specs.Score.{Leaf}
 use Rattle.fm_grammar.specs.Grammar.{NumForm}
 use Rattle.fm_grammar.specs.Signs.{tok, num}
 use Rattle.fm_grammar.specs.Spelling.{num_text}
-use Rattle.fm_grammar.specs.Table.{kind_code}
+use Rattle.fm_grammar.specs.Rules.{kind_code}
 
 -- the number of the first token's kind, 0 of a fault and of no token
 abbrev pub first_code : List Lexed → ℕ
@@ -37,14 +37,17 @@ leaf_at d [] = d
 leaf_at d (Ok t ∷ ts) = record { text = t.text; spot = t.spot }
 leaf_at d (Err f ∷ ts) = d
 
+-- equal tokens have equal kinds
 pub same_kind : (k j : Kind) (l m : Leaf) (u v : List Lexed) → tok k l ∷ u ≡ tok j m ∷ v → k ≡ j
 unfolding kind_at
 same_kind k j l m u v same = ap (kind_at k) same
 
+-- and equal bytes and spots
 pub same_leaf : (k j : Kind) (l m : Leaf) (u v : List Lexed) → tok k l ∷ u ≡ tok j m ∷ v → l ≡ m
 unfolding leaf_at
 same_leaf k j l m u v same = ap (leaf_at l) same
 
+-- behind equal tokens the rests are equal
 pub same_rest : (x y : Lexed) (u v : List Lexed) → x ∷ u ≡ y ∷ v → u ≡ v
 same_rest x y u v same = cc
 
@@ -61,6 +64,7 @@ number_form v l = record { value = v; leaf = l }
 num_same : (a b : ℕ) (l m : Leaf) → a ≡ b → l ≡ m → number_form a l ≡ number_form b m
 num_same a b l m values leaves = ap (λ (v : ℕ). number_form v l) values ∙ ap (λ (x : Leaf). number_form b x) leaves
 
+-- equal numbers
 pub same_num : (n m : NumForm) (u v : List Lexed) → num n ∷ u ≡ num m ∷ v → n ≡ m
 unfolding number_of
 same_num n m u v same =
@@ -73,10 +77,12 @@ pub same_register : (n m : ℕ) (l k : Leaf) (u v : List Lexed) → tok (Registe
 unfolding number_of
 same_register n m l k u v same = ap number_of (same_kind (Register n) (Register m) l k u v same)
 
+-- equal indices
 pub same_index : (n m : ℕ) (l k : Leaf) (u v : List Lexed) → tok (Index n) l ∷ u ≡ tok (Index m) k ∷ v → n ≡ m
 unfolding number_of
 same_index n m l k u v same = ap number_of (same_kind (Index n) (Index m) l k u v same)
 
+-- equal pitches
 pub same_pitch : (n m : ℕ) (l k : Leaf) (u v : List Lexed) → tok (Pitch n) l ∷ u ≡ tok (Pitch m) k ∷ v → n ≡ m
 unfolding number_of
 same_pitch n m l k u v same = ap number_of (same_kind (Pitch n) (Pitch m) l k u v same)
@@ -87,10 +93,12 @@ same_pitch n m l k u v same = ap number_of (same_kind (Pitch n) (Pitch m) l k u 
 abbrev pub Apart : List ℕ → List Lexed → Type 0
 Apart codes ts = one_of (first_code ts) codes ≡ false
 
+-- a text that begins with none of these kinds is no text that does
 pub clash : {P : Type 0} (codes : List ℕ) (u w : List Lexed) → Apart codes u → u ≡ w → one_of (first_code w) codes ≡ true → P
 clash codes u w apart same is = absurd (true≢false (sym is ∙ ap (λ (x : List Lexed). one_of (first_code x) codes) (sym same) ∙ apart))
 
 -- ---- values
 
+-- a number
 pub unique_num : (x y : NumForm) (u v : List Lexed) → num_text x u ≡ num_text y v → Agree x y u v
 unique_num x y u v same = record { forms = same_num x y u v same; rests = same_rest (num x) (num y) u v same }

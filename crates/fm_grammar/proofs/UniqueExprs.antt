@@ -5,12 +5,12 @@ use Rattle.fm_lex.specs.Tokens.{Lexed}
 use Rattle.fm_lex.specs.declared.kind.Kind.TheVariants.{Name, Number, Pitch, Register, Index, End}
 use Rattle.fm_lex.specs.declared.kind.Kind.TheVariants as kinds
 use Rattle.fm_lex.specs.declared.keyword.Keyword.TheVariants.{Pick}
-use Rattle.fm_grammar.specs.Grammar.{NumForm, Mores, no_more, more, Listed, LengthForm, share, ticks, PartForm, flat, slope, pause, breath, Scaling, times, over, modulo, Adding, plus, minus, Comparing, least, greatest, below, equal, ExprForm, expr, FactorForm, register, index, negate, group, pick, compare, TermsForm, no_term, term, SumsForm, no_sum, sum, AmountForm, negative, DurationForm, fixed, PitchForm, named, keyed, Sending, program, bend, Setting, channel, volume, gate, Cycling, artic, loud, StmtsForm, no_stmt, stmt, BlockForm, block, ElseForm, no_else, otherwise, BranchesForm, no_branch, branch, StmtForm, note, play, rest, skip, control, send, set, choice, repeat, again, call, warp, par, setting, rhythm, cycling, EntryForm, shape, phrase, plays, EntriesForm, no_entry, entry, SeedForm, no_seed, seed, ScoreForm}
+use Rattle.fm_grammar.specs.Grammar.{NumForm, Mores, no_more, more, Listed, LengthForm, share, ticks, PartForm, flat, slope, pause, breath, Scaling, times, over, modulo, Adding, plus, minus, Comparing, least, greatest, below, equal, ExprForm, expr, FactorForm, register, index, negate, group, pick, compare, TermsForm, no_term, term, SumsForm, no_sum, sum, AmountForm, negative, DurationForm, fixed, PitchForm, named, keyed, Sending, program, bend, Scoping, channel, volume, gate, Cycling, artic, loud, StmtsForm, no_stmt, stmt, BlockForm, block, ElseForm, no_else, otherwise, BranchesForm, no_branch, branch, StmtForm, note, play, rest, skip, control, send, set, choice, repeat, again, call, warp, par, scope, rhythm, cycling, EntryForm, shape, phrase, plays, EntriesForm, no_entry, entry, SeedForm, no_seed, seed, ScoreForm}
 use Rattle.fm_grammar.specs.Grammar as forms
 use Rattle.fm_grammar.specs.Signs.{open_parenthesis, close_parenthesis, comma, slash, plus_sign, minus_sign, asterisk, percent, tok}
 use Rattle.fm_grammar.specs.Spelling.{scaling_kind, adding_kind, comparing_word, expr_text, factor_text, terms_text, sums_text}
 use Rattle.std.specs.Prelude.{if◌then◌else◌, ◌==◌}
-use Rattle.fm_grammar.specs.Table.{kind_code, any_number, any_register, any_index}
+use Rattle.fm_grammar.specs.Rules.{kind_code, any_number, any_register, any_index}
 use Rattle.fm_grammar.proofs.Unique.{first_code, Agree, same_kind, same_leaf, same_rest, same_num, same_register, same_index, Apart, clash}
 
 -- the operators between factors
@@ -100,7 +100,8 @@ same_tag f g u v same =
     sym (tag_first f u) ∙ ap (λ (x : List Lexed). tag_at (first_code x)) same ∙ tag_first g v
 
 mutual
-  pub unique_expr : (x y : ExprForm) (u v : List Lexed) → Apart operators u → Apart operators v → expr_text x u ≡ expr_text y v → Agree x y u v
+  pub unique_expr : (x y : ExprForm) (u v : List Lexed) → Apart operators u → Apart operators v → expr_text x u ≡ expr_text y v
+      → Agree x y u v
   unique_expr (expr f ts ss) (expr g rs qs) u v p q same =
       let factors = unique_factor f g _ _ same in
       let scaled = unique_terms ts rs _ _ (sums_apart ss u p) (sums_apart qs v q) factors.rests in
@@ -136,11 +137,14 @@ mutual
       let closes : c ≡ q = same_leaf close_parenthesis close_parenthesis c q u v inside.rests in
       record { forms = cc; rests = same_rest _ _ u v inside.rests }
   unique_factor (compare f w o a m b c) (compare g x p d n e q) u v same =
-      let which : f ≡ g = same_comparing f g (same_kind (kinds.Keyword (comparing_word f)) (kinds.Keyword (comparing_word g)) w x _ _ same) in
+      let which : f ≡ g =
+      same_comparing f g (same_kind (kinds.Keyword (comparing_word f)) (kinds.Keyword (comparing_word g)) w x _ _ same) in
       let word : w ≡ x = same_leaf (kinds.Keyword (comparing_word f)) (kinds.Keyword (comparing_word g)) w x _ _ same in
       let behind = same_rest _ _ _ _ same in
       let opens : o ≡ p = same_leaf open_parenthesis open_parenthesis o p _ _ behind in
-      let left = unique_expr a d (tok comma m ∷ expr_text b (tok close_parenthesis c ∷ u)) (tok comma n ∷ expr_text e (tok close_parenthesis q ∷ v)) refl refl
+      let left =
+      unique_expr a d (tok comma m ∷ expr_text b (tok close_parenthesis c ∷ u))
+      (tok comma n ∷ expr_text e (tok close_parenthesis q ∷ v)) refl refl
       (same_rest _ _ _ _ behind) in
       let middle : m ≡ n = same_leaf comma comma m n _ _ left.rests in
       let right = unique_expr b e (tok close_parenthesis c ∷ u) (tok close_parenthesis q ∷ v) refl refl (same_rest _ _ _ _ left.rests) in
@@ -148,7 +152,8 @@ mutual
       record { forms = cc; rests = same_rest _ _ u v right.rests }
   unique_factor f g u v same = absurd (omega (arith, same_tag f g u v same))
 
-  unique_terms : (x y : TermsForm) (u v : List Lexed) → Apart scalings u → Apart scalings v → terms_text x u ≡ terms_text y v → Agree x y u v
+  unique_terms : (x y : TermsForm) (u v : List Lexed) → Apart scalings u → Apart scalings v → terms_text x u ≡ terms_text y v
+      → Agree x y u v
   unique_terms no_term no_term u v p q same = record { forms = refl; rests = same }
   unique_terms no_term (term s l f ts) u v p q same = clash scalings u _ p same (scaling_in s)
   unique_terms (term s l f ts) no_term u v p q same = clash scalings v _ q (sym same) (scaling_in s)
@@ -159,7 +164,8 @@ mutual
       let later = unique_terms ts rs u v p q factors.rests in
       record { forms = cc; rests = later.rests }
 
-  unique_sums : (x y : SumsForm) (u v : List Lexed) → Apart operators u → Apart operators v → sums_text x u ≡ sums_text y v → Agree x y u v
+  unique_sums : (x y : SumsForm) (u v : List Lexed) → Apart operators u → Apart operators v → sums_text x u ≡ sums_text y v
+      → Agree x y u v
   unique_sums no_sum no_sum u v p q same = record { forms = refl; rests = same }
   unique_sums no_sum (sum a l f ts ss) u v p q same = clash operators u _ p same (adding_in a)
   unique_sums (sum a l f ts ss) no_sum u v p q same = clash operators v _ q (sym same) (adding_in a)

@@ -95,10 +95,10 @@ pub data Sending : Type 0 where
   bend : Sending
 
 -- "channel" | "volume" | "gate"
-pub data Setting : Type 0 where
-  channel : Setting
-  volume : Setting
-  gate : Setting
+pub data Scoping : Type 0 where
+  channel : Scoping
+  volume : Scoping
+  gate : Scoping
 
 -- "artic" | "loud"
 pub data Cycling : Type 0 where
@@ -140,7 +140,7 @@ mutual
     call : (word name ends : Leaf) → StmtForm
     warp : (word name : Leaf) → BlockForm → StmtForm
     par : (word opens first : Leaf) → BlockForm → BranchesForm → (closes : Leaf) → StmtForm
-    setting : Setting → (word : Leaf) → NumForm → BlockForm → StmtForm
+    scope : Scoping → (word : Leaf) → NumForm → BlockForm → StmtForm
     rhythm : (word opens : Leaf) → Listed LengthForm → (closes : Leaf) → BlockForm → StmtForm
     cycling : Cycling → (word opens : Leaf) → Listed NumForm → (closes : Leaf) → BlockForm → StmtForm
 

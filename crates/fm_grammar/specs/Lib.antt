@@ -5,5 +5,6 @@ pub mod Spelling
 pub mod Standing
 pub mod Within
 pub mod Reads
+pub mod Rules
 pub mod Table
 pub mod View

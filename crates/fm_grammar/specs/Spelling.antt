@@ -5,7 +5,7 @@ use Rattle.fm_lex.specs.declared.kind.Kind.TheVariants.{Name, Pitch, Register, I
 use Rattle.fm_lex.specs.declared.keyword.Keyword.{Keyword}
 use Rattle.fm_lex.specs.declared.keyword.Keyword.TheVariants.{Formula, Seed, Shape, Flat, By, Slope, To, Pause, Breath, Ticks, Phrase, Note, Play, Rest, Skip, Control, Program, Bend, Set, If, Else, Repeat, Max, Do, Par, Branch, Warp, Channel, Volume, Gate, Rhythm, Artic, Loud, Key, Pick, Min, Less, Same}
 use Rattle.fm_lex.specs.Tokens.{Lexed}
-use Rattle.fm_grammar.specs.Grammar.{NumForm, Mores, no_more, more, Listed, LengthForm, share, ticks, PartForm, flat, slope, pause, breath, Scaling, times, over, modulo, Adding, plus, minus, Comparing, least, greatest, below, equal, ExprForm, expr, FactorForm, register, index, negate, group, pick, compare, TermsForm, no_term, term, SumsForm, no_sum, sum, AmountForm, negative, DurationForm, fixed, PitchForm, named, keyed, Sending, program, bend, Setting, channel, volume, gate, Cycling, artic, loud, StmtsForm, no_stmt, stmt, BlockForm, block, ElseForm, no_else, otherwise, BranchesForm, no_branch, branch, StmtForm, note, play, rest, skip, control, send, set, choice, repeat, again, call, warp, par, setting, rhythm, cycling, EntryForm, shape, phrase, plays, EntriesForm, no_entry, entry, SeedForm, no_seed, seed, ScoreForm}
+use Rattle.fm_grammar.specs.Grammar.{NumForm, Mores, no_more, more, Listed, LengthForm, share, ticks, PartForm, flat, slope, pause, breath, Scaling, times, over, modulo, Adding, plus, minus, Comparing, least, greatest, below, equal, ExprForm, expr, FactorForm, register, index, negate, group, pick, compare, TermsForm, no_term, term, SumsForm, no_sum, sum, AmountForm, negative, DurationForm, fixed, PitchForm, named, keyed, Sending, program, bend, Scoping, channel, volume, gate, Cycling, artic, loud, StmtsForm, no_stmt, stmt, BlockForm, block, ElseForm, no_else, otherwise, BranchesForm, no_branch, branch, StmtForm, note, play, rest, skip, control, send, set, choice, repeat, again, call, warp, par, scope, rhythm, cycling, EntryForm, shape, phrase, plays, EntriesForm, no_entry, entry, SeedForm, no_seed, seed, ScoreForm}
 use Rattle.fm_grammar.specs.Grammar as forms
 use Rattle.fm_grammar.specs.Signs.{semicolon, open_brace, close_brace, open_parenthesis, close_parenthesis, open_bracket, close_bracket, comma, equals, slash, plus_sign, minus_sign, asterisk, percent, tok, key, num}
 
@@ -104,10 +104,10 @@ sending_word program = Program
 sending_word bend = Bend
 
 -- of a block with one number
-abbrev pub setting_word : Setting → Keyword
-setting_word channel = Channel
-setting_word volume = Volume
-setting_word gate = Gate
+abbrev pub scoping_word : Scoping → Keyword
+scoping_word channel = Channel
+scoping_word volume = Volume
+scoping_word gate = Gate
 
 -- of a block with a list of numbers
 abbrev pub cycling_word : Cycling → Keyword
@@ -154,7 +154,7 @@ abbrev mutual
   stmt_text (warp w n b) next = key Warp w ∷ tok Name n ∷ block_text b next
   stmt_text (par w o f b bs c) next =
       key Par w ∷ tok open_brace o ∷ key Branch f ∷ block_text b (branches_text bs (tok close_brace c ∷ next))
-  stmt_text (setting s w n b) next = key (setting_word s) w ∷ num n ∷ block_text b next
+  stmt_text (scope s w n b) next = key (scoping_word s) w ∷ num n ∷ block_text b next
   stmt_text (rhythm w o ls c b) next =
       key Rhythm w ∷ tok open_bracket o ∷ listed_text length_text ls (tok close_bracket c ∷ block_text b next)
   stmt_text (cycling y w o ns c b) next =

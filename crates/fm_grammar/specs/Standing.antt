@@ -11,7 +11,7 @@ use Rattle.fm_grammar.specs.declared.part_text.PartText.{PartText}
 use Rattle.fm_grammar.specs.declared.part_text.PartText.TheVariants.{Flat, Slope, Pause, Breath}
 use Rattle.fm_grammar.specs.Score.{Leaf, Postfix, Duration, Amount, Pitch, Stmt, Body, Branches, Entry, Score}
 use Rattle.fm_grammar.specs.Score as tree
-use Rattle.fm_grammar.specs.Grammar.{NumForm, Mores, no_more, more, Listed, LengthForm, share, ticks, PartForm, flat, slope, pause, breath, Scaling, times, over, modulo, Adding, plus, minus, Comparing, least, greatest, below, equal, ExprForm, expr, FactorForm, register, index, negate, group, pick, compare, TermsForm, no_term, term, SumsForm, no_sum, sum, AmountForm, negative, DurationForm, fixed, PitchForm, named, keyed, Sending, program, bend, Setting, channel, volume, gate, Cycling, artic, loud, StmtsForm, no_stmt, stmt, BlockForm, block, ElseForm, no_else, otherwise, BranchesForm, no_branch, branch, StmtForm, note, play, rest, skip, control, send, set, choice, repeat, again, call, warp, par, setting, rhythm, cycling, EntryForm, shape, phrase, plays, EntriesForm, no_entry, entry, SeedForm, no_seed, seed, ScoreForm}
+use Rattle.fm_grammar.specs.Grammar.{NumForm, Mores, no_more, more, Listed, LengthForm, share, ticks, PartForm, flat, slope, pause, breath, Scaling, times, over, modulo, Adding, plus, minus, Comparing, least, greatest, below, equal, ExprForm, expr, FactorForm, register, index, negate, group, pick, compare, TermsForm, no_term, term, SumsForm, no_sum, sum, AmountForm, negative, DurationForm, fixed, PitchForm, named, keyed, Sending, program, bend, Scoping, channel, volume, gate, Cycling, artic, loud, StmtsForm, no_stmt, stmt, BlockForm, block, ElseForm, no_else, otherwise, BranchesForm, no_branch, branch, StmtForm, note, play, rest, skip, control, send, set, choice, repeat, again, call, warp, par, scope, rhythm, cycling, EntryForm, shape, phrase, plays, EntriesForm, no_entry, entry, SeedForm, no_seed, seed, ScoreForm}
 use Rattle.fm_grammar.specs.Grammar as forms
 
 -- a number
@@ -118,10 +118,10 @@ sending_tree program a = tree.program a
 sending_tree bend a = tree.bend a
 
 -- a block with one number
-abbrev pub setting_tree : Setting → Number → Body → Stmt
-setting_tree channel n b = tree.channel n b
-setting_tree volume n b = tree.volume n b
-setting_tree gate n b = tree.gate n b
+abbrev pub scoping_tree : Scoping → Number → Body → Stmt
+scoping_tree channel n b = tree.channel n b
+scoping_tree volume n b = tree.volume n b
+scoping_tree gate n b = tree.gate n b
 
 -- a block with a list of numbers
 abbrev pub cycling_tree : Cycling → List Number → Body → Stmt
@@ -143,7 +143,7 @@ stmt_spot (again w o x c m n b) = w.spot
 stmt_spot (call w n e) = w.spot
 stmt_spot (warp w n b) = w.spot
 stmt_spot (par w o f b bs c) = w.spot
-stmt_spot (setting s w n b) = w.spot
+stmt_spot (scope s w n b) = w.spot
 stmt_spot (rhythm w o ls c b) = w.spot
 stmt_spot (cycling y w o ns c b) = w.spot
 
@@ -183,7 +183,7 @@ abbrev mutual
   stmt_tree (call w n e) = tree.call n
   stmt_tree (warp w n b) = tree.warp n (block_tree b)
   stmt_tree (par w o f b bs c) = tree.par (tree.branch (block_tree b) (branches_tree bs))
-  stmt_tree (setting s w n b) = setting_tree s (num_tree n) (block_tree b)
+  stmt_tree (scope s w n b) = scoping_tree s (num_tree n) (block_tree b)
   stmt_tree (rhythm w o ls c b) = tree.rhythm (listed_tree length_tree ls) (block_tree b)
   stmt_tree (cycling y w o ns c b) = cycling_tree y (listed_tree num_tree ns) (block_tree b)
 

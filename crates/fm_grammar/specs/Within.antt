@@ -1,6 +1,6 @@
 -- The two limits that belong to the grammar, and the forms that keep them.
 use Rattle.std.specs.Prelude.{ℕ, suc, ◌+◌, ◌≤◌}
-use Rattle.fm_grammar.specs.Grammar.{NumForm, Mores, no_more, more, Listed, ExprForm, expr, FactorForm, register, index, negate, group, pick, compare, TermsForm, no_term, term, SumsForm, no_sum, sum, AmountForm, negative, DurationForm, fixed, PitchForm, named, keyed, StmtsForm, no_stmt, stmt, BlockForm, block, ElseForm, no_else, otherwise, BranchesForm, no_branch, branch, StmtForm, note, play, rest, skip, control, send, set, choice, repeat, again, call, warp, par, setting, rhythm, cycling, EntryForm, shape, phrase, plays, EntriesForm, no_entry, entry}
+use Rattle.fm_grammar.specs.Grammar.{NumForm, Mores, no_more, more, Listed, ExprForm, expr, FactorForm, register, index, negate, group, pick, compare, TermsForm, no_term, term, SumsForm, no_sum, sum, AmountForm, negative, DurationForm, fixed, PitchForm, named, keyed, StmtsForm, no_stmt, stmt, BlockForm, block, ElseForm, no_else, otherwise, BranchesForm, no_branch, branch, StmtForm, note, play, rest, skip, control, send, set, choice, repeat, again, call, warp, par, scope, rhythm, cycling, EntryForm, shape, phrase, plays, EntriesForm, no_entry, entry}
 use Rattle.fm_grammar.specs.Grammar as forms
 
 -- the most braces that are open at one time, and the most tokens of an outermost expression
@@ -104,7 +104,7 @@ abbrev mutual
   StmtWithin most depth (warp w n b) = BlockWithin most depth b
   StmtWithin most depth (par w o f b bs c) =
       (suc depth ≤ most.braces) × BlockWithin most (suc depth) b × BranchesWithin most (suc depth) bs
-  StmtWithin most depth (setting s w n b) = BlockWithin most depth b
+  StmtWithin most depth (scope s w n b) = BlockWithin most depth b
   StmtWithin most depth (rhythm w o ls c b) = BlockWithin most depth b
   StmtWithin most depth (cycling y w o ns c b) = BlockWithin most depth b
 

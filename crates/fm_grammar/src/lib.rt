@@ -1,8 +1,9 @@
-//! The grammar of score texts: the tree `Score` of a text, and, in `specs`, which score a text reads as
-//! (`Reads`) and at which token a text trips (`Trips`), by derivations within the two limits that belong to
-//! the grammar. A contract sees a tree as plain data, through `score_view` of `specs/View`. The laws say that a
-//! text reads as at most one score or trips at exactly one token, and that the table for one token of
-//! look-ahead (`specs/Table`) is exactly the grammar. The parser stands above.
+//! The grammar of score texts: the tree `Score` of a text, and, in `specs`, which score a text
+//! reads as (`Reads`) and at which token a text trips (`Trips`), by derivations within the two
+//! limits that belong to the grammar. A contract sees a tree as plain data, through `score_view` of
+//! `specs/View`. The laws say that a text reads as one score or trips at one token, and that the
+//! table for one token of look-ahead (`specs/Table`) is exactly the grammar. The parser stands
+//! above.
 #![tactic(auto)]
 
 mod amount;
@@ -30,3 +31,6 @@ pub use number::Number;
 pub use part_text::PartText;
 pub use pitch::Pitch;
 pub use score::Score;
+
+#[cfg(test)]
+mod tests;

@@ -3,8 +3,8 @@
 use crate::length::Length;
 use crate::number::Number;
 
-/// A part of a time deformation: `flat` and `slope` have a length and stretches in thousandths, a pause
-/// delays all that follows, a breath all but the note-offs at its place.
+/// A part of a time deformation: `flat` and `slope` have a length and stretches in thousandths, a
+/// pause delays all that follows, a breath all but the note-offs at its place.
 #[derive(Clone, Copy, Debug, PartialEq, Eq)]
 pub enum PartText {
     Flat {

@@ -4,7 +4,7 @@ use Rattle.std.proofs.lemmas.Bool.Decides.{nat_tests}
 use Rattle.fm_lex.specs.declared.spot.Spot.{Spot}
 use Rattle.fm_lex.specs.Bytes.{is_blank, after_byte}
 use Rattle.fm_lex.specs.Tokens.{between, comment, walk}
-use Rattle.fm_lex.specs.Room.{HasRoom}
+use Rattle.fm_lex.specs.Room.{SpotsFit}
 
 -- a blank
 pub walk-blank : (s : Spot) (xs : List ℕ) → 1 ≤ length xs → is_blank (slice_index_or xs 0 0) ≡ true
@@ -41,13 +41,14 @@ walk-comment_end s [] none = refl
 walk-comment_end s (x ∷ xs) none = absurd (omega arith)
 
 -- one byte on, the spots still fit
-pub room_after : (s : Spot) (xs : List ℕ) (x : ℕ) → 1 ≤ length xs → HasRoom s xs
-    → HasRoom (after_byte x s) (drop 1 xs)
+pub room_after : (s : Spot) (xs : List ℕ) (x : ℕ) → 1 ≤ length xs → SpotsFit s xs
+    → SpotsFit (after_byte x s) (drop 1 xs)
 room_after s xs x some room =
     let left : suc (length (drop 1 xs)) ≡ length xs = omega (arith, length-drop 1 xs) in
     let lines = room.lines in
     let columns = room.columns in
-    elim (x == 10) as (λ b. HasRoom (cond b (record { line = s.line + 1; column = 1 }) (record { line = s.line; column = s.column + 1 })) (drop 1 xs))
+    elim (x == 10) as (λ b. SpotsFit (cond b (record { line = s.line + 1; column = 1 }) (record { line = s.line; column = s.column + 1 }))
+    (drop 1 xs))
     [ true ↦ record { lines = omega arith; columns = omega arith } | false ↦ record { lines = omega arith; columns = omega arith } ]
 
 pub ruleset gap_steps = (walk-blank, walk-number_sign, walk-comment, walk-line_feed, walk-comment_end, room_after)

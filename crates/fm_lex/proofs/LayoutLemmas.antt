@@ -12,7 +12,7 @@ use Rattle.fm_lex.specs.Tokens.{Lexeme, Lexed, lexed_at, text_of, between, comme
 use Rattle.fm_lex.specs.Layout.{spot_behind, gap_ends, is_end, Stands, AreTokens}
 use Rattle.fm_lex.specs.Room.{BeginsToken}
 use Rattle.fm_lex.proofs.Gaps.{walk-blank, walk-number_sign, walk-comment}
-use Rattle.fm_lex.proofs.Steps.{walk-listed, walk_goes, inside-ends}
+use Rattle.fm_lex.proofs.Steps.{walk-then_more, walk_goes, inside-ends}
 use Rattle.fm_lex.proofs.Reading.{Case, fault, run, sign, read_case}
 
 -- ---- spots
@@ -143,7 +143,7 @@ here before x xs t k us read goes_on text next =
 laid_case : (before : List ℕ) (x : ℕ) (xs : List ℕ) → BeginsToken (x ∷ xs) → Laid xs
     → Case (spot_behind before) x xs → AreTokens false before (x ∷ xs) (walk between (spot_behind before) (x ∷ xs))
 laid_case before x xs begins laid_xs (fault f is) =
-    rw (walk-listed (spot_behind before) x xs begins, is) (record {
+    rw (walk-then_more (spot_behind before) x xs begins, is) (record {
       gap = [];
       left = x ∷ xs;
       place = refl;
@@ -157,13 +157,13 @@ laid_case before x xs begins laid_xs (run t is) =
     let text : t.text ≡ x ∷ take (prefix_len in_word xs) xs =
     is.text ∙ rw is.first (let up : 1 + prefix_len in_word xs ≡ suc (prefix_len in_word xs) = omega arith in rw up refl) in
     let us : List Lexed = walk inside (after_byte x (spot_behind before)) xs in
-    rw (walk-listed (spot_behind before) x xs begins, is.read, is.first)
+    rw (walk-then_more (spot_behind before) x xs begins, is.read, is.first)
     (first_of before (x ∷ xs) (Ok t) us (walk_goes inside _ xs)
     (here before x xs t (prefix_len in_word xs) us is.read is.goes_on text
     (rw (← spot_behind-append before x) (laid_xs.worded (before ++ x ∷ [])))))
 laid_case before x xs begins laid_xs (sign t is) =
     let us : List Lexed = walk between (after_byte x (spot_behind before)) xs in
-    rw (walk-listed (spot_behind before) x xs begins, is.read, is.first)
+    rw (walk-then_more (spot_behind before) x xs begins, is.read, is.first)
     (first_of before (x ∷ xs) (Ok t) us (walk_goes between _ xs)
     (here before x xs t 0 us is.read is.goes_on is.text
     (rw (append-nil (before ++ x ∷ []), ← spot_behind-append before x) (laid_xs.fresh (before ++ x ∷ [])))))
@@ -239,6 +239,7 @@ laid_byte x xs laid_xs =
       worded = λ before. laid_worded before x xs (in_word x) refl laid_xs (fresh before);
     }
 
+-- the tokens of what is left of a text, in each mode
 pub laid : (xs : List ℕ) → Laid xs
 laid [] = laid_end
 laid (x ∷ xs) = laid_byte x xs (laid xs)

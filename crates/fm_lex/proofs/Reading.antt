@@ -10,7 +10,7 @@ use Rattle.fm_lex.specs.declared.token.LexFault.TheVariants.{BadByte, BadNumber}
 use Rattle.fm_lex.specs.declared.kind.Kind.TheVariants.{Name, Number, Pitch, Register, Index, Symbol}
 use Rattle.fm_lex.specs.declared.kind.Kind.TheVariants as kinds
 use Rattle.fm_lex.specs.declared.keyword.Keyword.{Keyword}
-use Rattle.fm_lex.specs.Words.{or_else, keyword_of, register_of, index_of, pitch_of, word_kind}
+use Rattle.fm_lex.specs.Words.{kind_or, keyword_of, register_of, index_of, pitch_of, word_kind}
 use Rattle.fm_lex.specs.Bytes.{is_digit, is_letter, in_word, is_symbol, one_of, past, decimal}
 use Rattle.fm_lex.specs.Tokens.{Lexeme, most_digits, token, number_from, lexed_at, begins_word}
 use Rattle.fm_lex.specs.Layout.{is_end}
@@ -55,15 +55,15 @@ neither true b none = cc
 
 -- no word is the end
 else_goes_on : {A : Type 0} (kind : A → Kind) (found : Option A) (other : Kind)
-    → ((x : A) → is_end (kind x) ≡ false) → is_end other ≡ false → is_end (or_else kind found other) ≡ false
+    → ((x : A) → is_end (kind x) ≡ false) → is_end other ≡ false → is_end (kind_or kind found other) ≡ false
 else_goes_on kind None other here there = there
 else_goes_on kind (Some x) other here there = here x
 
 word_goes_on : (w : List ℕ) → is_end (word_kind w) ≡ false
 word_goes_on w =
-    let pitch : Kind = or_else Pitch (pitch_of w) Name in
-    let index : Kind = or_else Index (index_of w) pitch in
-    let register : Kind = or_else Register (register_of w) index in
+    let pitch : Kind = kind_or Pitch (pitch_of w) Name in
+    let index : Kind = kind_or Index (index_of w) pitch in
+    let register : Kind = kind_or Register (register_of w) index in
     else_goes_on kinds.Keyword (keyword_of w) register (λ (k : Keyword). refl)
     (else_goes_on Register (register_of w) index (λ (k : ℕ). refl)
     (else_goes_on Index (index_of w) pitch (λ (k : ℕ). refl)
@@ -129,12 +129,14 @@ other_case s x xs false letter digit symbol = fault (BadByte s) (rw (letter, dig
 
 unlettered_case : (s : Spot) (x : ℕ) (xs : List ℕ) (b : Bool) → is_letter x ≡ false → is_digit x ≡ b → Case s x xs
 unlettered_case s x xs true letter digit =
-    digit_case s x xs (nat_lt most_digits (length (take_while is_digit (x ∷ xs))) || begins_word (past is_digit (x ∷ xs))) letter digit refl
+    digit_case s x xs (nat_lt most_digits (length (take_while is_digit (x ∷ xs))) || begins_word (past is_digit (x ∷ xs))) letter digit
+    refl
 unlettered_case s x xs false letter digit = other_case s x xs (is_symbol x) letter digit refl
 
 byte_case : (s : Spot) (x : ℕ) (xs : List ℕ) (b : Bool) → is_letter x ≡ b → Case s x xs
 byte_case s x xs true letter = letter_case s x xs letter
 byte_case s x xs false letter = unlettered_case s x xs (is_digit x) letter refl
 
+-- one of the three cases holds
 pub read_case : (s : Spot) (x : ℕ) (xs : List ℕ) → Case s x xs
 read_case s x xs = byte_case s x xs (is_letter x) refl

@@ -6,7 +6,7 @@ use Rattle.std.proofs.lemmas.Bool.Decides.{nat_tests}
 use Rattle.std.proofs.lemmas.List.Sums.{prefix_len-le-length}
 use Rattle.fm_lex.specs.declared.spot.Spot.{Spot}
 use Rattle.fm_lex.specs.Bytes.{is_digit, in_word, is_blank, after_byte}
-use Rattle.fm_lex.specs.Tokens.{Lexed, Mode, lexed_at, begins_word, between, comment, inside, listed, walk_between, walk_byte, walk, advanced}
+use Rattle.fm_lex.specs.Tokens.{Lexed, Mode, lexed_at, begins_word, between, comment, inside, then_more, walk_between, walk_byte, walk, advanced}
 use Rattle.fm_lex.specs.Room.{BeginsToken}
 
 -- a run of bytes is no longer than the text
@@ -17,6 +17,7 @@ run_within test xs = prefix_len-le-length test xs
 abbrev pub moved : Spot → ℕ → Spot
 moved s n = record { line = s.line; column = s.column + n }
 
+-- no byte further on
 pub moved-zero : (s : Spot) → moved s 0 ≡ s
 moved-zero s = rw add-zero refl
 
@@ -75,10 +76,10 @@ pub word_of_digits : (xs : List ℕ) → begins_word (drop (prefix_len is_digit 
 word_of_digits [] none = refl
 word_of_digits (x ∷ xs) none = digit_on x xs (is_digit x) refl none (word_of_digits xs)
 
--- a token is listed first
-listed-head : (t : Lexed) (more : List Lexed) → listed t more ≡ t ∷ drop 1 (listed t more)
-listed-head (Ok t) more = refl
-listed-head (Err f) more = refl
+-- a token is then_more first
+then_more-head : (t : Lexed) (more : List Lexed) → then_more t more ≡ t ∷ drop 1 (then_more t more)
+then_more-head (Ok t) more = refl
+then_more-head (Err f) more = refl
 
 -- and where more follows it, it is left behind
 pub advanced-cons : (t : Lexed) (more : List Lexed) → 1 ≤ length more → advanced (t ∷ more) ≡ more
@@ -86,30 +87,33 @@ advanced-cons t [] some = absurd (omega arith)
 advanced-cons t (u ∷ us) some = refl
 
 -- the first byte of a token lists that token
-pub walk-listed : (s : Spot) (x : ℕ) (xs : List ℕ) → BeginsToken (x ∷ xs)
+pub walk-then_more : (s : Spot) (x : ℕ) (xs : List ℕ) → BeginsToken (x ∷ xs)
     → walk between s (x ∷ xs)
-    ≡ listed (lexed_at s (x ∷ xs)) (walk (if in_word x then inside else between) (after_byte x s) xs)
+    ≡ then_more (lexed_at s (x ∷ xs)) (walk (if in_word x then inside else between) (after_byte x s) xs)
 unfolding walk
-walk-listed s x xs begins = rw (begins.0, begins.1) refl
+walk-then_more s x xs begins = rw (begins.0, begins.1) refl
 
 -- the walk gives what its text begins with
 pub walk-gives : (s : Spot) (xs : List ℕ) → BeginsToken xs
     → walk between s xs ≡ lexed_at s xs ∷ drop 1 (walk between s xs)
 unfolding walk
 walk-gives s [] begins = refl
-walk-gives s (x ∷ xs) begins = rw (walk-listed s x xs begins) (listed-head (lexed_at s (x ∷ xs)) _)
+walk-gives s (x ∷ xs) begins = rw (walk-then_more s x xs begins) (then_more-head (lexed_at s (x ∷ xs)) _)
 
 -- a walk never comes to nothing
-listed_goes : (t : Lexed) (more : List Lexed) → 1 ≤ length (listed t more)
+listed_goes : (t : Lexed) (more : List Lexed) → 1 ≤ length (then_more t more)
 listed_goes (Ok t) more = omega arith
 listed_goes (Err f) more = omega arith
 
 between_goes : (x : ℕ) (xs : List ℕ) (s : Spot) (go : Mode → List Lexed) → ((mode : Mode) → 1 ≤ length (go mode))
     → 1 ≤ length (walk_between x xs s go)
 between_goes x xs s go goes =
-    elim (is_blank x) as (λ b. 1 ≤ length (if b then go between else if x == 35 then go comment else listed (lexed_at s (x ∷ xs)) (go (if in_word x then inside else between)))) [
+    elim (is_blank x) as
+    (λ b. 1 ≤ length (if b then go between else if x == 35 then go comment else then_more (lexed_at s (x ∷ xs))
+    (go (if in_word x then inside else between)))) [
       | true ↦ goes between
-      | false ↦ elim (x == 35) as (λ b. 1 ≤ length (if b then go comment else listed (lexed_at s (x ∷ xs)) (go (if in_word x then inside else between))))
+      | false ↦ elim (x == 35) as
+          (λ b. 1 ≤ length (if b then go comment else then_more (lexed_at s (x ∷ xs)) (go (if in_word x then inside else between))))
           [ true ↦ goes comment | false ↦ listed_goes (lexed_at s (x ∷ xs)) _ ]
     ]
 
@@ -122,6 +126,7 @@ byte_goes inside x xs s go goes =
     elim (in_word x) as (λ b. 1 ≤ length (if b then go inside else walk_between x xs s go))
     [ true ↦ goes inside | false ↦ between_goes x xs s go goes ]
 
+-- a walk never comes to nothing
 pub walk_goes : (mode : Mode) (s : Spot) (xs : List ℕ) → 1 ≤ length (walk mode s xs)
 unfolding walk
 walk_goes mode s [] = omega arith

@@ -9,7 +9,7 @@ use Rattle.fm_lex.specs.declared.token.LexFault.{LexFault}
 use Rattle.fm_lex.specs.Bytes.{in_word, is_blank, after_byte}
 use Rattle.fm_lex.specs.Tokens.{Lexeme, text_of, lexed_at, between, inside, walk, advanced}
 use Rattle.fm_lex.specs.Room.{BeginsToken}
-use Rattle.fm_lex.proofs.Steps.{moved, moved-zero, walk-inside, inside-more, word_in_line, walk-listed, walk_goes, advanced-cons}
+use Rattle.fm_lex.proofs.Steps.{moved, moved-zero, walk-inside, inside-more, word_in_line, walk-then_more, walk_goes, advanced-cons}
 use Rattle.fm_lex.proofs.Reading.{IsRun, IsSign, Case, fault, run, sign, read_case}
 
 -- the walk from behind a text is the walk from before it, one token on
@@ -23,14 +23,23 @@ behind_end s = rw (moved-zero s) refl
 -- behind a fault the walk stays
 behind_fault : (s : Spot) (x : ℕ) (xs : List ℕ) (f : LexFault) → BeginsToken (x ∷ xs)
     → lexed_at s (x ∷ xs) ≡ Err f → Behind s (x ∷ xs) []
-behind_fault s x xs f begins is = rw (moved-zero s, walk-listed s x xs begins, is) refl
+behind_fault s x xs f begins is = rw (moved-zero s, walk-then_more s x xs begins, is) refl
 
 -- behind a word or a number
 behind_run : (s : Spot) (x : ℕ) (xs : List ℕ) (t : Lexeme) → BeginsToken (x ∷ xs)
     → IsRun s x xs t → Behind s (x ∷ xs) t.text
 behind_run s x xs t begins is =
     let long : length t.text ≡ prefix_len in_word (x ∷ xs) = ap length is.text ∙ length-prefix_len in_word (x ∷ xs) in
-    rw (long, ← walk-inside s (x ∷ xs), inside-more s x xs is.first, walk-listed s x xs begins, is.read, is.first, word_in_line x s is.first)
+    rw (
+      long,
+      ← walk-inside s (x ∷ xs),
+      inside-more s x xs is.first,
+      walk-then_more s x xs begins,
+      is.read,
+      is.first,
+      word_in_line x s
+          is.first,
+    )
     (sym (advanced-cons (Ok t) (walk inside (moved s 1) xs) (walk_goes inside (moved s 1) xs)))
 
 -- behind a symbol
@@ -40,7 +49,7 @@ behind_symbol s x xs t begins is =
     let blank : is_blank x ≡ false = begins.0 in
     let differs : (x == 10) ≡ false = grind (arith, nat_tests) in
     let here : after_byte x s ≡ moved s 1 = rw differs refl in
-    rw (is.text, walk-listed s x xs begins, is.read, is.first, here)
+    rw (is.text, walk-then_more s x xs begins, is.read, is.first, here)
     (sym (advanced-cons (Ok t) (walk between (moved s 1) xs) (walk_goes between (moved s 1) xs)))
 
 behind_case : (s : Spot) (x : ℕ) (xs : List ℕ) → BeginsToken (x ∷ xs) → Case s x xs

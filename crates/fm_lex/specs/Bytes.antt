@@ -38,8 +38,8 @@ abbrev pub past : (ℕ → Bool) → List ℕ → List ℕ
 past test xs = drop (prefix_len test xs) xs
 
 -- the spot of a text's first byte
-abbrev pub start : Spot
-start = record { line = 1; column = 1 }
+abbrev pub first_spot : Spot
+first_spot = record { line = 1; column = 1 }
 
 -- the spot behind a byte: behind a line feed a new line begins
 abbrev pub after_byte : ℕ → Spot → Spot

@@ -31,7 +31,8 @@ is_last (Ok t) = is_end t.kind
 is_last (Err f) = true
 
 -- behind a gap, and behind the bytes before it, a token stands that is read there; what follows comes next
-pub record Stands (in_comment : Bool) (before rest : List ℕ) (t : Lexed) (Next : List ℕ → List ℕ → Type 0) : Type 0 where
+pub record Stands (in_comment : Bool) (before rest : List ℕ) (t : Lexed) (Next : List ℕ → List ℕ
+    → Type 0) : Type 0 where
   pub gap : List ℕ
   pub after : List ℕ
   pub place : rest ≡ gap ++ (text_of t ++ after)

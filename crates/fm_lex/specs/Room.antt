@@ -4,7 +4,7 @@ use Rattle.fm_lex.specs.declared.spot.Spot.{Spot}
 use Rattle.fm_lex.specs.Bytes.{is_digit, is_blank}
 
 -- the spots of a text's bytes and of its end fit 32 bits
-pub record HasRoom (from : Spot) (text : List ℕ) : Type 0 where
+pub record SpotsFit (from : Spot) (text : List ℕ) : Type 0 where
   pub lines : from.line + length text < 2 ^ 32
   pub columns : from.column + length text < 2 ^ 32
 

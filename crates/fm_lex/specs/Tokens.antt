@@ -6,7 +6,7 @@ use Rattle.fm_lex.specs.declared.kind.Kind.TheVariants.{Number, Symbol, End}
 use Rattle.fm_lex.specs.declared.token.LexFault.{LexFault}
 use Rattle.fm_lex.specs.declared.token.LexFault.TheVariants.{BadByte, BadNumber}
 use Rattle.fm_lex.specs.declared.token.Token.{Token}
-use Rattle.fm_lex.specs.Bytes.{is_digit, is_letter, in_word, is_blank, is_symbol, decimal, past, start, after_byte}
+use Rattle.fm_lex.specs.Bytes.{is_digit, is_letter, in_word, is_blank, is_symbol, decimal, past, first_spot, after_byte}
 use Rattle.fm_lex.specs.Words.{word_kind}
 
 -- a token as plain data: its kind, its bytes, and the spot of the first one
@@ -68,16 +68,16 @@ pub data Mode : Type 0 where
   inside : Mode
 
 -- a token and what follows it; behind a fault nothing follows
-abbrev pub listed : Lexed → List Lexed → List Lexed
-listed (Ok t) more = Ok t ∷ more
-listed (Err f) more = Err f ∷ []
+abbrev pub then_more : Lexed → List Lexed → List Lexed
+then_more (Ok t) more = Ok t ∷ more
+then_more (Err f) more = Err f ∷ []
 
 -- a byte between tokens: the first one of a token gives that token
 abbrev pub walk_between : ℕ → List ℕ → Spot → (Mode → List Lexed) → List Lexed
 walk_between x xs s go =
     if is_blank x then go between
     else if x == 35 then go comment
-    else listed (lexed_at s (x ∷ xs)) (go (if in_word x then inside else between))
+    else then_more (lexed_at s (x ∷ xs)) (go (if in_word x then inside else between))
 
 -- a byte in each mode; a comment ends before a line feed, a word and a number before another byte than theirs
 abbrev pub walk_byte : Mode → ℕ → List ℕ → Spot → (Mode → List Lexed) → List Lexed
@@ -92,7 +92,7 @@ walk mode s (x ∷ xs) = walk_byte mode x xs s (λ next. walk next (after_byte x
 
 -- the tokens of a text, to its end or to its first fault
 abbrev pub tokens : List ℕ → List Lexed
-tokens text = walk between start text
+tokens text = walk between first_spot text
 
 -- a list without its first entry; the last entry stays
 abbrev pub advanced : List Lexed → List Lexed

@@ -102,12 +102,12 @@ pitch_of (x ∷ m ∷ o ∷ []) =
 pitch_of w = None
 
 -- the kind that an answer makes, or else the next one
-abbrev pub or_else : {A : Type 0} → (A → Kind) → Option A → Kind → Kind
-or_else kind None other = other
-or_else kind (Some x) other = kind x
+abbrev pub kind_or : {A : Type 0} → (A → Kind) → Option A → Kind → Kind
+kind_or kind None other = other
+kind_or kind (Some x) other = kind x
 
 -- the kind of a word
 abbrev pub word_kind : List ℕ → Kind
 word_kind w =
-    or_else kinds.Keyword (keyword_of w)
-    (or_else Register (register_of w) (or_else Index (index_of w) (or_else Pitch (pitch_of w) Name)))
+    kind_or kinds.Keyword (keyword_of w)
+    (kind_or Register (register_of w) (kind_or Index (index_of w) (kind_or Pitch (pitch_of w) Name)))

@@ -4,7 +4,7 @@ ghost use Rattle.std.specs.Prelude.{◌≡◌, ◌≤◌, ◌<◌, ◌+◌, ◌^
 ghost use Rattle.std.specs.List.{prefix_len};
 ghost use Rattle.fm_lex.specs.Bytes.{is_digit, in_word, decimal, after_byte};
 ghost use Rattle.fm_lex.specs.Tokens.{most_digits, begins_word, lexed_of, text_of, lexed_at, between, comment, walk, tokens, advanced};
-ghost use Rattle.fm_lex.specs.Room.{HasRoom, BeginsToken, BeginsDigit};
+ghost use Rattle.fm_lex.specs.Room.{SpotsFit, BeginsToken, BeginsDigit};
 
 use crate::bytes::{in_word, is_blank, is_digit, is_letter, is_symbol};
 use crate::kind::Kind;
@@ -28,23 +28,23 @@ pub struct Lexer<'s> {
 impl<'s> Model for Lexer<'s> {
     ghost use Rattle.std.specs.Prelude.{List};
     ghost use Rattle.fm_lex.specs.Tokens.{Lexed, between, walk};
-    ghost use Rattle.fm_lex.specs.Room.{HasRoom};
+    ghost use Rattle.fm_lex.specs.Room.{SpotsFit};
 
     ghost Value = { List Lexed };
 
     ghost view = { λ l. walk between l.spot l.rest.now };
 
-    ghost invariant = { λ l. HasRoom l.spot l.rest.now };
+    ghost invariant = { λ l. SpotsFit l.spot l.rest.now };
 }
 
 // What follows the first byte, and its spot.
 #[tactic(auto, using(crate::proofs::Gaps::room_after))]
 fn past_byte(text: &[u8], from: Spot) -> (&[u8], Spot)
     requires some { 1 ≤ length text.now }
-    requires room { HasRoom from text.now }
+    requires room { SpotsFit from text.now }
     ensures rest { result.0.now ≡ drop 1 text.now }
     ensures spot { result.1 ≡ after_byte (slice_index text.now 0) from }
-    ensures room { HasRoom result.1 result.0.now }
+    ensures room { SpotsFit result.1 result.0.now }
 {
     (&text[1..], from.after(text[0]))
 }
@@ -52,9 +52,9 @@ fn past_byte(text: &[u8], from: Spot) -> (&[u8], Spot)
 // What follows a comment, and its spot.
 #[tactic(auto, using(crate::proofs::Gaps::gap_steps))]
 fn skip_comment(text: &[u8], from: Spot) -> (&[u8], Spot)
-    requires { HasRoom from text.now }
+    requires { SpotsFit from text.now }
     ensures same { walk comment from text.now ≡ walk between result.1 result.0.now }
-    ensures room { HasRoom result.1 result.0.now }
+    ensures room { SpotsFit result.1 result.0.now }
     ensures shorter { length result.0.now ≤ length text.now }
 {
     let mut rest = text;
@@ -71,10 +71,10 @@ fn skip_comment(text: &[u8], from: Spot) -> (&[u8], Spot)
 // What follows the blanks and comments at the front, and its spot.
 #[tactic(auto, using(crate::proofs::Gaps::gap_steps))]
 fn skip_gap(text: &[u8], from: Spot) -> (&[u8], Spot)
-    requires { HasRoom from text.now }
+    requires { SpotsFit from text.now }
     ensures same { walk between from text.now ≡ walk between result.1 result.0.now }
     ensures begins { BeginsToken result.0.now }
-    ensures room { HasRoom result.1 result.0.now }
+    ensures room { SpotsFit result.1 result.0.now }
 {
     let mut rest = text;
     let mut spot = from;
@@ -194,11 +194,11 @@ fn length_of(token: &Result<Token, LexFault>) -> usize
 #[tactic(auto, using(crate::proofs::TokenSteps::behind))]
 fn past_token(text: &[u8], from: Spot, size: usize) -> (&[u8], Spot)
     requires begins { BeginsToken text.now }
-    requires room { HasRoom from text.now }
+    requires room { SpotsFit from text.now }
     requires within { size ≤ length text.now }
     requires size { size ≡ length (text_of (lexed_at from text.now)) }
     ensures walk { walk between result.1 result.0.now ≡ advanced (walk between from text.now) }
-    ensures room { HasRoom result.1 result.0.now }
+    ensures room { SpotsFit result.1 result.0.now }
 {
     let to = Spot {
         line: from.line,

@@ -1,7 +1,7 @@
-//! The tokens of a score text, one at a time. `Lexer::next` gives the next token, whose text is a slice
-//! of the source, and takes no memory. The calls of `next` give exactly the list `tokens` of
-//! `specs/Tokens`, which ends with `End` or with the first fault; the last one is given again and again.
-//! What the tokens mean together is the grammar's affair.
+//! The tokens of a score text, one at a time. `Lexer::next` gives the next token, whose text is a
+//! slice of the source, and takes no memory. The calls of `next` give exactly the list `tokens` of
+//! `specs/Tokens`, which ends with `End` or with the first fault; the last one is given again and
+//! again. What the tokens mean together is the grammar's affair.
 #![tactic(auto)]
 
 mod bytes;

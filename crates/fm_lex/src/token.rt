@@ -4,8 +4,8 @@ use crate::kind::Kind;
 use crate::spot::Spot;
 use thiserror::Error;
 
-/// A token: its bytes in the source and the spot of the first one. The end of the text has no bytes, and the spot
-/// after the last byte.
+/// A token: its bytes in the source and the spot of the first one. The end of the text has no
+/// bytes, and the spot after the last byte.
 #[derive(Clone, Copy, Debug)]
 pub struct Token<'s> {
     pub kind: Kind,

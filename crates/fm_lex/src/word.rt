@@ -65,6 +65,7 @@ fn pitch_in(word: &[u8]) -> Option<u8>
     }
 }
 
+/// The kind of a word: a keyword, a register, a loop index, a pitch, or else a name.
 pub fn kind_of(word: &[u8]) -> Kind
     ensures { result ≡ word_kind word.now }
 {
