@@ -1,0 +1,8 @@
+pub mod Checked
+pub mod Chosen
+pub mod Desks
+pub mod Finishing
+pub mod Halls
+pub mod Least
+pub mod Settled
+pub mod Waiting

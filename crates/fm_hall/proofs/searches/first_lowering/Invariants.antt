@@ -1,0 +1,7 @@
+-- It holds of none below.
+use Rattle.std.proofs.Common.{◌≡◌, ℕ, ◌<◌, false}
+use Rattle.fm_progress.specs.Left.{can_lower}
+use Rattle.fm_hall.proofs.searches.first_lowering.Given as goal
+
+abbrev pub invariant-loop-process : goal.invariant-loop-process
+invariant-loop-process l = (q : ℕ) → q < l.process → can_lower l.rules l.tables.state q ≡ false

@@ -1,0 +1,4 @@
+pub mod Checks
+pub mod Hall
+pub mod Limits
+pub mod Stored

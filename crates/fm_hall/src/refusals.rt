@@ -1,0 +1,323 @@
+//! Why a step is refused: each function tries the tests of one step in their order.
+ghost use Rattle.std.specs.Prelude.{◌≡◌, ◌+◌, ◌^◌, ◌<◌, length, not, ◌&&◌, ◌||◌, nat_lt};
+ghost use Rattle.fm_line.specs.Line.{upper};
+ghost use Rattle.fm_core.specs.Numbers.{any_below};
+ghost use Rattle.fm_core.specs.State.{Setting, held_by, cell};
+ghost use Rattle.fm_core.specs.Floors.{within};
+ghost use Rattle.fm_core.specs.Tags as words;
+ghost use Rattle.fm_core.specs.Steps.{reason, holding, waits, unvisited, wrong_clock, wrong_end};
+ghost use Rattle.fm_core.specs.Invariant.{Sound};
+
+use crate::dues::{is_due, must_be_taken};
+use crate::rules::{Rules, time_at};
+use crate::tables::Tables;
+use crate::tags::{is_claimable, is_ended, is_held, is_out, is_unborn};
+use fm_core::{Cell, Floor, Reason, Step};
+use fm_line::Line;
+
+/// Whether this seat holds the process.
+pub(crate) fn is_held_by(seat: u32, own: Cell) -> bool
+    ensures { result ≡ held_by seat own }
+{
+    is_held(own.tag) && own.seat == seat
+}
+
+/// Whether a seat holds a process.
+pub(crate) fn is_holding(tables: &Tables, seat: u32) -> bool
+    ensures { result ≡ holding tables.now.state seat }
+{
+    for process in 0..tables.processes() {
+        if is_held_by(seat, tables.cell(process)) {
+            return true;
+        }
+    }
+    false
+}
+
+/// Whether some predecessor of a process is not ended.
+pub(crate) fn is_waiting(rules: &Rules, tables: &Tables, process: u32) -> bool
+    requires lined { length tables.now.state.cells ≡ length rules.now.lines }
+    requires process { process < length tables.now.state.cells }
+    ensures { result ≡ waits rules.now tables.now.state process }
+{
+    let predecessors = rules.predecessors(process);
+    for place in 0..predecessors.len() {
+        if !is_ended(tables.cell(predecessors[place]).tag) {
+            return true;
+        }
+    }
+    false
+}
+
+/// Whether some process was not visited since the last publish.
+pub(crate) fn misses_a_visit(tables: &Tables) -> bool
+    ensures { result ≡ any_below (length tables.now.state.cells) (unvisited tables.now.state) }
+{
+    for process in 0..tables.processes() {
+        if !tables.is_visited(process) {
+            return true;
+        }
+    }
+    false
+}
+
+/// Whether a time in ticks is at most the floor plus the lead.
+pub(crate) fn is_within(floor: Floor, lead: u64, time: u64) -> bool
+    ensures { result ≡ within floor lead time }
+{
+    match floor {
+        Floor::At(tick) => time <= tick || time - tick <= lead,
+        Floor::Done => true,
+    }
+}
+
+// Whether one of the events to be computed is above the floor plus the lead.
+fn is_above_lead(own: &Line, from: usize, count: usize, floor: Floor, lead: u64) -> bool
+    requires { from + count < 2 ^ 64 }
+    ensures { result ≡ any_below count (λ i. not (within floor lead (upper own.now (from + i)))) }
+{
+    for index in 0..count {
+        if !is_within(floor, lead, time_at(own, from + index)) {
+            return true;
+        }
+    }
+    false
+}
+
+// Whether more events are to be computed than are left, or any of an ended process.
+fn is_wrong_count(own: &Line, from: Cell, computed: u32) -> bool
+    ensures { result ≡ nat_lt (length own.now.events) (from.computed + computed)
+        || words.is_ended from.tag && nat_lt 0 computed }
+{
+    (own.events.as_slice().len() as u64) < from.computed as u64 + computed as u64
+        || is_ended(from.tag) && 0 < computed
+}
+
+// Whether the outbox, less the taken and with the computed events, passes the room.
+fn is_over_room(room: u32, from: Cell, taken: u32, computed: u32) -> bool
+    ensures { result ≡ nat_lt (room + from.taken + taken) (from.computed + computed) }
+{
+    room as u64 + from.taken as u64 + (taken as u64) < from.computed as u64 + computed as u64
+}
+
+// Whether the clock falls, passes the next event or the end, or moves though ended.
+fn is_wrong_clock(own: &Line, from: Cell, computed: u32, clock: u64) -> bool
+    ensures { result ≡ wrong_clock own.now from computed clock }
+{
+    clock < from.clock
+        || time_at(own, from.computed as usize + computed as usize) < clock
+        || is_ended(from.tag) && clock != from.clock
+}
+
+// Whether an ended process does not stay ended, or one ends too early.
+fn is_wrong_end(own: &Line, from: Cell, computed: u32, clock: u64, ended: bool) -> bool
+    ensures { result ≡ wrong_end own.now from computed clock ended }
+{
+    is_ended(from.tag) && !ended
+        || ended
+            && (from.computed as usize + (computed as usize) < own.events.as_slice().len()
+                || clock != own.end
+                || !from.recorded)
+}
+
+fn why_not_look(tables: &Tables, seat: u32, process: u32) -> Option<Reason>
+    ensures { (g : Setting) → result ≡ reason g tables.now.state (Step.Look seat process) }
+{
+    if seat >= tables.seats() {
+        return Some(Reason::NoSeat);
+    }
+    if process >= tables.processes() {
+        return Some(Reason::NoProcess);
+    }
+    let next = tables.sweep(seat).len();
+    if process != 0 && process as usize != next && process as usize + 1 != next {
+        return Some(Reason::OutOfTurn);
+    }
+    None
+}
+
+fn why_not_claim(tables: &Tables, seat: u32, process: u32) -> Option<Reason>
+    ensures { (g : Setting) → result ≡ reason g tables.now.state (Step.Claim seat process) }
+{
+    if seat >= tables.seats() {
+        return Some(Reason::NoSeat);
+    }
+    if process >= tables.processes() {
+        return Some(Reason::NoProcess);
+    }
+    if is_holding(tables, seat) {
+        return Some(Reason::Holding);
+    }
+    if !is_claimable(seat, tables.cell(process).tag) {
+        return Some(Reason::NotClaimable);
+    }
+    None
+}
+
+fn why_not_start(rules: &Rules, tables: &Tables, seat: u32, process: u32) -> Option<Reason>
+    requires { length tables.now.state.cells ≡ length rules.now.lines }
+    ensures { result ≡ reason rules.now tables.now.state (Step.Start seat process) }
+{
+    if seat >= tables.seats() {
+        return Some(Reason::NoSeat);
+    }
+    if process >= tables.processes() {
+        return Some(Reason::NoProcess);
+    }
+    if is_holding(tables, seat) {
+        return Some(Reason::Holding);
+    }
+    if !is_unborn(tables.cell(process).tag) {
+        return Some(Reason::NotUnborn);
+    }
+    if is_waiting(rules, tables, process) {
+        return Some(Reason::PredecessorLive);
+    }
+    None
+}
+
+fn why_not_record(tables: &Tables, seat: u32, process: u32) -> Option<Reason>
+    ensures { (g : Setting) → result ≡ reason g tables.now.state (Step.Record seat process) }
+{
+    if seat >= tables.seats() {
+        return Some(Reason::NoSeat);
+    }
+    if process >= tables.processes() {
+        return Some(Reason::NoProcess);
+    }
+    let own = tables.cell(process);
+    if !(is_out(own.tag) && own.seat == seat) {
+        return Some(Reason::NotHeld);
+    }
+    None
+}
+
+fn why_not_recall(tables: &Tables, seat: u32, process: u32) -> Option<Reason>
+    ensures { (g : Setting) → result ≡ reason g tables.now.state (Step.Recall seat process) }
+{
+    if seat >= tables.seats() {
+        return Some(Reason::NoSeat);
+    }
+    if process >= tables.processes() {
+        return Some(Reason::NoProcess);
+    }
+    if !is_ended(tables.cell(process).tag) {
+        return Some(Reason::PredecessorLive);
+    }
+    None
+}
+
+fn why_not_give(
+    rules: &Rules,
+    tables: &Tables,
+    seat: u32,
+    process: u32,
+    taken: u32,
+    computed: u32,
+    clock: u64,
+    ended: bool,
+) -> Option<Reason>
+    requires { Sound rules.now tables.now.state }
+    ensures { result ≡ reason rules.now tables.now.state
+        (Step.Give seat process taken computed clock ended) }
+{
+    if seat >= tables.seats() {
+        return Some(Reason::NoSeat);
+    }
+    if process >= tables.processes() {
+        return Some(Reason::NoProcess);
+    }
+    let own = rules.line(process);
+    let from = tables.cell(process);
+    if !is_held_by(seat, from) {
+        return Some(Reason::NotHeld);
+    }
+    if taken != must_be_taken(rules, tables, seat, process) {
+        return Some(Reason::WrongTake);
+    }
+    if is_wrong_count(own, from, computed) {
+        return Some(Reason::WrongCount);
+    }
+    let paced = tables.paced(seat);
+    if is_above_lead(
+        own,
+        from.computed as usize,
+        computed as usize,
+        paced,
+        rules.lead(),
+    ) {
+        return Some(Reason::AboveLead);
+    }
+    if is_over_room(rules.room(), from, taken, computed) {
+        return Some(Reason::OverRoom);
+    }
+    if is_wrong_clock(own, from, computed, clock) {
+        return Some(Reason::WrongClock);
+    }
+    if is_wrong_end(own, from, computed, clock, ended) {
+        return Some(Reason::WrongEnd);
+    }
+    None
+}
+
+fn why_not_publish(tables: &Tables) -> Option<Reason>
+    requires { 0 < length tables.now.state.desks }
+    ensures { (g : Setting) → result ≡ reason g tables.now.state Step.Publish }
+{
+    if tables.sweep(0).len() != tables.processes() as usize {
+        return Some(Reason::NotSwept);
+    }
+    if is_due(tables.due()) {
+        return Some(Reason::StillDue);
+    }
+    None
+}
+
+fn why_not_pace(tables: &Tables, seat: u32) -> Option<Reason>
+    ensures { (g : Setting) → result ≡ reason g tables.now.state (Step.Pace seat) }
+{
+    if seat >= tables.seats() {
+        return Some(Reason::NoSeat);
+    }
+    None
+}
+
+fn why_not_release(tables: &Tables, count: u32) -> Option<Reason>
+    ensures { (g : Setting) → result ≡ reason g tables.now.state (Step.Release count) }
+{
+    if !is_due(tables.due()) {
+        return Some(Reason::NotDue);
+    }
+    if misses_a_visit(tables) {
+        return Some(Reason::NotVisited);
+    }
+    if count as usize != tables.gathered() {
+        return Some(Reason::WrongCount);
+    }
+    None
+}
+
+/// The first reason that refuses a step.
+pub(crate) fn why_not(rules: &Rules, tables: &Tables, step: Step) -> Option<Reason>
+    requires { Sound rules.now tables.now.state }
+    ensures { result ≡ reason rules.now tables.now.state step }
+{
+    match step {
+        Step::Look { seat, process } => why_not_look(tables, seat, process),
+        Step::Claim { seat, process } => why_not_claim(tables, seat, process),
+        Step::Start { seat, process } => why_not_start(rules, tables, seat, process),
+        Step::Record { seat, process } => why_not_record(tables, seat, process),
+        Step::Recall { seat, process } => why_not_recall(tables, seat, process),
+        Step::Give {
+            seat,
+            process,
+            taken,
+            computed,
+            clock,
+            ended,
+        } => why_not_give(rules, tables, seat, process, taken, computed, clock, ended),
+        Step::Publish => why_not_publish(tables),
+        Step::Pace { seat } => why_not_pace(tables, seat),
+        Step::Release { count } => why_not_release(tables, count),
+    }
+}
