@@ -27,13 +27,12 @@ pub stmt_case : (most : Limits) (n : ℕ) → Known most n
     → ts ≡ Ok t ∷ later → Fits most n 0 (rhs ++ ss) later → In (kind_code t.kind) rhs (table.stmt_rules next further)
     → Stmt most n next ss ts ⊎ In (kind_code t.kind) rhs further
 stmt_case most n known next further ss ts later t rhs place fits (inl (code, same)) =
-    let w = leaf_of t in
     let ps = to_pitches most n 0 (table.duration ∷ one semicolon ∷ next ∷ ss) later
     (at_rule most n 0 (table.with_commas table.pitches (table.duration ∷ one semicolon ∷ next ∷ [])) rhs ss later same fits) in
     let d = to_duration most n 0 (one semicolon ∷ next ∷ ss) ps.rest ps.fits in
     let e = to_sign most semicolon (tells_symbol 59) n 0 (next ∷ ss) d.rest d.fits in
     inl (record {
-      form = note w ps.form d.form e.form;
+      form = note (leaf_of t) ps.form d.form e.form;
       rest = e.rest;
       place = with_token ts later _ t (kinds.Keyword Note) place (tells_keyword Note t.kind code)
           (ps.place ∙ ap (λ (x : List Lexed). listed_text pitch_text ps.form x)
@@ -42,12 +41,11 @@ stmt_case most n known next further ss ts later t rhs place fits (inl (code, sam
       fits = e.fits;
     })
 stmt_case most n known next further ss ts later t rhs place fits (inr (inl (code, same))) =
-    let w = leaf_of t in
     let ps = to_pitches most n 0 (one semicolon ∷ next ∷ ss) later
     (at_rule most n 0 (table.with_commas table.pitches (one semicolon ∷ next ∷ [])) rhs ss later same fits) in
     let e = to_sign most semicolon (tells_symbol 59) n 0 (next ∷ ss) ps.rest ps.fits in
     inl (record {
-      form = play w ps.form e.form;
+      form = play (leaf_of t) ps.form e.form;
       rest = e.rest;
       place = with_token ts later _ t (kinds.Keyword Play) place (tells_keyword Play t.kind code)
           (ps.place ∙ ap (λ (x : List Lexed). listed_text pitch_text ps.form x) e.place);
@@ -55,12 +53,11 @@ stmt_case most n known next further ss ts later t rhs place fits (inr (inl (code
       fits = e.fits;
     })
 stmt_case most n known next further ss ts later t rhs place fits (inr (inr (inl (code, same)))) =
-    let w = leaf_of t in
     let d = to_duration most n 0 (one semicolon ∷ next ∷ ss) later
     (at_rule most n 0 (table.duration ∷ one semicolon ∷ next ∷ []) rhs ss later same fits) in
     let e = to_sign most semicolon (tells_symbol 59) n 0 (next ∷ ss) d.rest d.fits in
     inl (record {
-      form = rest w d.form e.form;
+      form = rest (leaf_of t) d.form e.form;
       rest = e.rest;
       place = with_token ts later _ t (kinds.Keyword Rest) place (tells_keyword Rest t.kind code)
           (d.place ∙ ap (λ (x : List Lexed). duration_text d.form x) e.place);
@@ -68,24 +65,22 @@ stmt_case most n known next further ss ts later t rhs place fits (inr (inr (inl 
       fits = e.fits;
     })
 stmt_case most n known next further ss ts later t rhs place fits (inr (inr (inr (inl (code, same))))) =
-    let w = leaf_of t in
     let e = to_sign most semicolon (tells_symbol 59) n 0 (next ∷ ss) later
     (at_rule most n 0 (one semicolon ∷ next ∷ []) rhs ss later same fits) in
     inl (record {
-      form = skip w e.form;
+      form = skip (leaf_of t) e.form;
       rest = e.rest;
-      place = with_token ts later _ t (kinds.Keyword Skip) place (tells_keyword Skip t.kind code) (e.place);
+      place = with_token ts later _ t (kinds.Keyword Skip) place (tells_keyword Skip t.kind code) e.place;
       within = tt;
       fits = e.fits;
     })
 stmt_case most n known next further ss ts later t rhs place fits (inr (inr (inr (inr (inl (code, same)))))) =
-    let w = leaf_of t in
     let c = to_num most n 0 (table.amount ∷ one semicolon ∷ next ∷ ss) later
     (at_rule most n 0 (one any_number ∷ table.amount ∷ one semicolon ∷ next ∷ []) rhs ss later same fits) in
     let a = to_amount most n 0 (one semicolon ∷ next ∷ ss) c.rest c.fits in
     let e = to_sign most semicolon (tells_symbol 59) n 0 (next ∷ ss) a.rest a.fits in
     inl (record {
-      form = control w c.form a.form e.form;
+      form = control (leaf_of t) c.form a.form e.form;
       rest = e.rest;
       place = with_token ts later _ t (kinds.Keyword Control) place (tells_keyword Control t.kind code)
           (c.place ∙ ap (λ (x : List Lexed). num c.form ∷ x) (a.place ∙ ap (λ (x : List Lexed). amount_text a.form x) e.place));
@@ -93,12 +88,11 @@ stmt_case most n known next further ss ts later t rhs place fits (inr (inr (inr 
       fits = e.fits;
     })
 stmt_case most n known next further ss ts later t rhs place fits (inr (inr (inr (inr (inr (inl (code, same))))))) =
-    let w = leaf_of t in
     let a = to_amount most n 0 (one semicolon ∷ next ∷ ss) later
     (at_rule most n 0 (table.amount ∷ one semicolon ∷ next ∷ []) rhs ss later same fits) in
     let e = to_sign most semicolon (tells_symbol 59) n 0 (next ∷ ss) a.rest a.fits in
     inl (record {
-      form = send program w a.form e.form;
+      form = send program (leaf_of t) a.form e.form;
       rest = e.rest;
       place = with_token ts later _ t (kinds.Keyword Program) place (tells_keyword Program t.kind code)
           (a.place ∙ ap (λ (x : List Lexed). amount_text a.form x) e.place);
@@ -106,12 +100,11 @@ stmt_case most n known next further ss ts later t rhs place fits (inr (inr (inr 
       fits = e.fits;
     })
 stmt_case most n known next further ss ts later t rhs place fits (inr (inr (inr (inr (inr (inr (inl (code, same)))))))) =
-    let w = leaf_of t in
     let a = to_amount most n 0 (one semicolon ∷ next ∷ ss) later
     (at_rule most n 0 (table.amount ∷ one semicolon ∷ next ∷ []) rhs ss later same fits) in
     let e = to_sign most semicolon (tells_symbol 59) n 0 (next ∷ ss) a.rest a.fits in
     inl (record {
-      form = send bend w a.form e.form;
+      form = send bend (leaf_of t) a.form e.form;
       rest = e.rest;
       place = with_token ts later _ t (kinds.Keyword Bend) place (tells_keyword Bend t.kind code)
           (a.place ∙ ap (λ (x : List Lexed). amount_text a.form x) e.place);
@@ -119,14 +112,13 @@ stmt_case most n known next further ss ts later t rhs place fits (inr (inr (inr 
       fits = e.fits;
     })
 stmt_case most n known next further ss ts later t rhs place fits (inr (inr (inr (inr (inr (inr (inr (inl (code, same))))))))) =
-    let w = leaf_of t in
     let r = to_register most n 0 (one equals ∷ table.expr (one semicolon ∷ next ∷ ss)) later
     (at_rule most n 0 (one any_register ∷ one equals ∷ table.expr (one semicolon ∷ next ∷ [])) rhs ss later same fits) in
     let q = to_sign most equals (tells_symbol 61) n 0 (table.expr (one semicolon ∷ next ∷ ss)) r.rest r.fits in
     let v = to_expr most n (one semicolon ∷ next ∷ ss) q.rest q.fits in
     let e = to_sign most semicolon (tells_symbol 59) n v.count (next ∷ ss) v.rest v.fits in
     inl (record {
-      form = set w r.form.0 r.form.1 q.form v.form e.form;
+      form = set (leaf_of t) r.form.0 r.form.1 q.form v.form e.form;
       rest = e.rest;
       place = with_token ts later _ t (kinds.Keyword Set) place (tells_keyword Set t.kind code)
           (r.place ∙ ap (λ (x : List Lexed). tok (Register r.form.0) r.form.1 ∷ x)
@@ -135,13 +127,12 @@ stmt_case most n known next further ss ts later t rhs place fits (inr (inr (inr 
       fits = e.fits;
     })
 stmt_case most n known next further ss ts later t rhs place fits (inr (inr (inr (inr (inr (inr (inr (inr (inl (code, same)))))))))) =
-    let w = leaf_of t in
     let v = to_expr most n (table.block (table.otherwise ∷ next ∷ ss)) later
     (at_rule most n 0 (table.expr (table.block (table.otherwise ∷ next ∷ []))) rhs ss later same fits) in
     let b = block_split most n known v.count (table.otherwise ∷ next ∷ ss) v.rest v.fits in
     let o = known.elses 0 (next ∷ ss) b.rest b.fits in
     inl (record {
-      form = choice w v.form b.form o.form;
+      form = choice (leaf_of t) v.form b.form o.form;
       rest = o.rest;
       place = with_token ts later _ t (kinds.Keyword If) place (tells_keyword If t.kind code)
           (v.place ∙ ap (λ (x : List Lexed). expr_text v.form x) (b.place ∙ ap (λ (x : List Lexed). block_text b.form x) o.place));
@@ -150,26 +141,24 @@ stmt_case most n known next further ss ts later t rhs place fits (inr (inr (inr 
     })
 stmt_case most n known next further ss ts later t rhs place fits
     (inr (inr (inr (inr (inr (inr (inr (inr (inr (inl (code, same))))))))))) =
-    let w = leaf_of t in
     let c = to_count most n 0 (table.block (next ∷ ss)) later
     (at_rule most n 0 (table.counted ∷ table.block (next ∷ [])) rhs ss later same fits) in
     let b = block_split most n known 0 (next ∷ ss) c.rest c.fits in
     inl (record {
-      form = repeat_form w c.form b.form;
+      form = repeat_form (leaf_of t) c.form b.form;
       rest = b.rest;
       place = with_token ts later _ t (kinds.Keyword Repeat) place (tells_keyword Repeat t.kind code)
-          (c.place ∙ ap (λ (x : List Lexed). count_text c.form x) b.place) ∙ repeat_place w c.form b.form b.rest;
-      within = repeat_within most (opened (next ∷ ss)) w c.form b.form c.within b.within;
+          (c.place ∙ ap (λ (x : List Lexed). count_text c.form x) b.place) ∙ repeat_place (leaf_of t) c.form b.form b.rest;
+      within = repeat_within most (opened (next ∷ ss)) (leaf_of t) c.form b.form c.within b.within;
       fits = b.fits;
     })
 stmt_case most n known next further ss ts later t rhs place fits
     (inr (inr (inr (inr (inr (inr (inr (inr (inr (inr (inl (code, same)))))))))))) =
-    let w = leaf_of t in
     let m = to_sign most Name tells_name n 0 (one semicolon ∷ next ∷ ss) later
     (at_rule most n 0 (one Name ∷ one semicolon ∷ next ∷ []) rhs ss later same fits) in
     let e = to_sign most semicolon (tells_symbol 59) n 0 (next ∷ ss) m.rest m.fits in
     inl (record {
-      form = call w m.form e.form;
+      form = call (leaf_of t) m.form e.form;
       rest = e.rest;
       place = with_token ts later _ t (kinds.Keyword Do) place (tells_keyword Do t.kind code)
           (m.place ∙ ap (λ (x : List Lexed). tok Name m.form ∷ x) e.place);
@@ -178,12 +167,11 @@ stmt_case most n known next further ss ts later t rhs place fits
     })
 stmt_case most n known next further ss ts later t rhs place fits
     (inr (inr (inr (inr (inr (inr (inr (inr (inr (inr (inr (inl (code, same))))))))))))) =
-    let w = leaf_of t in
     let m = to_sign most Name tells_name n 0 (table.block (next ∷ ss)) later
     (at_rule most n 0 (one Name ∷ table.block (next ∷ [])) rhs ss later same fits) in
     let b = block_split most n known 0 (next ∷ ss) m.rest m.fits in
     inl (record {
-      form = warp w m.form b.form;
+      form = warp (leaf_of t) m.form b.form;
       rest = b.rest;
       place = with_token ts later _ t (kinds.Keyword Warp) place (tells_keyword Warp t.kind code)
           (m.place ∙ ap (λ (x : List Lexed). tok Name m.form ∷ x) b.place);
@@ -192,7 +180,6 @@ stmt_case most n known next further ss ts later t rhs place fits
     })
 stmt_case most n known next further ss ts later t rhs place fits
     (inr (inr (inr (inr (inr (inr (inr (inr (inr (inr (inr (inr (inl (code, same)))))))))))))) =
-    let w = leaf_of t in
     let o = to_sign most open_brace (tells_symbol 123) n 0
     (one (kinds.Keyword Branch) ∷ table.block (table.branches ∷ one close_brace ∷ next ∷ ss)) later
     (at_rule most n 0 (one open_brace ∷ one (kinds.Keyword Branch) ∷ table.block (table.branches ∷ one close_brace ∷ next ∷ [])) rhs
@@ -203,7 +190,7 @@ stmt_case most n known next further ss ts later t rhs place fits
     let bs = known.branches 0 (one close_brace ∷ next ∷ ss) b.rest b.fits in
     let e = to_sign most close_brace (tells_symbol 125) n 0 (next ∷ ss) bs.rest bs.fits in
     inl (record {
-      form = par w o.form f.form b.form bs.form e.form;
+      form = par (leaf_of t) o.form f.form b.form bs.form e.form;
       rest = e.rest;
       place = with_token ts later _ t (kinds.Keyword Par) place (tells_keyword Par t.kind code)
           (o.place ∙ ap (λ (x : List Lexed). tok open_brace o.form ∷ x)
@@ -215,12 +202,11 @@ stmt_case most n known next further ss ts later t rhs place fits
     })
 stmt_case most n known next further ss ts later t rhs place fits
     (inr (inr (inr (inr (inr (inr (inr (inr (inr (inr (inr (inr (inr (inl (code, same))))))))))))))) =
-    let w = leaf_of t in
     let c = to_num most n 0 (table.block (next ∷ ss)) later
     (at_rule most n 0 (one any_number ∷ table.block (next ∷ [])) rhs ss later same fits) in
     let b = block_split most n known 0 (next ∷ ss) c.rest c.fits in
     inl (record {
-      form = scope channel w c.form b.form;
+      form = scope channel (leaf_of t) c.form b.form;
       rest = b.rest;
       place = with_token ts later _ t (kinds.Keyword Channel) place (tells_keyword Channel t.kind code)
           (c.place ∙ ap (λ (x : List Lexed). num c.form ∷ x) b.place);
@@ -229,12 +215,11 @@ stmt_case most n known next further ss ts later t rhs place fits
     })
 stmt_case most n known next further ss ts later t rhs place fits
     (inr (inr (inr (inr (inr (inr (inr (inr (inr (inr (inr (inr (inr (inr (inl (code, same)))))))))))))))) =
-    let w = leaf_of t in
     let c = to_num most n 0 (table.block (next ∷ ss)) later
     (at_rule most n 0 (one any_number ∷ table.block (next ∷ [])) rhs ss later same fits) in
     let b = block_split most n known 0 (next ∷ ss) c.rest c.fits in
     inl (record {
-      form = scope volume w c.form b.form;
+      form = scope volume (leaf_of t) c.form b.form;
       rest = b.rest;
       place = with_token ts later _ t (kinds.Keyword Volume) place (tells_keyword Volume t.kind code)
           (c.place ∙ ap (λ (x : List Lexed). num c.form ∷ x) b.place);
@@ -243,12 +228,11 @@ stmt_case most n known next further ss ts later t rhs place fits
     })
 stmt_case most n known next further ss ts later t rhs place fits
     (inr (inr (inr (inr (inr (inr (inr (inr (inr (inr (inr (inr (inr (inr (inr (inl (code, same))))))))))))))))) =
-    let w = leaf_of t in
     let c = to_num most n 0 (table.block (next ∷ ss)) later
     (at_rule most n 0 (one any_number ∷ table.block (next ∷ [])) rhs ss later same fits) in
     let b = block_split most n known 0 (next ∷ ss) c.rest c.fits in
     inl (record {
-      form = scope gate w c.form b.form;
+      form = scope gate (leaf_of t) c.form b.form;
       rest = b.rest;
       place = with_token ts later _ t (kinds.Keyword Gate) place (tells_keyword Gate t.kind code)
           (c.place ∙ ap (λ (x : List Lexed). num c.form ∷ x) b.place);
@@ -257,7 +241,6 @@ stmt_case most n known next further ss ts later t rhs place fits
     })
 stmt_case most n known next further ss ts later t rhs place fits
     (inr (inr (inr (inr (inr (inr (inr (inr (inr (inr (inr (inr (inr (inr (inr (inr (inl (code, same)))))))))))))))))) =
-    let w = leaf_of t in
     let o = to_sign most open_bracket (tells_symbol 91) n 0
     (table.with_commas table.lengths (one close_bracket ∷ table.block (next ∷ ss))) later
     (at_rule most n 0 (one open_bracket ∷ table.with_commas table.lengths (one close_bracket ∷ table.block (next ∷ []))) rhs ss later
@@ -266,7 +249,7 @@ stmt_case most n known next further ss ts later t rhs place fits
     let c = to_sign most close_bracket (tells_symbol 93) n 0 (table.block (next ∷ ss)) l.rest l.fits in
     let b = block_split most n known 0 (next ∷ ss) c.rest c.fits in
     inl (record {
-      form = rhythm w o.form l.form c.form b.form;
+      form = rhythm (leaf_of t) o.form l.form c.form b.form;
       rest = b.rest;
       place = with_token ts later _ t (kinds.Keyword Rhythm) place (tells_keyword Rhythm t.kind code)
           (o.place ∙ ap (λ (x : List Lexed). tok open_bracket o.form ∷ x)
@@ -277,7 +260,6 @@ stmt_case most n known next further ss ts later t rhs place fits
     })
 stmt_case most n known next further ss ts later t rhs place fits
     (inr (inr (inr (inr (inr (inr (inr (inr (inr (inr (inr (inr (inr (inr (inr (inr (inr (inl (code, same))))))))))))))))))) =
-    let w = leaf_of t in
     let o = to_sign most open_bracket (tells_symbol 91) n 0
     (table.with_commas table.numbers (one close_bracket ∷ table.block (next ∷ ss))) later
     (at_rule most n 0 (one open_bracket ∷ table.with_commas table.numbers (one close_bracket ∷ table.block (next ∷ []))) rhs ss later
@@ -286,7 +268,7 @@ stmt_case most n known next further ss ts later t rhs place fits
     let c = to_sign most close_bracket (tells_symbol 93) n 0 (table.block (next ∷ ss)) l.rest l.fits in
     let b = block_split most n known 0 (next ∷ ss) c.rest c.fits in
     inl (record {
-      form = cycling artic w o.form l.form c.form b.form;
+      form = cycling artic (leaf_of t) o.form l.form c.form b.form;
       rest = b.rest;
       place = with_token ts later _ t (kinds.Keyword Artic) place (tells_keyword Artic t.kind code)
           (o.place ∙ ap (λ (x : List Lexed). tok open_bracket o.form ∷ x)
@@ -297,7 +279,6 @@ stmt_case most n known next further ss ts later t rhs place fits
     })
 stmt_case most n known next further ss ts later t rhs place fits
     (inr (inr (inr (inr (inr (inr (inr (inr (inr (inr (inr (inr (inr (inr (inr (inr (inr (inr (inl (code, same)))))))))))))))))))) =
-    let w = leaf_of t in
     let o = to_sign most open_bracket (tells_symbol 91) n 0
     (table.with_commas table.numbers (one close_bracket ∷ table.block (next ∷ ss))) later
     (at_rule most n 0 (one open_bracket ∷ table.with_commas table.numbers (one close_bracket ∷ table.block (next ∷ []))) rhs ss later
@@ -306,7 +287,7 @@ stmt_case most n known next further ss ts later t rhs place fits
     let c = to_sign most close_bracket (tells_symbol 93) n 0 (table.block (next ∷ ss)) l.rest l.fits in
     let b = block_split most n known 0 (next ∷ ss) c.rest c.fits in
     inl (record {
-      form = cycling loud w o.form l.form c.form b.form;
+      form = cycling loud (leaf_of t) o.form l.form c.form b.form;
       rest = b.rest;
       place = with_token ts later _ t (kinds.Keyword Loud) place (tells_keyword Loud t.kind code)
           (o.place ∙ ap (λ (x : List Lexed). tok open_bracket o.form ∷ x)
