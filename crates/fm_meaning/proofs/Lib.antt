@@ -1,0 +1,17 @@
+mod Notation
+mod NoteRows
+mod ChoiceRows
+mod ValueRows
+mod ForkRows
+mod WarpRows
+mod PieceRows
+mod RangeRows
+mod PlaceRows
+mod DepthRows
+mod BoundRows
+mod LimitRows
+mod TextRows
+mod FourVoices
+mod Doubling
+mod Phrases
+mod Verdicts

@@ -1,0 +1,84 @@
+-- What a version of the language fixes, and the ranges of its numbers.
+use Rattle.std.specs.Prelude.{ℕ}
+use Rattle.fm_grammar.specs.Score.{Score}
+
+-- what depends on the head of a score: the ticks of a whole note, and how many processes it may have
+pub record VersionRules : Type 0 where
+  pub whole_note : ℕ
+  pub most_processes : ℕ
+
+-- the rules of a score
+abbrev pub score_rules : Score → VersionRules
+score_rules score = record { whole_note = 1920; most_processes = 4096 }
+
+-- the version of the language
+abbrev pub version_number : ℕ
+version_number = 1
+
+-- ---- ranges of numbers
+
+-- the longest length that is written as one, and the greatest count of a loop
+abbrev pub most_ticks : ℕ
+most_ticks = 1000000
+
+-- the greatest count of a loop
+abbrev pub most_rounds : ℕ
+most_rounds = 1000000
+
+-- the greatest key, controller, control value, program and velocity
+abbrev pub most_data : ℕ
+most_data = 127
+
+-- the greatest channel
+abbrev pub most_channel : ℕ
+most_channel = 15
+
+-- the greatest articulation, in percent of the duration
+abbrev pub most_gate : ℕ
+most_gate = 100
+
+-- how far a bend goes below 0, and how far above
+abbrev pub bend_centre : ℕ
+bend_centre = 8192
+
+-- the greatest bend, counted from the lowest one
+abbrev pub most_bend : ℕ
+most_bend = 16383
+
+-- how many pitches one statement has at most
+abbrev pub most_pitches : ℕ
+most_pitches = 16
+
+-- ---- limits of depth
+
+-- how many warps lie inside one another at most
+abbrev pub most_warps : ℕ
+most_warps = 8
+
+-- how many loops and lists lie inside one another at most
+abbrev pub most_frames : ℕ
+most_frames = 16
+
+-- how many blocks of any kind lie inside one another at most
+abbrev pub most_blocks : ℕ
+most_blocks = 64
+
+-- ---- limits of a score
+
+-- the most operations, once phrases and loops that fork are written out
+abbrev pub most_operations : ℕ
+most_operations = 262144
+
+-- the most steps of all processes
+abbrev pub most_steps : ℕ
+most_steps = 16777216
+
+-- ---- what stands where nothing is written
+
+-- the articulation of notes outside all lists of articulation
+abbrev pub usual_gate : ℕ
+usual_gate = 90
+
+-- the velocity of notes outside all lists of loudness
+abbrev pub usual_velocity : ℕ
+usual_velocity = 64
