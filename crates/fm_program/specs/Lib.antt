@@ -1,0 +1,7 @@
+pub mod Parts
+pub mod Action
+pub mod State
+pub mod Needs
+pub mod Run
+pub mod Process
+pub mod Fit
