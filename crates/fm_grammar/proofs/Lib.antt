@@ -29,3 +29,5 @@ pub mod ToBlocks
 pub mod ToSequences
 pub mod ToCounts
 pub mod ToLists
+pub mod Refusals
+pub mod Verdicts

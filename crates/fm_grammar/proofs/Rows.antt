@@ -1,26 +1,9 @@
 -- Texts with the fault at which they are refused, by computing.
-use Rattle.std.proofs.Common.{◌≡◌, ℕ, zero, suc, List, [], ◌∷◌, ◌++◌, Option, Some, None, refl}
+use Rattle.std.proofs.Common.{◌≡◌, ℕ, zero, suc, List, [], ◌∷◌, ◌++◌, refl}
 use Rattle.std.specs.Prelude.{codes}
-use Rattle.fm_lex.specs.declared.token.LexFault.{LexFault}
-use Rattle.fm_lex.specs.declared.token.LexFault.TheVariants.{BadByte, BadNumber}
-use Rattle.fm_lex.specs.Tokens.{tokens, walk}
-use Rattle.fm_grammar.specs.Reads.{Fault, lexical, expected, too_nested}
-use Rattle.fm_grammar.specs.Table.{first_fault, trip}
-
--- the number and the column of a fault, 0 where there is none
-abbrev lexical_row : LexFault → ℕ × ℕ
-lexical_row (BadByte s) = (1, s.column)
-lexical_row (BadNumber s) = (2, s.column)
-
-abbrev fault_row : Option Fault → ℕ × ℕ
-fault_row None = (0, 0)
-fault_row (Some (lexical f)) = lexical_row f
-fault_row (Some (expected s)) = (3, s.column)
-fault_row (Some (too_nested s)) = (4, s.column)
-
--- the fault of a text of one line
-abbrev verdict : List ℕ → ℕ × ℕ
-verdict text = fault_row (first_fault (tokens text))
+use Rattle.fm_lex.specs.Tokens.{walk}
+use Rattle.fm_grammar.specs.Table.{trip}
+use Rattle.fm_grammar.proofs.Verdicts.{verdict}
 
 abbrev repeated : ℕ → List ℕ → List ℕ → List ℕ
 repeated zero text more = more

@@ -26,8 +26,8 @@ ends = one End ∷ []
 -- the rules of an entry that is no statement
 abbrev definitions : List Rule
 definitions =
-    table.at (kinds.Keyword Shape) (one Name ∷ one equals ∷ table.with_commas table.parts (one semicolon ∷ table.entries ∷ []))
-    ∷ table.at (kinds.Keyword Phrase) (one Name ∷ table.block (table.entries ∷ [])) ∷ []
+    table.rule_at (kinds.Keyword Shape) (one Name ∷ one equals ∷ table.with_commas table.parts (one semicolon ∷ table.entries ∷ []))
+    ∷ table.rule_at (kinds.Keyword Phrase) (one Name ∷ table.block (table.entries ∷ [])) ∷ []
 
 -- the tokens of entries
 abbrev Entries : Limits → ℕ → List Lexed → Type 0

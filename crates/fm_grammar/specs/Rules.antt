@@ -115,8 +115,8 @@ pub record Rule : Type 0 where
   pub next : List Sym
 
 -- a rule
-abbrev pub at : Kind → List Sym → Rule
-at k next = record { first = k; next = next }
+abbrev pub rule_at : Kind → List Sym → Rule
+rule_at k next = record { first = k; next = next }
 
 -- an expression, before what follows
 abbrev pub expr : List Sym → List Sym
@@ -141,64 +141,65 @@ two_exprs = inner open_parenthesis ∷ expr (inner comma ∷ expr (inner close_p
 -- the rules of a statement, before what follows, and further rules
 abbrev pub stmt_rules : Sym → List Rule → List Rule
 stmt_rules next further =
-    at (kinds.Keyword Note) (with_commas pitches (duration ∷ one semicolon ∷ next ∷ []))
-    ∷ at (kinds.Keyword Play) (with_commas pitches (one semicolon ∷ next ∷ []))
-    ∷ at (kinds.Keyword Rest) (duration ∷ one semicolon ∷ next ∷ [])
-    ∷ at (kinds.Keyword Skip) (one semicolon ∷ next ∷ [])
-    ∷ at (kinds.Keyword Control) (one any_number ∷ amount ∷ one semicolon ∷ next ∷ [])
-    ∷ at (kinds.Keyword Program) (amount ∷ one semicolon ∷ next ∷ [])
-    ∷ at (kinds.Keyword Bend) (amount ∷ one semicolon ∷ next ∷ [])
-    ∷ at (kinds.Keyword Set) (one any_register ∷ one equals ∷ expr (one semicolon ∷ next ∷ []))
-    ∷ at (kinds.Keyword If) (expr (block (otherwise ∷ next ∷ [])))
-    ∷ at (kinds.Keyword Repeat) (counted ∷ block (next ∷ []))
-    ∷ at (kinds.Keyword Do) (one Name ∷ one semicolon ∷ next ∷ [])
-    ∷ at (kinds.Keyword Warp) (one Name ∷ block (next ∷ []))
-    ∷ at (kinds.Keyword Par)
+    rule_at (kinds.Keyword Note) (with_commas pitches (duration ∷ one semicolon ∷ next ∷ []))
+    ∷ rule_at (kinds.Keyword Play) (with_commas pitches (one semicolon ∷ next ∷ []))
+    ∷ rule_at (kinds.Keyword Rest) (duration ∷ one semicolon ∷ next ∷ [])
+    ∷ rule_at (kinds.Keyword Skip) (one semicolon ∷ next ∷ [])
+    ∷ rule_at (kinds.Keyword Control) (one any_number ∷ amount ∷ one semicolon ∷ next ∷ [])
+    ∷ rule_at (kinds.Keyword Program) (amount ∷ one semicolon ∷ next ∷ [])
+    ∷ rule_at (kinds.Keyword Bend) (amount ∷ one semicolon ∷ next ∷ [])
+    ∷ rule_at (kinds.Keyword Set) (one any_register ∷ one equals ∷ expr (one semicolon ∷ next ∷ []))
+    ∷ rule_at (kinds.Keyword If) (expr (block (otherwise ∷ next ∷ [])))
+    ∷ rule_at (kinds.Keyword Repeat) (counted ∷ block (next ∷ []))
+    ∷ rule_at (kinds.Keyword Do) (one Name ∷ one semicolon ∷ next ∷ [])
+    ∷ rule_at (kinds.Keyword Warp) (one Name ∷ block (next ∷ []))
+    ∷ rule_at (kinds.Keyword Par)
     (one open_brace ∷ one (kinds.Keyword Branch) ∷ block (branches ∷ one close_brace ∷ next ∷ []))
-    ∷ at (kinds.Keyword Channel) (one any_number ∷ block (next ∷ []))
-    ∷ at (kinds.Keyword Volume) (one any_number ∷ block (next ∷ []))
-    ∷ at (kinds.Keyword Gate) (one any_number ∷ block (next ∷ []))
-    ∷ at (kinds.Keyword Rhythm) (one open_bracket ∷ with_commas lengths (one close_bracket ∷ block (next ∷ [])))
-    ∷ at (kinds.Keyword Artic) (one open_bracket ∷ with_commas numbers (one close_bracket ∷ block (next ∷ [])))
-    ∷ at (kinds.Keyword Loud) (one open_bracket ∷ with_commas numbers (one close_bracket ∷ block (next ∷ [])))
+    ∷ rule_at (kinds.Keyword Channel) (one any_number ∷ block (next ∷ []))
+    ∷ rule_at (kinds.Keyword Volume) (one any_number ∷ block (next ∷ []))
+    ∷ rule_at (kinds.Keyword Gate) (one any_number ∷ block (next ∷ []))
+    ∷ rule_at (kinds.Keyword Rhythm) (one open_bracket ∷ with_commas lengths (one close_bracket ∷ block (next ∷ [])))
+    ∷ rule_at (kinds.Keyword Artic) (one open_bracket ∷ with_commas numbers (one close_bracket ∷ block (next ∷ [])))
+    ∷ rule_at (kinds.Keyword Loud) (one open_bracket ∷ with_commas numbers (one close_bracket ∷ block (next ∷ [])))
     ∷ further
 
 -- the rules of each symbol
 abbrev pub rules_of : Sym → List Rule
-rules_of (one k) = at k [] ∷ []
-rules_of (inner k) = at k [] ∷ []
+rules_of (one k) = rule_at k [] ∷ []
+rules_of (inner k) = rule_at k [] ∷ []
 rules_of factor =
-    at any_number [] ∷ at any_register [] ∷ at any_index [] ∷ at minus_sign (factor ∷ [])
-    ∷ at open_parenthesis (expr (inner close_parenthesis ∷ []))
-    ∷ at (kinds.Keyword Pick) (inner open_parenthesis ∷ expr (inner close_parenthesis ∷ []))
-    ∷ at (kinds.Keyword Min) two_exprs ∷ at (kinds.Keyword Max) two_exprs
-    ∷ at (kinds.Keyword Less) two_exprs ∷ at (kinds.Keyword Same) two_exprs ∷ []
+    rule_at any_number [] ∷ rule_at any_register [] ∷ rule_at any_index [] ∷ rule_at minus_sign (factor ∷ [])
+    ∷ rule_at open_parenthesis (expr (inner close_parenthesis ∷ []))
+    ∷ rule_at (kinds.Keyword Pick) (inner open_parenthesis ∷ expr (inner close_parenthesis ∷ []))
+    ∷ rule_at (kinds.Keyword Min) two_exprs ∷ rule_at (kinds.Keyword Max) two_exprs
+    ∷ rule_at (kinds.Keyword Less) two_exprs ∷ rule_at (kinds.Keyword Same) two_exprs ∷ []
 rules_of terms =
-    at asterisk (factor ∷ terms ∷ []) ∷ at slash (factor ∷ terms ∷ []) ∷ at percent (factor ∷ terms ∷ []) ∷ []
-rules_of sums = at plus_sign (expr []) ∷ at minus_sign (expr []) ∷ []
+    rule_at asterisk (factor ∷ terms ∷ []) ∷ rule_at slash (factor ∷ terms ∷ []) ∷ rule_at percent
+    (factor ∷ terms ∷ []) ∷ []
+rules_of sums = rule_at plus_sign (expr []) ∷ rule_at minus_sign (expr []) ∷ []
 rules_of length =
-    at any_number (one slash ∷ one any_number ∷ []) ∷ at (kinds.Keyword Ticks) (one any_number ∷ []) ∷ []
+    rule_at any_number (one slash ∷ one any_number ∷ []) ∷ rule_at (kinds.Keyword Ticks) (one any_number ∷ []) ∷ []
 rules_of part =
-    at (kinds.Keyword Flat) (length ∷ one (kinds.Keyword By) ∷ one any_number ∷ [])
-    ∷ at (kinds.Keyword Slope)
+    rule_at (kinds.Keyword Flat) (length ∷ one (kinds.Keyword By) ∷ one any_number ∷ [])
+    ∷ rule_at (kinds.Keyword Slope)
     (length ∷ one (kinds.Keyword By) ∷ one any_number ∷ one (kinds.Keyword To) ∷ one any_number ∷ [])
-    ∷ at (kinds.Keyword Pause) (length ∷ []) ∷ at (kinds.Keyword Breath) (length ∷ []) ∷ []
+    ∷ rule_at (kinds.Keyword Pause) (length ∷ []) ∷ rule_at (kinds.Keyword Breath) (length ∷ []) ∷ []
 rules_of amount =
-    at any_number [] ∷ at minus_sign (one any_number ∷ [])
-    ∷ at open_parenthesis (expr (one close_parenthesis ∷ [])) ∷ []
+    rule_at any_number [] ∷ rule_at minus_sign (one any_number ∷ [])
+    ∷ rule_at open_parenthesis (expr (one close_parenthesis ∷ [])) ∷ []
 rules_of duration =
-    at any_number (one slash ∷ one any_number ∷ []) ∷ at (kinds.Keyword Ticks) (counted ∷ []) ∷ []
-rules_of pitch = at any_pitch [] ∷ at (kinds.Keyword Key) (amount ∷ []) ∷ []
-rules_of counted = at any_number [] ∷ at open_parenthesis (with_most []) ∷ []
-rules_of (mores i) = at comma (with_commas i []) ∷ []
+    rule_at any_number (one slash ∷ one any_number ∷ []) ∷ rule_at (kinds.Keyword Ticks) (counted ∷ []) ∷ []
+rules_of pitch = rule_at any_pitch [] ∷ rule_at (kinds.Keyword Key) (amount ∷ []) ∷ []
+rules_of counted = rule_at any_number [] ∷ rule_at open_parenthesis (with_most []) ∷ []
+rules_of (mores i) = rule_at comma (with_commas i []) ∷ []
 rules_of stmts = stmt_rules stmts []
-rules_of otherwise = at (kinds.Keyword Else) (block []) ∷ []
-rules_of branches = at (kinds.Keyword Branch) (block (branches ∷ [])) ∷ []
+rules_of otherwise = rule_at (kinds.Keyword Else) (block []) ∷ []
+rules_of branches = rule_at (kinds.Keyword Branch) (block (branches ∷ [])) ∷ []
 rules_of entries =
     stmt_rules entries
-    (at (kinds.Keyword Shape) (one Name ∷ one equals ∷ with_commas parts (one semicolon ∷ entries ∷ []))
-    ∷ at (kinds.Keyword Phrase) (one Name ∷ block (entries ∷ [])) ∷ [])
-rules_of seeded = at (kinds.Keyword Seed) (one any_number ∷ one semicolon ∷ []) ∷ []
+    (rule_at (kinds.Keyword Shape) (one Name ∷ one equals ∷ with_commas parts (one semicolon ∷ entries ∷ []))
+    ∷ rule_at (kinds.Keyword Phrase) (one Name ∷ block (entries ∷ [])) ∷ [])
+rules_of seeded = rule_at (kinds.Keyword Seed) (one any_number ∷ one semicolon ∷ []) ∷ []
 
 -- whether a symbol may be left out
 abbrev pub may_end : Sym → Bool

@@ -45,8 +45,8 @@ pub record PlacedNode : Type 0 where
   pub spot : Spot2
 
 -- a node with the spot of its own token
-abbrev pub placed : Node → Leaf → PlacedNode
-placed n l = record { node = n; spot = record { line = l.spot.line; column = l.spot.column } }
+abbrev pub node_at : Node → Leaf → PlacedNode
+node_at n l = record { node = n; spot = record { line = l.spot.line; column = l.spot.column } }
 
 -- the node of an operator between factors
 abbrev pub scaling_node : Scaling → Node
@@ -74,23 +74,23 @@ abbrev mutual
 
   -- factor
   pub factor_nodes : FactorForm → List PlacedNode
-  factor_nodes (forms.FactorForm.number n) = placed (nodes.Literal n.value) n.leaf ∷ []
-  factor_nodes (register r l) = placed (nodes.Register r) l ∷ []
-  factor_nodes (index i l) = placed (nodes.Index i) l ∷ []
-  factor_nodes (negate m f) = factor_nodes f ++ placed nodes.Negate m ∷ []
+  factor_nodes (forms.FactorForm.number n) = node_at (nodes.Literal n.value) n.leaf ∷ []
+  factor_nodes (register r l) = node_at (nodes.Register r) l ∷ []
+  factor_nodes (index i l) = node_at (nodes.Index i) l ∷ []
+  factor_nodes (negate m f) = factor_nodes f ++ node_at nodes.Negate m ∷ []
   factor_nodes (group o e c) = expr_nodes e
-  factor_nodes (pick w o e c) = expr_nodes e ++ placed nodes.Pick w ∷ []
-  factor_nodes (compare f w o a m b c) = expr_nodes a ++ (expr_nodes b ++ placed (comparing_node f) w ∷ [])
+  factor_nodes (pick w o e c) = expr_nodes e ++ node_at nodes.Pick w ∷ []
+  factor_nodes (compare f w o a m b c) = expr_nodes a ++ (expr_nodes b ++ node_at (comparing_node f) w ∷ [])
 
   -- { ("*" | "/" | "%") factor }
   pub terms_nodes : TermsForm → List PlacedNode
   terms_nodes no_term = []
-  terms_nodes (term s l f ts) = factor_nodes f ++ placed (scaling_node s) l ∷ terms_nodes ts
+  terms_nodes (term s l f ts) = factor_nodes f ++ node_at (scaling_node s) l ∷ terms_nodes ts
 
   -- { ("+" | "-") term }
   pub sums_nodes : SumsForm → List PlacedNode
   sums_nodes no_sum = []
-  sums_nodes (sum a l f ts ss) = factor_nodes f ++ (terms_nodes ts ++ placed (adding_node a) l ∷ sums_nodes ss)
+  sums_nodes (sum a l f ts ss) = factor_nodes f ++ (terms_nodes ts ++ node_at (adding_node a) l ∷ sums_nodes ss)
 
 -- an expression
 abbrev pub expr_tree : ExprForm → Postfix
