@@ -35,8 +35,17 @@ spot_of s = record { position = s.position; origins = reverse (map (λ l. l.orig
 
 -- a process of which nothing is known
 abbrev pub no_state : Standing
-no_state = record { place = 0; position = 0; process = 0; index = 0; registers = []; dice = 0; levels = [];
-    frames = []; due = [] }
+no_state = record {
+  place = 0;
+  position = 0;
+  process = 0;
+  index = 0;
+  registers = [];
+  dice = 0;
+  levels = [];
+  frames = [];
+  due = [];
+}
 
 -- what stands for a process that is not there
 abbrev pub no_played : Played
@@ -103,8 +112,13 @@ process_run p j = slice_index_or (plan_played p) j no_played
 
 -- the end of a process as a mark
 abbrev pub ending_mark : Standing → Mark
-ending_mark s = put_out s.levels (record { process = s.process; index = s.index; msg = None; onset = s.position;
-    ending = s.position })
+ending_mark s = put_out s.levels (record {
+  process = s.process;
+  index = s.index;
+  msg = None;
+  onset = s.position;
+  ending = s.position;
+})
 
 -- the marks of processes, each with its end
 abbrev pub played_marks : List Played → List Mark

@@ -74,8 +74,13 @@ abbrev pub sending_made : Point → ℕ → Amount → List Slot → Standing �
 sending_made p ch amount scope s =
     let v = number_drawn amount scope s in
     sounding
-    (put_out s.levels (record { process = s.process; index = s.index; msg = Some (point_msg p ch v.value);
-        onset = s.position; ending = s.position }))
+    (put_out s.levels (record {
+      process = s.process;
+      index = s.index;
+      msg = Some (point_msg p ch v.value);
+      onset = s.position;
+      ending = s.position;
+    }))
     (record v.after { place = s.place + 1; index = s.index + 1 })
 
 -- a loop of so many rounds
