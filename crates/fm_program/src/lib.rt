@@ -8,6 +8,7 @@
 #![tactic(auto)]
 
 mod copying;
+mod laws;
 mod op;
 mod plan;
 mod program;
@@ -15,6 +16,7 @@ mod stock;
 #[cfg(test)]
 mod tests;
 
+pub use laws::lines_are_of_programs;
 pub use op::{
     Count, Draw, MAX_FRAMES, MAX_INDEX, MAX_LENGTH, MAX_PERCENT, MAX_PITCHES, Op, Point, Slot,
     Span, Turn,
