@@ -19,3 +19,5 @@ mod Limits
 mod Ranging
 mod Forms
 mod Promises
+mod Writable
+mod InTime

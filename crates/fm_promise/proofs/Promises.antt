@@ -20,7 +20,7 @@ use Rattle.fm_promise.specs.Limits.{IsWithinLimits}
 use Rattle.fm_promise.proofs.Limits.{none_first, none_second, walked_limited}
 use Rattle.fm_promise.proofs.Ranging.{BranchedEntries, playable_in, entries_ranged}
 use Rattle.fm_promise.proofs.Forms.{entries_branched}
-use Rattle.fm_promise.proofs.Whole.{IsWhole, whole_valid, whole_heard, whole_total, whole_count}
+use Rattle.fm_promise.proofs.Whole.{IsWhole, whole_ends, whole_valid, whole_heard, whole_total, whole_count}
 use Rattle.fm_promise.proofs.Scores.{score_whole}
 
 -- the walks of an accepted text find nothing
@@ -44,7 +44,7 @@ text_branched : (t : List ℕ) (s : Score) → Means t s → BranchedEntries s.e
 text_branched t s m = subst (λ x. BranchedEntries x.entries) (sym m.reads.stands_for) (entries_branched m.reads.form.entries)
 
 -- an accepted text plays what is playable
-text_playable : (t : List ℕ) (s : Score) → Means t s → PlayableIn (resolved s).longest (resolved s).passage
+pub text_playable : (t : List ℕ) (s : Score) → Means t s → PlayableIn (resolved s).longest (resolved s).passage
 text_playable t s m =
     playable_in (resolved s).longest (resolved s).passage
     (entries_ranged (resolved s).longest (record { whole = 1920; shapes = []; phrases = [] }) (nothing_known 1920) s.entries tt
@@ -59,7 +59,7 @@ pub text_limited : (t : List ℕ) (s : Score) → Means t s → IsWithinLimits (
 text_limited t s m = walked_limited (score_rules s) (resolved s).longest (resolved s).passage (omega arith) (fourth_none s m.faultless)
 
 -- all its marks are whole
-text_whole : (t : List ℕ) (s : Score) → Means t s
+pub text_whole : (t : List ℕ) (s : Score) → Means t s
     → IsWhole (bounds_in (resolved s).longest (resolved s).passage) (score_plays (resolved s)).after.births (score_plays (resolved
     s)).marks
     (played_end (resolved s))
@@ -99,5 +99,12 @@ pub text_heard : (t : List ℕ) (s : Score) → Means t s → (p k : ℕ) → k 
     → IsTrue (is_in_range (event (line (played_lines (resolved s)) p) k).msg)
 text_heard t s m =
     whole_heard (bounds_in (resolved s).longest (resolved s).passage) (score_plays (resolved s)).after.births
+    (score_plays (resolved s)).marks
+    (played_end (resolved s)) (text_whole t s m)
+
+-- no line ends later than the score
+pub text_line_end : (t : List ℕ) (s : Score) → Means t s → (p : ℕ) → (line (played_lines (resolved s)) p).end ≤ played_end (resolved s)
+text_line_end t s m =
+    whole_ends (bounds_in (resolved s).longest (resolved s).passage) (score_plays (resolved s)).after.births
     (score_plays (resolved s)).marks
     (played_end (resolved s)) (text_whole t s m)

@@ -189,6 +189,13 @@ starts_by b births ms end w p k =
         ap (λ l. l.end) (line_at births q ms
         (omega (arith, within, has_each (λ r. r < p) q (list_at births p) (births_of b births ms end w p within).0 has)))
 
+-- no line ends later than all
+pub whole_ends : (b : Totals) (births : List (List ℕ)) (ms : List Mark) (end : ℕ) → IsWhole b births ms end → (p : ℕ)
+    → (line (lines_of births ms) p).end ≤ end
+whole_ends b births ms end w p =
+    by_process births ms (λ l. l.end ≤ end) p
+    (λ _. end_to p end ms (each_weaken (Between 0 end) (λ y. y.onset ≤ end) (λ y i. i.to) ms w.between)) (omega arith)
+
 -- as many lines as processes
 pub whole_count : (births : List (List ℕ)) (ms : List Mark) → length (lines_of births ms) ≡ length births
 whole_count births ms = lines_count births 0 ms
@@ -238,17 +245,13 @@ whole_valid b births ms end w few soon many = record {
       let e = numbers p first_pen ms (at_first p) (omega arith) w.numbered k (process_end p ms) inside in
       (e.process, omega (arith, e.index)))
       (λ k inside. absurd (omega (arith, inside)));
-  ends = λ p. (omega (arith, ends_by p, soon), omega (arith, ends_by p, w.ends_last, last_end));
+  ends = λ p. (omega (arith, whole_ends b births ms end w p, soon), omega (arith, whole_ends b births ms end w p, w.ends_last, last_end));
   events = omega (arith, whole_total b births ms end w, many);
 }
   where
     at_first : (p : ℕ) → (first_pen.process < p) ⊎ ((first_pen.process ≡ p) × (first_pen.index ≡ 0)) ⊎ (p < first_pen.process)
     at_first zero = inr (inl (refl, refl))
     at_first (suc p) = inl (omega arith)
-
-    ends_by : (p : ℕ) → (line (lines_of births ms) p).end ≤ end
-    ends_by p = by_process births ms (λ l. l.end ≤ end) p
-        (λ _. end_to p end ms (each_weaken (Between 0 end) (λ y. y.onset ≤ end) (λ y i. i.to) ms w.between)) (omega arith)
 
     last_end : (line (lines_of births ms) (length (lines_of births ms) - 1)).end ≡ process_end w.last ms
     last_end =

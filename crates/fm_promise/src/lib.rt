@@ -10,4 +10,7 @@ mod laws;
 #[cfg(test)]
 mod tests;
 
-pub use laws::{accepted_lines_are_valid, totals_are_kept};
+pub use laws::{
+    accepted_lines_are_valid, accepted_pieces_can_be_written, every_level_is_in_time,
+    totals_are_kept,
+};
