@@ -1,3 +1,4 @@
 pub mod Rows
 pub mod ForkRows
 pub mod Lines
+pub mod Cuts

@@ -16,7 +16,7 @@ mod stock;
 #[cfg(test)]
 mod tests;
 
-pub use laws::lines_are_of_programs;
+pub use laws::{cuts_play_no_part, lines_are_of_programs};
 pub use op::{
     Count, Draw, MAX_FRAMES, MAX_INDEX, MAX_LENGTH, MAX_PERCENT, MAX_PITCHES, Op, Point, Slot,
     Span, Turn,
