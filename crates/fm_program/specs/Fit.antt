@@ -26,7 +26,7 @@ use Rattle.fm_program.specs.declared.op.Op.TheVariants as op
 use Rattle.fm_program.specs.declared.plan.TheConstants.{MAX_STEPS}
 use Rattle.fm_program.specs.Parts.{StockParts, ProgramParts, PlanParts, process_program}
 use Rattle.fm_program.specs.Action.{expr_at, chord_at, scope_at}
-use Rattle.fm_program.specs.Process.{Played, spot_of, plan_played, process_run, plan_lines}
+use Rattle.fm_program.specs.Process.{Played, spot_reached, plan_played, process_run, plan_lines}
 
 -- ---- the tables
 
@@ -141,7 +141,7 @@ same_numbers (x ∷ xs) (y ∷ ys) = nat_eq x y && same_numbers xs ys
 abbrev pub ends_in : List ℕ → List ℕ → Played → Bool
 ends_in warps origins p =
     same_numbers (reverse (map (λ l. l.warp) p.run.last.levels)) warps
-    && same_numbers (spot_of p.run.last).origins origins
+    && same_numbers (spot_reached p.run.last).origins origins
 
 -- whether the process j waits for none if it is the first one, else for smaller ones, each named once, which end in
 -- the levels that it starts in, begun at equal places

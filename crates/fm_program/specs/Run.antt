@@ -11,7 +11,7 @@ use Rattle.fm_program.specs.declared.op.Slot.{Slot}
 use Rattle.fm_program.specs.declared.op.Turn.{Turn}
 use Rattle.fm_program.specs.declared.op.Point.{Point}
 use Rattle.fm_program.specs.declared.op.Point.TheVariants as point
-use Rattle.fm_program.specs.Action.{Amount, Duration, Action, note, rest, send, assign, choose, jump, loop, again, begin, close, enter, leave}
+use Rattle.fm_program.specs.Action.{MessageNumber, SpanLength, Action, note, rest, send, assign, choose, jump, loop, again, begin, close, enter, leave}
 use Rattle.fm_program.specs.Needs.{is_open, holds}
 use Rattle.fm_program.specs.State.{OpenFrame, counting, cycling, OpenLevel, Standing, expr_drawn, nearest_to, number_drawn, pitches_drawn, duration_drawn, turn_drawn, repeats_drawn}
 
@@ -48,7 +48,7 @@ abbrev pub onward : Standing → Standing
 onward s = record s { place = s.place + 1 }
 
 -- a note: its pitches, its duration, one articulation and one velocity are drawn; all note-ons, then all note-offs
-abbrev pub note_made : List Amount → Duration → ℕ → Turn → Turn → List Slot → Standing → Stepped
+abbrev pub note_made : List MessageNumber → SpanLength → ℕ → Turn → Turn → List Slot → Standing → Stepped
 note_made pitches span ch gate loud scope s =
     let keys = pitches_drawn pitches scope s in
     let lasts = duration_drawn span scope keys.after in
@@ -64,13 +64,13 @@ note_made pitches span ch gate loud scope s =
     })
 
 -- a rest
-abbrev pub rest_made : Duration → List Slot → Standing → Stepped
+abbrev pub rest_made : SpanLength → List Slot → Standing → Stepped
 rest_made span scope s =
     let lasts = duration_drawn span scope s in
     silent (record lasts.after { place = s.place + 1; position = s.position + lasts.value })
 
 -- a message at the present position
-abbrev pub sending_made : Point → ℕ → Amount → List Slot → Standing → Stepped
+abbrev pub sending_made : Point → ℕ → MessageNumber → List Slot → Standing → Stepped
 sending_made p ch amount scope s =
     let v = number_drawn amount scope s in
     sounding
