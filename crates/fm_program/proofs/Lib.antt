@@ -2,3 +2,4 @@ pub mod Rows
 pub mod ForkRows
 pub mod Lines
 pub mod Cuts
+mod Misfits
