@@ -1,0 +1,12 @@
+//! Names that are defined one after another, and what each stands for.
+//!
+//! [`Names`] is a table whose latest definition of a name counts. A contract sees it as a function
+//! of the name, `named` of `specs/Named`. A look-up takes the logarithm of the number of names.
+#![tactic(auto)]
+
+mod names;
+
+pub use names::Names;
+
+#[cfg(test)]
+mod tests;
