@@ -1,0 +1,28 @@
+-- The command of which the words are read, as clap's statement of a simple command sees it.
+use Rattle.std.specs.Prelude.{ℕ, List, codes, Some, true}
+use Rattle.clap.specs.Words.{App, Rule, new_app, new_rule, with_rule}
+use Rattle.clap.specs.Simple.{on_top}
+use Rattle.clap.specs.declared.builder.ArgAction.TheVariants.{SetTrue}
+
+-- a text that has to be there, by its place
+abbrev pub text_named : List ℕ → Rule
+text_named id = record (new_rule id) { required = true }
+
+-- an option `--id` with a value
+abbrev pub option_named : List ℕ → Rule
+option_named id = record (new_rule id) { long = Some id }
+
+-- an option `--id` without a value
+abbrev pub flag_named : List ℕ → Rule
+flag_named id = record (new_rule id) { long = Some id; action = Some SetTrue }
+
+-- a command without words, which has no help and no version, and whose words begin after the program's name
+abbrev pub bare : App
+bare = on_top (λ s. record s { no_binary_name = true; disable_help_flag = true }) (new_app (codes "formula"))
+
+-- two texts, three options and a flag
+unfoldable pub command : App
+command = with_rule (with_rule (with_rule (with_rule (with_rule (with_rule bare
+    (text_named (codes "IN"))) (text_named (codes "OUT")))
+    (option_named (codes "workers"))) (option_named (codes "lead"))) (option_named (codes "room")))
+    (flag_named (codes "rounds"))

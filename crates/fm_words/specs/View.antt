@@ -1,0 +1,43 @@
+-- The options as the words ask for them.
+use Rattle.std.specs.Prelude.{◌≡◌, ◌≤◌, true, string_bytes}
+use Rattle.clap.specs.Kinds.{Kinds}
+use Rattle.fm_words.specs.Settings.{Settings, has_fault}
+use Rattle.fm_words.specs.declared.chosen.Chosen.{Chosen}
+use Rattle.fm_words.specs.declared.limits.TheConstants.{MAX_LEAD, MAX_ROOM, MAX_WORKERS, MIN_ROOM}
+use Rattle.fm_words.specs.declared.name_fault.NameFault.{NameFault}
+use Rattle.fm_words.specs.declared.name_fault.NameFault.TheVariants.{Words, Memory}
+use Rattle.fm_words.specs.declared.options.Options.{Options}
+
+-- the settings that options hold
+abbrev pub options_view : Options → Settings
+options_view o = record {
+  source = string_bytes o.source;
+  target = string_bytes o.target;
+  workers = o.workers;
+  lead = o.lead;
+  room = o.room;
+  rounds = o.rounds;
+}
+
+-- the settings that are lent from the words
+abbrev pub chosen_view : Chosen → Settings
+chosen_view c = record {
+  source = c.source.now;
+  target = c.target.now;
+  workers = c.workers;
+  lead = c.lead;
+  room = c.room;
+  rounds = c.rounds;
+}
+
+-- the numbers lie in their ranges
+pub record HasRanges (s : Settings) : Type 0 where
+  pub workers : s.workers ≤ MAX_WORKERS
+  pub lead : s.lead ≤ MAX_LEAD
+  pub some_room : MIN_ROOM ≤ s.room
+  pub room : s.room ≤ MAX_ROOM
+
+-- a fault that stands for these kinds of clap's: a refusal only where there are some
+abbrev pub IsRefusedBy : Kinds → NameFault → Type 0
+IsRefusedBy kinds Words = has_fault kinds ≡ true
+IsRefusedBy kinds Memory = Unit {0}

@@ -1,0 +1,46 @@
+//! The command of which the words are read.
+ghost use Rattle.std.specs.Prelude.{◌≡◌, IfOk, false};
+ghost use Rattle.clap.specs.Words.{app_of, rule_of};
+ghost use Rattle.fm_words.specs.Command.{command, flag_named, option_named, text_named};
+
+use clap::{Arg, ArgAction, Command};
+use std::alloc::{AllocError, Global};
+
+/// The command: two texts, three options with a value, and a flag; no help and no version.
+pub fn formula_command<'a>(alloc: Global) -> Result<Command<'a>, AllocError>
+    ensures { IfOk result (λ c. app_of c ≡ command) }
+{
+    let bare = Command::new(alloc, "formula")
+        .no_binary_name(true)
+        .disable_help_flag(true);
+    bare.arg(text(alloc, "IN"))?
+        .arg(text(alloc, "OUT"))?
+        .arg(option(alloc, "workers"))?
+        .arg(option(alloc, "lead"))?
+        .arg(option(alloc, "room"))?
+        .arg(flag(alloc, "rounds"))
+}
+
+// A text that has to be there, by its place.
+fn text<'a>(alloc: Global, id: &'a str) -> Arg<'a>
+    ensures rule { rule_of result ≡ text_named id.entry.now }
+    ensures local { result.global ≡ false }
+{
+    Arg::new(alloc, id).required(true)
+}
+
+// An option with a value, which may be left out.
+fn option<'a>(alloc: Global, id: &'a str) -> Arg<'a>
+    ensures rule { rule_of result ≡ option_named id.entry.now }
+    ensures local { result.global ≡ false }
+{
+    Arg::new(alloc, id).long(id)
+}
+
+// An option without a value.
+fn flag<'a>(alloc: Global, id: &'a str) -> Arg<'a>
+    ensures rule { rule_of result ≡ flag_named id.entry.now }
+    ensures local { result.global ≡ false }
+{
+    Arg::new(alloc, id).action(ArgAction::SetTrue).long(id)
+}

@@ -1,0 +1,140 @@
+use super::*;
+use std::alloc::{AllocError, Global};
+use std::test::Fail;
+
+/// Lines of words that are refused, with a `|` between two words.
+const REFUSED: [&str; 43] = [
+    "a|b|--rounds=",
+    "a|b|--rounds=1",
+    "a|b|--rounds|--rounds",
+    "a|b|--lead=",
+    "a|b|--lead|",
+    "a|b|--lead",
+    "a|b|--lead|--",
+    "--lead|--|a|b",
+    "a|b|--lead|--rounds",
+    "a|b|--lead|-",
+    "a|b|--lead|5_0",
+    "a|b|--lead| 5",
+    "a|b|--lead|+",
+    "a|b|--lead|++5",
+    "a|b|--lead=5=6",
+    "a|b|--lead|-5",
+    "a|b|--lead=-5",
+    "a|b|--lead=-0",
+    "a|b|--lead|1000001",
+    "a|b|--lead|18446744073709551616",
+    "a|b|--workers|17",
+    "a|b|--room|0",
+    "a|b|--room|65",
+    "a|b|--lead|5|--lead|5",
+    "a|b|--lead=5|--lead|6",
+    "a|b|--workers=1|--workers=1",
+    "a|b|--room=1|--room=1",
+    "--help",
+    "a|b|--help",
+    "a|b|-h",
+    "a|b|--version",
+    "a|b|-V",
+    "a|b|--lea|5",
+    "a|b|-w|5",
+    "a|b|--ROUNDS",
+    "a|b|-rounds",
+    "a|b|--generate|5",
+    "-5|b",
+    "a|b|--=5",
+    "a|b|---",
+    "--|a|b|--",
+    "a|b|c",
+    "a",
+];
+
+/// A line of words and what it asks for: the two texts, workers, lead, room and rounds.
+type Row = (
+    &'static str,
+    &'static str,
+    &'static str,
+    u32,
+    u64,
+    u32,
+    bool,
+);
+
+/// Lines of words that are taken.
+const TAKEN: [Row; 21] = [
+    ("a|b", "a", "b", 4, 7_680, 32, false),
+    ("a|b|--rounds", "a", "b", 4, 7_680, 32, true),
+    ("a|b|--lead|+5", "a", "b", 4, 5, 32, false),
+    ("a|b|--lead|007", "a", "b", 4, 7, 32, false),
+    ("a|b|--lead=0", "a", "b", 4, 0, 32, false),
+    ("a|b|--lead|1000000", "a", "b", 4, 1_000_000, 32, false),
+    ("a|b|--workers|0", "a", "b", 0, 7_680, 32, false),
+    ("a|b|--workers|16", "a", "b", 16, 7_680, 32, false),
+    ("a|b|--room=1", "a", "b", 4, 7_680, 1, false),
+    ("a|b|--room|64", "a", "b", 4, 7_680, 64, false),
+    ("--lead|5|a|b", "a", "b", 4, 5, 32, false),
+    ("a|--room|3|b|--rounds", "a", "b", 4, 7_680, 3, true),
+    (
+        "--lead=+5|a|--rounds|--workers|007|--|-b",
+        "a",
+        "-b",
+        7,
+        5,
+        32,
+        true,
+    ),
+    ("|b", "", "b", 4, 7_680, 32, false),
+    ("-|b", "-", "b", 4, 7_680, 32, false),
+    ("--|a|b", "a", "b", 4, 7_680, 32, false),
+    ("a|b|--", "a", "b", 4, 7_680, 32, false),
+    ("--|--|b", "--", "b", 4, 7_680, 32, false),
+    ("--|a|--", "a", "--", 4, 7_680, 32, false),
+    ("--|--lead|5", "--lead", "5", 4, 7_680, 32, false),
+    ("help|b", "help", "b", 4, 7_680, 32, false),
+];
+
+fn words_of(alloc: Global, line: &str) -> Result<Vec<String>, AllocError> {
+    let mut words = Vec::new(alloc);
+    for word in line.split('|') {
+        words.push(String::from_str(alloc, word)?)?;
+    }
+    Ok(words)
+}
+
+#[test]
+fn doubtful_words_are_refused(rt: HostRuntime) -> Result<(), Fail> {
+    let alloc = rt.alloc();
+    for line in REFUSED {
+        let fault = read_options(alloc, &words_of(alloc, line)?).err();
+        assert_eq!(rt; fault, Some(NameFault::Words), "{line}");
+    }
+    let none = read_options(alloc, &Vec::new(alloc)).err();
+    assert_eq!(rt; none, Some(NameFault::Words));
+    Ok(())
+}
+
+#[test]
+fn words_ask_for_what_they_say(rt: HostRuntime) -> Result<(), Fail> {
+    let alloc = rt.alloc();
+    for (line, source, target, workers, lead, room, rounds) in TAKEN {
+        let options = read_options(alloc, &words_of(alloc, line)?)?;
+        assert_eq!(rt; options.source.as_str(), source, "{line}");
+        assert_eq!(rt; options.target.as_str(), target, "{line}");
+        assert_eq!(rt; options.workers, workers, "{line}");
+        assert_eq!(rt; options.lead, lead, "{line}");
+        assert_eq!(rt; options.room, room, "{line}");
+        assert_eq!(rt; options.rounds, rounds, "{line}");
+    }
+    Ok(())
+}
+
+#[test]
+fn names_are_the_two_texts(rt: HostRuntime) -> Result<(), Fail> {
+    let alloc = rt.alloc();
+    let (source, target) = names(alloc, &words_of(alloc, "a.txt|b.mid|--lead|0")?)?;
+    assert_eq!(rt; source.as_str(), "a.txt");
+    assert_eq!(rt; target.as_str(), "b.mid");
+    let fault = names(alloc, &words_of(alloc, "a.txt")?).err();
+    assert_eq!(rt; fault, Some(NameFault::Words));
+    Ok(())
+}
