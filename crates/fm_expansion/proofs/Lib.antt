@@ -1,0 +1,9 @@
+mod Notation
+mod NoteRows
+mod ChoiceRows
+mod ForkRows
+mod WarpRows
+mod ValueRows
+mod Plain
+mod Running
+mod Frames
