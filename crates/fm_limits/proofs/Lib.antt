@@ -1,0 +1,9 @@
+mod Registers
+mod Operands
+mod Formed
+mod Statements
+mod Fair
+mod Ranged
+mod Clear
+mod Placed
+mod Accepted
