@@ -1,0 +1,4 @@
+pub mod DigitLemmas
+pub mod TextLemmas
+pub mod LengthLemmas
+mod Rows

@@ -1,0 +1,2 @@
+pub mod LargeScore
+pub mod SummaryLine
