@@ -20,6 +20,7 @@ text_kept t s m =
     let both = none_both (second_walk s) (third_walk (resolved s).passage) last.0 in
     let names : Names = record { whole = 1920; shapes = []; phrases = [] } in
     walked_kept (resolved s).passage
-    (entries_ranged names (nothing_known 1920) s.entries refl tt (text_formed t s m.reads)
+    (entries_ranged names (nothing_known 1920) s.entries
+    (record { whole = refl; names = refl; shapes = tt }) tt (text_formed t s m.reads)
     (none_both (number_faults version_number version_number s.version) (entries_faults names s.entries) both.0).1)
     both.1

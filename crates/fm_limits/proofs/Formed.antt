@@ -100,7 +100,7 @@ abbrev mutual
 
 -- an entry of a score
 abbrev pub EntryFormed : text.Entry → Type 0
-EntryFormed (text.shape name parts) = Unit {0}
+EntryFormed (text.shape name parts) = 0 < length parts
 EntryFormed (text.phrase name body) = FormedIn body
 EntryFormed (text.plays spot s) = Formed s
 

@@ -62,7 +62,7 @@ mutual
       (none_told fork_in_choice d.in_choice spot head.0.fork, r.0, kept_among branches (in_fork d) low r.1 last.1)
   kept spot (warp parts body) d low r c =
       let both = clear_parts (depth_faults spot (in_warp d)) (passage_faults body (in_warp d)) c in
-      (depths_kept spot (in_warp d) both.0 low, kept_in body (in_warp d) low r both.1)
+      (r.0, depths_kept spot (in_warp d) both.0 low, kept_in body (in_warp d) low r.1 both.1)
   kept spot (channel number body) d low r c =
       (r.0, kept_in body (in_one d) low r.1 (clear_parts (depth_faults spot (in_one d)) (passage_faults body (in_one d)) c).1)
   kept spot (steady quality entry body) d low r c =
