@@ -4,16 +4,26 @@ use Rattle.std.proofs.Common.{refl, ap, length-append, arith}
 use Rattle.std.specs.Prelude.{codes}
 use Rattle.std.specs.Fmt.{decimal}
 use Rattle.std.proofs.lemmas.Fmt.{length-decimal-le}
-use Rattle.fm_gen.specs.LargeScore.{stretch_of, notes_of, lines_text, branch, branches}
+use Rattle.fm_gen.specs.LargeScore.{stretch_of, notes_of, lines_text, voice, branch, branches}
 use Rattle.fm_gen.specs.LargeScore.{head, large_score}
 use Rattle.fm_gen.specs.declared.score.TheConstants.{MAX_NUMBER, MAX_SCORE}
-use Rattle.fm_gen.proofs.TextLemmas.{before_channel, behind_channel, even_end, odd_end}
+use Rattle.fm_gen.proofs.TextLemmas.{before_channel, behind_channel}
 use Rattle.fm_gen.proofs.TextLemmas.{even_spelt, odd_spelt, large_score-parts}
 
+-- a voice
+voice_pieces : (r n o v e : List ℕ) → length ((r ++ n) ++ o ++ v ++ e)
+    ≡ length n + (length r + (length o + (length v + length e)))
+voice_pieces r n o v e = simp length-append (omega arith)
+
+length-voice : (notes : ℕ) → length (voice notes) ≡ length (decimal notes) + 42
+length-voice notes =
+    voice_pieces (codes "repeat ") (decimal notes) (codes " { ")
+    (codes "note key (36 + pick(60)) 1/16;") (codes " }")
+
 -- the length of a line of six pieces
-spelt_length : (line p d q r n e : List ℕ) → line ++ 10 ∷ [] ≡ p ++ (d ++ (q ++ (r ++ (n ++ e))))
+six_pieces : (line p d q r n e : List ℕ) → line ++ 10 ∷ [] ≡ p ++ (d ++ (q ++ (r ++ (n ++ e))))
     → length line + 1 ≡ length p + (length d + (length q + (length r + (length n + length e))))
-spelt_length line p d q r n e spelt = simp length-append at (ap length spelt)
+six_pieces line p d q r n e spelt = simp length-append at (ap length spelt)
 
 -- a branch of an even channel
 even_short : (notes channel digits : ℕ) → channel % 2 ≡ 0 → length (decimal channel) ≤ digits
@@ -21,8 +31,9 @@ even_short : (notes channel digits : ℕ) → channel % 2 ≡ 0 → length (deci
 even_short notes channel digits even few short =
     omega (
       arith,
-      spelt_length (branch notes channel) before_channel (decimal channel) behind_channel
-          (codes "repeat ") (decimal notes) even_end (even_spelt notes channel even),
+      length-voice notes,
+      six_pieces (branch notes channel) before_channel (decimal channel) behind_channel []
+          (voice notes) (codes " } } }" ++ 10 ∷ []) (even_spelt notes channel even),
     )
 
 -- a branch of an odd channel
@@ -31,8 +42,10 @@ odd_short : (notes channel digits : ℕ) → channel % 2 ≡ 1 → length (decim
 odd_short notes channel digits odd few short =
     omega (
       arith,
-      spelt_length (branch notes channel) before_channel (decimal channel) behind_channel
-          (codes "warp b { repeat ") (decimal notes) odd_end (odd_spelt notes channel odd),
+      length-voice notes,
+      six_pieces (branch notes channel) before_channel (decimal channel) behind_channel
+          (codes "warp b { ") (voice notes) (codes " } } } }" ++ 10 ∷ [])
+          (odd_spelt notes channel odd),
     )
 
 -- numbers of one digit, and of two

@@ -1,4 +1,5 @@
 pub mod DigitLemmas
 pub mod TextLemmas
 pub mod LengthLemmas
+pub mod SeedLemmas
 mod Rows

@@ -7,138 +7,115 @@ use Rattle.std.specs.List.{range_with_len}
 use Rattle.std.proofs.lemmas.List.{flat_map_more}
 use Rattle.std.proofs.lemmas.List.Concat.{flat_map-append}
 use Rattle.std.proofs.lemmas.List.FromFn.{map-range_with_len_more}
-use Rattle.fm_gen.specs.LargeScore.{stretch_of, notes_of, line_text, lines_text}
-use Rattle.fm_gen.specs.LargeScore.{head_lines, branch, branches, head, large_score}
+use Rattle.fm_gen.specs.LargeScore.{stretch_of, notes_of, line_text, lines_text, voice}
+use Rattle.fm_gen.specs.LargeScore.{seed_line, first_shape_line, head_lines, head}
+use Rattle.fm_gen.specs.LargeScore.{branch, branches, large_score}
 
 -- ---- the head
 
--- what stands between the numbers of the head
-abbrev pub before_seed : List ℕ
-before_seed = codes "formula 1;" ++ 10 ∷ codes "seed "
+-- a line of five pieces
+five_pieces : (p d q s e : List ℕ)
+    → line_text (p ++ d ++ q ++ s ++ e) ≡ p ++ (d ++ (q ++ (s ++ (e ++ 10 ∷ []))))
+five_pieces p d q s e = simp append_assoc
 
-abbrev pub statement_end : List ℕ
-statement_end = codes ";" ++ 10 ∷ []
+-- the line of the first shape, from left to right
+pub first_shape_spelt : (stretch : ℕ) → line_text (first_shape_line stretch)
+    ≡ codes "shape a = slope 1/1 by 1000 to " ++ (decimal stretch
+    ++ (codes ", breath 1/16, flat 2/1 by " ++ (decimal stretch ++ (codes ";" ++ 10 ∷ []))))
+first_shape_spelt stretch =
+    five_pieces (codes "shape a = slope 1/1 by 1000 to ") (decimal stretch)
+    (codes ", breath 1/16, flat 2/1 by ") (decimal stretch) (codes ";")
 
-abbrev pub before_stretch : List ℕ
-before_stretch = codes "shape a = slope 1/1 by 1000 to "
+-- five lines, written behind a text one by one, the last two at once
+lines_written : (t u v w x a b c d e : List ℕ) → u ≡ t ++ line_text a → v ≡ u ++ line_text b
+    → w ≡ v ++ line_text c → x ≡ w ++ (line_text d ++ line_text e)
+    → x ≡ t ++ lines_text (a ∷ b ∷ c ∷ d ∷ e ∷ [])
+lines_written t u v w x a b c d e first second third fourth =
+    rw (fourth, third, second, first) (simp append_assoc)
 
-abbrev pub between_stretches : List ℕ
-between_stretches = codes ", breath 1/16, flat 2/1 by "
-
-abbrev pub behind_stretches : List ℕ
-behind_stretches = codes "shape b = pause 1/8, flat 4/1 by 1500;" ++ 10 ∷ codes "par {" ++ 10 ∷ []
-
--- the five lines of the head, in their order
-lines_spelt : (a s n e r d o k g : List ℕ)
-    → lines_text (a ∷ (s ++ n ++ e) ∷ (r ++ d ++ o ++ d ++ e) ∷ k ∷ g ∷ [])
-    ≡ (a ++ 10 ∷ s) ++ (n ++ ((e ++ 10 ∷ []) ++ (r ++ (d ++ (o ++ (d ++ ((e ++ 10 ∷ [])
-    ++ (k ++ 10 ∷ g ++ 10 ∷ []))))))))
-lines_spelt a s n e r d o k g = simp append_assoc
-
--- the head, from left to right
-head_spelt : (number : ℕ) → head number
-    ≡ before_seed ++ (decimal number ++ (statement_end
-    ++ (before_stretch ++ (decimal (stretch_of number) ++ (between_stretches
-    ++ (decimal (stretch_of number) ++ (statement_end ++ behind_stretches)))))))
+-- the head is what its lines leave
+pub head_written : (t u v w x : List ℕ) (number stretch : ℕ) → stretch ≡ stretch_of number
+    → u ≡ t ++ line_text (codes "formula 1;") → v ≡ u ++ line_text (seed_line number)
+    → w ≡ v ++ line_text (first_shape_line stretch)
+    → x ≡ w ++ (line_text (codes "shape b = pause 1/8, flat 4/1 by 1500;")
+    ++ line_text (codes "par {"))
+    → x ≡ t ++ head number
 unfolding head
-head_spelt number =
-    lines_spelt (codes "formula 1;") (codes "seed ") (decimal number) (codes ";") before_stretch
-    (decimal (stretch_of number)) between_stretches
-    (codes "shape b = pause 1/8, flat 4/1 by 1500;") (codes "par {")
-
--- what three writes leave
-three_written : (t p n e r d o k a b c : List ℕ) → a ≡ t ++ (p ++ (n ++ e))
-    → b ≡ a ++ (r ++ (d ++ (o ++ (d ++ e)))) → c ≡ b ++ k
-    → c ≡ t ++ (p ++ (n ++ (e ++ (r ++ (d ++ (o ++ (d ++ (e ++ k))))))))
-three_written t p n e r d o k a b c first second third =
-    rw (third, second, first) (simp append_assoc)
-
--- the head is what three writes leave
-pub head_written : (t a b c : List ℕ) (number stretch : ℕ) → stretch ≡ stretch_of number
-    → a ≡ t ++ (before_seed ++ (decimal number ++ statement_end))
-    → b ≡ a ++ (before_stretch
-    ++ (decimal stretch ++ (between_stretches ++ (decimal stretch ++ statement_end))))
-    → c ≡ b ++ behind_stretches
-    → c ≡ t ++ head number
-head_written t a b c number stretch same first second third =
-    three_written t before_seed (decimal number) statement_end before_stretch (decimal stretch)
-    between_stretches behind_stretches a b c first second third
-    ∙ rw same (ap (λ text. t ++ text) (sym (head_spelt number)))
+head_written t u v w x number stretch same first second third fourth =
+    lines_written t u v w x (codes "formula 1;") (seed_line number)
+    (first_shape_line (stretch_of number)) (codes "shape b = pause 1/8, flat 4/1 by 1500;")
+    (codes "par {") first second (rw same at third) fourth
 
 -- ---- a branch
 
--- what stands before the channel, behind it, and behind the number of notes
+-- three blocks inside one another, and a line end
+three_blocks : (a c d w body o e : List ℕ)
+    → a ++ o ++ ((c ++ d) ++ o ++ (w ++ o ++ body ++ e) ++ e) ++ e ++ 10 ∷ []
+    ≡ a ++ (o ++ (c ++ (d ++ (o ++ (w ++ (o ++ (body ++ (e ++ (e ++ (e ++ 10 ∷ []))))))))))
+three_blocks a c d w body o e = simp append_assoc
+
+-- the same round one more
+four_blocks : (a c d w x body o e : List ℕ)
+    → a ++ o ++ ((c ++ d) ++ o ++ (w ++ o ++ (x ++ o ++ body ++ e) ++ e) ++ e) ++ e ++ 10 ∷ []
+    ≡ a ++ (o ++ (c ++ (d ++ (o ++ (w ++ (o ++ (x ++ (o
+    ++ (body ++ (e ++ (e ++ (e ++ (e ++ 10 ∷ [])))))))))))))
+four_blocks a c d w x body o e = simp append_assoc
+
+-- what stands before the channel, and behind it
 abbrev pub before_channel : List ℕ
 before_channel = codes "branch { channel "
 
 abbrev pub behind_channel : List ℕ
 behind_channel = codes " { warp a { "
 
-abbrev pub even_end : List ℕ
-even_end = codes " { note key (36 + pick(60)) 1/16; } } } }" ++ 10 ∷ []
-
-abbrev pub odd_end : List ℕ
-odd_end = codes " { note key (36 + pick(60)) 1/16; } } } } }" ++ 10 ∷ []
-
--- four blocks inside one another, and five
-four_spelt : (a c d w r n v o e : List ℕ)
-    → a ++ o ++ ((c ++ d) ++ o ++ (w ++ o ++ ((r ++ n) ++ o ++ v ++ e) ++ e) ++ e) ++ e ++ 10 ∷ []
-    ≡ a ++ (o ++ (c ++ (d ++ (o ++ (w ++ (o ++ (r ++ (n
-    ++ (o ++ (v ++ (e ++ (e ++ (e ++ (e ++ 10 ∷ []))))))))))))))
-four_spelt a c d w r n v o e = simp append_assoc
-
-five_spelt : (a c d w x r n v o e : List ℕ)
-    → a ++ o ++ ((c ++ d) ++ o
-    ++ (w ++ o ++ (x ++ o ++ ((r ++ n) ++ o ++ v ++ e) ++ e) ++ e) ++ e) ++ e ++ 10 ∷ []
-    ≡ a ++ (o ++ (c ++ (d ++ (o ++ (w ++ (o ++ (x ++ (o ++ (r ++ (n
-    ++ (o ++ (v ++ (e ++ (e ++ (e ++ (e ++ (e ++ 10 ∷ [])))))))))))))))))
-five_spelt a c d w x r n v o e = simp append_assoc
-
 -- the branch of an even channel, from left to right
 pub even_spelt : (notes channel : ℕ) → channel % 2 ≡ 0 → line_text (branch notes channel)
     ≡ before_channel ++ (decimal channel ++ (behind_channel
-    ++ (codes "repeat " ++ (decimal notes ++ even_end))))
+    ++ (voice notes ++ (codes " } } }" ++ 10 ∷ []))))
 unfolding branch
 even_spelt notes channel even =
     rw even
-    (four_spelt (codes "branch") (codes "channel ") (decimal channel) (codes "warp a")
-    (codes "repeat ") (decimal notes) (codes "note key (36 + pick(60)) 1/16;")
-    (codes " { ") (codes " }"))
+    (three_blocks (codes "branch") (codes "channel ") (decimal channel) (codes "warp a")
+    (voice notes) (codes " { ") (codes " }"))
 
 -- the branch of an odd channel
 pub odd_spelt : (notes channel : ℕ) → channel % 2 ≡ 1 → line_text (branch notes channel)
     ≡ before_channel ++ (decimal channel ++ (behind_channel
-    ++ (codes "warp b { repeat " ++ (decimal notes ++ odd_end))))
+    ++ (codes "warp b { " ++ (voice notes ++ (codes " } } } }" ++ 10 ∷ [])))))
 unfolding branch
 odd_spelt notes channel odd =
     rw odd
-    (five_spelt (codes "branch") (codes "channel ") (decimal channel) (codes "warp a")
-    (codes "warp b") (codes "repeat ") (decimal notes) (codes "note key (36 + pick(60)) 1/16;")
-    (codes " { ") (codes " }"))
+    (four_blocks (codes "branch") (codes "channel ") (decimal channel) (codes "warp a")
+    (codes "warp b") (voice notes) (codes " { ") (codes " }"))
 
--- what two writes leave
-two_written : (t p d q r n e a b : List ℕ) → a ≡ t ++ (p ++ (d ++ q)) → b ≡ a ++ (r ++ (n ++ e))
-    → b ≡ t ++ (p ++ (d ++ (q ++ (r ++ (n ++ e)))))
-two_written t p d q r n e a b first second = rw (second, first) (simp append_assoc)
+-- what three writes leave
+three_written : (t u v w p d q n e : List ℕ) → u ≡ t ++ (p ++ (d ++ q)) → v ≡ u ++ n → w ≡ v ++ e
+    → w ≡ t ++ (p ++ (d ++ (q ++ (n ++ e))))
+three_written t u v w p d q n e first second third = rw (third, second, first) (simp append_assoc)
 
--- the branch of an even channel is what two writes leave
-pub even_written : (t a b : List ℕ) (notes channel : ℕ) → channel % 2 ≡ 0
-    → a ≡ t ++ (before_channel ++ (decimal channel ++ behind_channel))
-    → b ≡ a ++ (codes "repeat " ++ (decimal notes ++ even_end))
-    → b ≡ t ++ line_text (branch notes channel)
-even_written t a b notes channel even first second =
-    two_written t before_channel (decimal channel) behind_channel (codes "repeat ") (decimal notes)
-    even_end a b first second
+-- the branch of an even channel is what its writes leave
+pub even_written : (t u v w : List ℕ) (notes channel : ℕ) → channel % 2 ≡ 0
+    → u ≡ t ++ (before_channel ++ (decimal channel ++ behind_channel)) → v ≡ u ++ voice notes
+    → w ≡ v ++ (codes " } } }" ++ 10 ∷ []) → w ≡ t ++ line_text (branch notes channel)
+even_written t u v w notes channel even first second third =
+    three_written t u v w before_channel (decimal channel) behind_channel (voice notes)
+    (codes " } } }" ++ 10 ∷ []) first second third
     ∙ ap (λ text. t ++ text) (sym (even_spelt notes channel even))
 
+-- what four writes leave
+four_written : (t u v w x p d q b n e : List ℕ) → u ≡ t ++ (p ++ (d ++ q)) → v ≡ u ++ b
+    → w ≡ v ++ n → x ≡ w ++ e → x ≡ t ++ (p ++ (d ++ (q ++ (b ++ (n ++ e)))))
+four_written t u v w x p d q b n e first second third fourth =
+    rw (fourth, third, second, first) (simp append_assoc)
+
 -- the branch of an odd channel
-pub odd_written : (t a b : List ℕ) (notes channel : ℕ) → channel % 2 ≡ 1
-    → a ≡ t ++ (before_channel ++ (decimal channel ++ behind_channel))
-    → b ≡ a ++ (codes "warp b { repeat " ++ (decimal notes ++ odd_end))
-    → b ≡ t ++ line_text (branch notes channel)
-odd_written t a b notes channel odd first second =
-    two_written t before_channel (decimal channel) behind_channel (codes "warp b { repeat ")
-    (decimal notes) odd_end a b first second
+pub odd_written : (t u v w x : List ℕ) (notes channel : ℕ) → channel % 2 ≡ 1
+    → u ≡ t ++ (before_channel ++ (decimal channel ++ behind_channel))
+    → v ≡ u ++ codes "warp b { " → w ≡ v ++ voice notes
+    → x ≡ w ++ (codes " } } } }" ++ 10 ∷ []) → x ≡ t ++ line_text (branch notes channel)
+odd_written t u v w x notes channel odd first second third fourth =
+    four_written t u v w x before_channel (decimal channel) behind_channel (codes "warp b { ")
+    (voice notes) (codes " } } } }" ++ 10 ∷ []) first second third fourth
     ∙ ap (λ text. t ++ text) (sym (odd_spelt notes channel odd))
 
 -- ---- the whole

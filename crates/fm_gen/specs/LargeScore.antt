@@ -34,20 +34,29 @@ branch notes channel =
     block (codes "branch") (block (codes "channel " ++ decimal channel) (block (codes "warp a")
     (if channel % 2 == 1 then block (codes "warp b") (voice notes) else voice notes)))
 
+-- the branches, one for each of the sixteen channels
+abbrev pub branches : ℕ → List (List ℕ)
+branches notes = map (branch notes) (range_with_len 0 16)
+
+-- the number is the seed
+abbrev pub seed_line : ℕ → List ℕ
+seed_line number = codes "seed " ++ decimal number ++ codes ";"
+
+-- a whole note that comes to a stretch, a breath, and two whole notes at that stretch
+abbrev pub first_shape_line : ℕ → List ℕ
+first_shape_line stretch =
+    codes "shape a = slope 1/1 by 1000 to " ++ decimal stretch
+    ++ codes ", breath 1/16, flat 2/1 by " ++ decimal stretch ++ codes ";"
+
 -- the lines before the branches
 abbrev pub head_lines : ℕ → List (List ℕ)
 head_lines number =
     codes "formula 1;"
-    ∷ (codes "seed " ++ decimal number ++ codes ";")
-    ∷ (codes "shape a = slope 1/1 by 1000 to " ++ decimal (stretch_of number)
-    ++ codes ", breath 1/16, flat 2/1 by " ++ decimal (stretch_of number) ++ codes ";")
+    ∷ seed_line number
+    ∷ first_shape_line (stretch_of number)
     ∷ codes "shape b = pause 1/8, flat 4/1 by 1500;"
     ∷ codes "par {"
     ∷ []
-
--- the branches, one for each of the sixteen channels
-abbrev pub branches : ℕ → List (List ℕ)
-branches notes = map (branch notes) (range_with_len 0 16)
 
 -- what stands before the branches
 unfoldable pub head : ℕ → List ℕ

@@ -1,7 +1,8 @@
 //! The text of a large score.
 ghost use Rattle.std.specs.Prelude.{◌≡◌, ◌≤◌, ◌%◌, ◌++◌, ◌↔◌};
 ghost use Rattle.std.specs.Prelude.{IsTrue, IfOk, OnOk, codes, string_bytes, vec_len};
-ghost use Rattle.fm_gen.specs.LargeScore.{stretch_of, notes_of, head, branch, line_text, large_score};
+ghost use Rattle.fm_gen.specs.LargeScore.{stretch_of, notes_of, line_text, large_score};
+ghost use Rattle.fm_gen.specs.LargeScore.{head, seed_line, first_shape_line, branch, voice};
 
 use std::alloc::{AllocError, Global};
 
@@ -58,13 +59,30 @@ fn is_doubly_warped(channel: u32) -> bool
 fn push_head(text: &mut String, number: u32) -> Result<(), AllocError>
     ensures { OnOk result (string_bytes text.new ≡ string_bytes text.old ++ head number) }
 {
-    let stretch = final_stretch(number);
-    writeln!(text, "formula 1;\nseed {number};")?;
+    text.push_str("formula 1;\n")?;
+    push_seed(text, number)?;
+    push_first_shape(text, final_stretch(number))?;
+    text.push_str("shape b = pause 1/8, flat 4/1 by 1500;\npar {\n")?;
+    Ok(())
+}
+
+// Appends the line of the seed.
+fn push_seed(text: &mut String, number: u32) -> Result<(), AllocError>
+    ensures { OnOk result
+        (string_bytes text.new ≡ string_bytes text.old ++ line_text (seed_line number)) }
+{
+    writeln!(text, "seed {number};")
+}
+
+// Appends the line of the first shape.
+fn push_first_shape(text: &mut String, stretch: u32) -> Result<(), AllocError>
+    ensures { OnOk result
+        (string_bytes text.new ≡ string_bytes text.old ++ line_text (first_shape_line stretch)) }
+{
     writeln!(
         text,
         "shape a = slope 1/1 by 1000 to {stretch}, breath 1/16, flat 2/1 by {stretch};"
-    )?;
-    writeln!(text, "shape b = pause 1/8, flat 4/1 by 1500;\npar {{")
+    )
 }
 
 // Appends the branch of a channel.
@@ -74,16 +92,21 @@ fn push_branch(text: &mut String, channel: u32, notes: u32) -> Result<(), AllocE
 {
     write!(text, "branch {{ channel {channel} {{ warp a {{ ")?;
     if is_doubly_warped(channel) {
-        writeln!(
-            text,
-            "warp b {{ repeat {notes} {{ note key (36 + pick(60)) 1/16; }} }} }} }} }}"
-        )
+        text.push_str("warp b { ")?;
+        push_voice(text, notes)?;
+        text.push_str(" } } } }\n")?;
     } else {
-        writeln!(
-            text,
-            "repeat {notes} {{ note key (36 + pick(60)) 1/16; }} }} }} }}"
-        )
+        push_voice(text, notes)?;
+        text.push_str(" } } }\n")?;
     }
+    Ok(())
+}
+
+// Appends the notes of a voice.
+fn push_voice(text: &mut String, notes: u32) -> Result<(), AllocError>
+    ensures { OnOk result (string_bytes text.new ≡ string_bytes text.old ++ voice notes) }
+{
+    write!(text, "repeat {notes} {{ note key (36 + pick(60)) 1/16; }}")
 }
 
 // Appends the end of the group.

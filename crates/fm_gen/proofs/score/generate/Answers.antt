@@ -8,7 +8,8 @@ pub loop-channel-preserved : goal.loop-channel-preserved
 loop-channel-preserved c =
     let one_more = rw c.notes_per_voice-notes.ensures at c.in_ok-push_branch.ensures in
     one_more
-    ∙ ap (λ text. text ++ line_text (branch (notes_of c.args.number) c.loop-channel.channel)) c.loop-channel.invariant
+    ∙ ap (λ text. text ++ line_text (branch (notes_of c.args.number) c.loop-channel.channel))
+    c.loop-channel.invariant
     ∙ next_branch (head c.args.number) (notes_of c.args.number) c.loop-channel.channel
 
 pub returns-clause-text : goal.returns-clause-text
