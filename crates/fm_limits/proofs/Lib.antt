@@ -4,6 +4,7 @@ mod Formed
 mod Statements
 mod Fair
 mod Ranged
+mod Listed
 mod Clear
 mod Placed
 mod Accepted

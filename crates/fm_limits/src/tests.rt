@@ -1,6 +1,7 @@
-use crate::accepted_statements_keep_limits;
+use crate::{accepted_lists_have_entries, accepted_statements_keep_limits};
 
 #[test]
-fn law_takes_nothing_and_does_nothing() {
+fn laws_take_nothing_and_do_nothing() {
     accepted_statements_keep_limits();
+    accepted_lists_have_entries();
 }
