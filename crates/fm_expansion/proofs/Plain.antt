@@ -28,10 +28,12 @@ heard_append ls a b = map-append (heard_mark ls) a b
 
 -- marks of a level, from the inside outwards
 pub heard_through : (l : OpenLevel) (ls : List OpenLevel) (ms : List Mark)
-    → heard (l ∷ ls) ms ≡ heard ls (map (mapped (placed Onset l.origin l.parts) (placed Ending l.origin l.parts)) ms)
+    → heard (l ∷ ls) ms ≡ heard ls (map (mapped (placed Onset l.origin l.parts)
+    (placed Ending l.origin l.parts)) ms)
 heard_through l ls [] = refl
 heard_through l ls (m ∷ ms) =
-    ap (λ x. heard_mark ls (mapped (placed Onset l.origin l.parts) (placed Ending l.origin l.parts) m) ∷ x) (heard_through l ls ms)
+    ap (λ x. heard_mark ls (mapped (placed Onset l.origin l.parts) (placed Ending l.origin l.parts) m) ∷
+    x) (heard_through l ls ms)
 
 -- a plain mark that is mapped is plain
 plain_mapped : (f g : ℕ → ℕ) (m : Mark) → plain (mapped f g m) ≡ mapped f g (plain m)
@@ -67,7 +69,8 @@ plain_event m = by_ending (has_ending m.msg) refl
 plain_events : (j : ℕ) (ms : List Mark) → process_events j (map plain ms) ≡ process_events j ms
 plain_events j [] = refl
 plain_events j (m ∷ ms) =
-    ap (λ e. (if nat_eq m.process j then option_to_list e else []) ++ process_events j (map plain ms)) (plain_event m)
+    ap (λ e. (if nat_eq m.process j then option_to_list e else []) ++ process_events j (map plain ms))
+    (plain_event m)
     ∙ ap (λ es. (if nat_eq m.process j then option_to_list (mark_event m) else []) ++ es) (plain_events j ms)
 
 -- the same ends
@@ -76,7 +79,8 @@ plain_end j [] = refl
 plain_end j (m ∷ ms) = ap (λ e. if nat_eq m.process j && is_none m.msg then m.onset else e) (plain_end j ms)
 
 -- and the same lines
-plain_lines_from : (j : ℕ) (births : List (List ℕ)) (ms : List Mark) → lines_from j births (map plain ms) ≡ lines_from j births ms
+plain_lines_from : (j : ℕ) (births : List (List ℕ)) (ms : List Mark)
+    → lines_from j births (map plain ms) ≡ lines_from j births ms
 plain_lines_from j [] ms = refl
 plain_lines_from j (b ∷ births) ms =
     ap (λ es. let l : Line = record { events = es; predecessors = b; end = process_end j (map plain ms) } in
@@ -86,6 +90,7 @@ plain_lines_from j (b ∷ births) ms =
     ∙ ap (λ ls. process_line j b ms ∷ ls) (plain_lines_from (j + 1) births ms)
 
 -- lists of marks that are heard alike have the same lines
-pub lines_heard : (births : List (List ℕ)) (a b : List Mark) → map plain a ≡ map plain b → lines_of births a ≡ lines_of births b
+pub lines_heard : (births : List (List ℕ)) (a b : List Mark) → map plain a ≡ map plain b
+    → lines_of births a ≡ lines_of births b
 lines_heard births a b same =
     sym (plain_lines_from 0 births a) ∙ ap (lines_of births) same ∙ plain_lines_from 0 births b

@@ -1,4 +1,5 @@
--- The programs of a score: a fork ends a program and begins one for each branch and one for what follows, and a loop
+-- The programs of a score: a fork ends a program and begins one for each branch and one for what
+-- follows, and a loop
 -- that forks is written out round by round.
 use Rattle.std.specs.Prelude.{ℕ, zero, suc, ◌+◌, List, [], ◌∷◌, ◌++◌, reverse, length, true, false}
 use Rattle.fm_msg.specs.declared.profile.TheConstants.{DIVISION}

@@ -1,4 +1,5 @@
--- What is open round a statement while its operations are made: where each open block is found when they are run.
+-- What is open round a statement while its operations are made: where each open block is found when
+-- they are run.
 use Rattle.std.specs.Prelude.{ℕ, suc, List, [], ◌∷◌, ◌++◌, if◌then◌else◌}
 use Rattle.fm_program.specs.declared.op.Span.{Span}
 use Rattle.fm_program.specs.declared.op.Span.TheVariants as span
@@ -10,7 +11,8 @@ use Rattle.fm_meaning.specs.Resolved.{Quality, duration}
 use Rattle.fm_meaning.specs.State.{same_quality}
 use Rattle.fm_expansion.specs.Outline.{Lasting, ticks, computed, beat}
 
--- where an open block is found: a loop in a frame, the round of a loop that is written out, a list of the table in a
+-- where an open block is found: a loop in a frame, the round of a loop that is written out, a list of
+-- the table in a
 -- frame, or a list of one entry
 pub data Home : Type 0 where
   loop_frame : Home
@@ -33,7 +35,8 @@ turn_for q otherwise (loop_frame ∷ hs) = turn_for q otherwise hs
 turn_for q otherwise (loop_round i ∷ hs) = turn_for q otherwise hs
 turn_for q otherwise (list_frame p l ∷ hs) =
     if same_quality q p then turn.Cycle (frames_of hs) else turn_for q otherwise hs
-turn_for q otherwise (list_of_one p v ∷ hs) = if same_quality q p then turn.Steady v else turn_for q otherwise hs
+turn_for q otherwise (list_of_one p v ∷ hs) = if same_quality q p then turn.Steady v else turn_for q
+    otherwise hs
 
 -- the same as a duration
 abbrev pub span_at : Turn → Span
@@ -62,7 +65,8 @@ cycles_of (loop_round i ∷ hs) = cycles_of hs
 cycles_of (list_frame q l ∷ hs) = cycles_of hs ++ l ∷ []
 cycles_of (list_of_one q v ∷ hs) = cycles_of hs
 
--- what is open round a statement: the homes from the innermost on, the channel, the scope of its expressions by its
+-- what is open round a statement: the homes from the innermost on, the channel, the scope of its
+-- expressions by its
 -- place in the table, and the numbers of the deformations from the innermost on
 pub record Inside : Type 0 where
   pub homes : List Home

@@ -15,7 +15,8 @@ use Rattle.fm_meaning.specs.Resolve.{length_ticks, part_of, Named, meaning_of, n
 use Rattle.fm_expansion.specs.Outline.{Tables, Lasting, ticks, computed, beat, Instruction, note, rest, send, assign, choice, loop, phrase, par, warp, channel, steady, under, Block, done, item, Arms, joined, arm}
 use Rattle.fm_expansion.specs.Expansion.{expansion}
 
--- what is known at a place of the text: the ticks of a whole note, and the shapes and phrases defined before, a shape
+-- what is known at a place of the text: the ticks of a whole note, and the shapes and phrases defined
+-- before, a shape
 -- by its place in the table
 pub record Catalogue : Type 0 where
   pub whole : ℕ
@@ -170,7 +171,8 @@ outline_from k (text.plays spot stmt ∷ es) t =
 -- the outline of a score
 abbrev pub outline : text.Score → Numbered Block
 outline s =
-    outline_from (record { whole = (score_rules s).whole_note; shapes = []; phrases = [] }) s.entries no_tables
+    outline_from (record { whole = (score_rules s).whole_note; shapes = []; phrases = [] }) s.entries
+    no_tables
 
 -- the plan of a score
 abbrev pub score_plan : text.Score → PlanParts
