@@ -18,8 +18,8 @@ mod tests;
 
 pub use laws::{cuts_play_no_part, lines_are_of_programs};
 pub use op::{
-    Count, Draw, MAX_FRAMES, MAX_INDEX, MAX_LENGTH, MAX_PERCENT, MAX_PITCHES, Op, Point, Slot,
-    Span, Turn,
+    Count, Draw, MAX_FRAMES, MAX_INDEX, MAX_LENGTH, MAX_LOOPS, MAX_PERCENT, MAX_PITCHES, Op, Point,
+    Slot, Span, Turn,
 };
 pub use plan::{MAX_STEPS, Plan};
 pub use program::Program;

@@ -3,6 +3,9 @@
 /// How many lists and loops are open at one time at most.
 pub const MAX_FRAMES: usize = 16;
 
+/// How many loops are open in a score at one time at most, and so how many indices a scope has.
+pub const MAX_LOOPS: usize = 16;
+
 /// How many pitches a note has at most.
 pub const MAX_PITCHES: usize = 16;
 
