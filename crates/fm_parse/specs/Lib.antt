@@ -1,6 +1,8 @@
-pub mod Tokens
-pub mod Number
-pub mod Pitch
-pub mod Grammar
-pub mod Reads
-pub mod Rows
+pub mod Reader
+pub mod Follow
+pub mod Drafts
+pub mod Counts
+pub mod Stretches
+pub mod Statements
+pub mod Sorts
+pub mod Whole

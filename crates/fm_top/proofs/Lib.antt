@@ -1,5 +1,11 @@
 pub mod Reading
+pub mod Digits
+pub mod Counting
+pub mod PlainLemmas
 pub mod MarkLemmas
 pub mod PieceLemmas
 pub mod Playing
+pub mod Placing
+pub mod Judged
 pub mod Completing
+pub mod PlaceRows

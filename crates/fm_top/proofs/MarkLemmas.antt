@@ -6,10 +6,10 @@ use Rattle.std.specs.Prelude.{nat_eq, if◌then◌else◌}
 use Rattle.std.proofs.lemmas.List.{append-nil}
 use Rattle.fm_msg.specs.Event.{TimedMessage}
 use Rattle.fm_line.specs.Marks.{Mark, mark_event, process_events}
-use Rattle.fm_parse.specs.Reads.{ticks_of, HasLimits}
-use Rattle.fm_parse.specs.declared.limits.TheConstants.{MAX_LENGTH}
-use Rattle.fm_parse.specs.declared.plain_item.PlainItem.{PlainItem}
-use Rattle.fm_parse.specs.declared.plain_item.PlainItem.TheVariants.{Note, Rest}
+use Rattle.fm_top.specs.Plain.{ticks_of, HasLimits}
+use Rattle.fm_top.specs.declared.limits.TheConstants.{MAX_LENGTH}
+use Rattle.fm_top.specs.declared.plain_item.PlainItem.{PlainItem}
+use Rattle.fm_top.specs.declared.plain_item.PlainItem.TheVariants.{Note, Rest}
 use Rattle.fm_smf.specs.Track.{last_time, NeverFalls}
 use Rattle.fm_top.specs.Meaning.{item_marks, item_events, marks_from, end_from, score_end}
 

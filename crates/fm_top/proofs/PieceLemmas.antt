@@ -8,8 +8,8 @@ use Rattle.fm_line.specs.Piece.{Before, Above, Rises, sorted}
 use Rattle.fm_line.proofs.Members.{Each}
 use Rattle.fm_line.proofs.Sorting.{Ordered, settled_is}
 use Rattle.fm_line.specs.Marks.{process_events}
-use Rattle.fm_parse.specs.declared.plain_item.PlainItem.{PlainItem}
-use Rattle.fm_parse.specs.declared.plain_item.PlainItem.TheVariants.{Note, Rest}
+use Rattle.fm_top.specs.declared.plain_item.PlainItem.{PlainItem}
+use Rattle.fm_top.specs.declared.plain_item.PlainItem.TheVariants.{Note, Rest}
 use Rattle.fm_top.specs.declared.play.TheConstants.{VELOCITY}
 use Rattle.fm_top.specs.Meaning.{sounding, marks_from, end_mark, score_end, score_events}
 use Rattle.fm_top.proofs.MarkLemmas.{events_from, process_events-append}

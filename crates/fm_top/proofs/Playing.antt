@@ -4,9 +4,9 @@ use Rattle.std.proofs.lemmas.List.{take_more, take-append-drop, length-take-le}
 use Rattle.fm_edge.specs.Content.{IsNew}
 use Rattle.fm_edge.specs.Runs.{Puts, Breaks}
 use Rattle.fm_msg.specs.Event.{TimedMessage}
-use Rattle.fm_parse.specs.Reads.{ticks_of, HasLimits, AreItems}
-use Rattle.fm_parse.specs.declared.limits.TheConstants.{MAX_LENGTH}
-use Rattle.fm_parse.specs.declared.plain_item.PlainItem.{PlainItem}
+use Rattle.fm_top.specs.Plain.{ticks_of, HasLimits, AreItems}
+use Rattle.fm_top.specs.declared.limits.TheConstants.{MAX_LENGTH}
+use Rattle.fm_top.specs.declared.plain_item.PlainItem.{PlainItem}
 use Rattle.fm_smf.specs.File.{file_start}
 use Rattle.fm_smf.specs.Track.{events_bytes, end_bytes}
 use Rattle.fm_smf.specs.Writing.{Written, Writes, Finishes, BreaksFinish, IsWritten, IsFinished, IsBroken, patch_after}

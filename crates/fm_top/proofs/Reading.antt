@@ -2,13 +2,13 @@
 use Rattle.std.proofs.Common.{◌≡◌, ℕ, ◌+◌, ◌≤◌, List, [], ◌++◌, length, Option, Some, None, refl, sym, ap, arith, append_assoc, length-append, ◌∙◌}
 use Rattle.std.specs.Io.KnownBytes.{prepend_known}
 use Rattle.fm_top.specs.Taking.{Takes}
-use Rattle.fm_parse.specs.declared.limits.TheConstants.{MAX_SOURCE}
+use Rattle.fm_lex.specs.declared.lexer.TheConstants.{MAX_TEXT}
 
 -- what was read stood before what is left
 pub record HasRead {S : Type 0} (left : S → Option (List ℕ)) (faults : S → ℕ) (start now : S) (text : List ℕ) : Type 0 where
   pub bytes : left start ≡ prepend_known text (left now)
   pub later : faults start ≤ faults now
-  pub few : length text ≤ MAX_SOURCE + 1
+  pub few : length text ≤ MAX_TEXT + 1
 
 -- nothing in front
 pub prepend_known-none : (o : Option (List ℕ)) → prepend_known [] o ≡ o
@@ -23,7 +23,7 @@ prepend_known-append (Some c) xs ys = ap Some (sym (append_assoc xs ys c))
 module _ {S : Type 0} (left : S → Option (List ℕ)) (faults : S → ℕ) where
   -- one piece more
   pub read_more : (start a b : S) (text more : List ℕ) → HasRead left faults start a text → left a ≡ prepend_known more (left b) →
-      faults a ≤ faults b → length text + length more ≤ MAX_SOURCE + 1 → HasRead left faults start b (text ++ more)
+      faults a ≤ faults b → length text + length more ≤ MAX_TEXT + 1 → HasRead left faults start b (text ++ more)
   read_more start a b text more had bytes later few = record {
     bytes = had.bytes ∙ ap (prepend_known text) bytes ∙ prepend_known-append (left b) text more;
     later = omega (arith, had.later);

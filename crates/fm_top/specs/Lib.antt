@@ -1,4 +1,9 @@
+pub mod Plain
 pub mod Meaning
+pub mod Judging
 pub mod Taking
+pub mod Telling
 pub mod Outcome
 pub mod Rows
+pub mod PlainRows
+pub mod TellingRows

@@ -5,9 +5,9 @@ use Rattle.fm_msg.specs.Event.{TimedMessage}
 use Rattle.fm_line.specs.declared.line.Line.{Line}
 use Rattle.fm_line.specs.Marks.{Mark, process_events, lines_of}
 use Rattle.fm_line.specs.Piece.{piece}
-use Rattle.fm_parse.specs.Reads.{ticks_of}
-use Rattle.fm_parse.specs.declared.plain_item.PlainItem.{PlainItem}
-use Rattle.fm_parse.specs.declared.plain_item.PlainItem.TheVariants.{Note, Rest}
+use Rattle.fm_top.specs.Plain.{ticks_of}
+use Rattle.fm_top.specs.declared.plain_item.PlainItem.{PlainItem}
+use Rattle.fm_top.specs.declared.plain_item.PlainItem.TheVariants.{Note, Rest}
 use Rattle.fm_smf.specs.File.{file}
 use Rattle.fm_top.specs.declared.play.TheConstants.{VELOCITY, ARTICULATION}
 

@@ -1,8 +1,8 @@
 -- Worked examples of the meaning.
 use Rattle.std.specs.Prelude.{◌≡◌, ◌^◌, [], ◌∷◌, refl}
-use Rattle.fm_parse.specs.declared.limits.TheConstants.{MAX_SOURCE}
+use Rattle.fm_lex.specs.declared.lexer.TheConstants.{MAX_TEXT}
 use Rattle.fm_msg.specs.declared.msg.Msg.TheVariants.{On, Off}
-use Rattle.fm_parse.specs.declared.plain_item.PlainItem.TheVariants.{Note, Rest}
+use Rattle.fm_top.specs.declared.plain_item.PlainItem.TheVariants.{Note, Rest}
 use Rattle.fm_smf.specs.VariableLength.{vlq}
 use Rattle.fm_smf.specs.Track.{fillers, delta, event_bytes, end_bytes, track}
 use Rattle.fm_smf.specs.File.{with_length, file}
@@ -42,5 +42,5 @@ end-of_two_notes : score_end (Note 60 10 ∷ Rest 7 ∷ Note 62 1 ∷ []) ≡ 18
 end-of_two_notes = refl
 
 -- the most bytes of a text
-most-bytes : MAX_SOURCE ≡ 2 ^ 20
+most-bytes : MAX_TEXT ≡ 2 ^ 20
 most-bytes = refl

@@ -2,14 +2,15 @@
 ghost use Rattle.std.specs.Prelude.{◌≡◌, ◌+◌, ◌<◌, ◌≤◌, ◌^◌, length, OnOk, OnErr, IfSome};
 ghost use Rattle.fm_edge.specs.Content.{IsNew};
 ghost use Rattle.fm_edge.specs.Runs.{Breaks};
-ghost use Rattle.fm_parse.specs.Reads.{HasLimits, AreItems, ticks_of};
+ghost use Rattle.fm_top.specs.Plain.{HasLimits, AreItems, ticks_of};
 ghost use Rattle.fm_smf.specs.Track.{events_bytes};
 ghost use Rattle.fm_smf.specs.Writing.{Writes, IsFinished, IsBroken};
 ghost use Rattle.fm_smf.specs.declared.limits.TheConstants.{MAX_TIME, MAX_TRACK, BEFORE_TRACK};
 ghost use Rattle.fm_top.specs.Meaning.{sounding, item_marks, item_events, score_events, score_end};
 
+use crate::limits::MAX_LENGTH;
+use crate::plain_item::PlainItem;
 use fm_edge::Sink;
-use fm_parse::{MAX_LENGTH, PlainItem};
 use fm_smf::{Event, Msg, SinkFault, Writer};
 
 /// The channel of every message.

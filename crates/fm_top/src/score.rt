@@ -1,36 +1,40 @@
 //! Reads the score of a source.
-ghost use Rattle.std.specs.Prelude.{◌≡◌, IfOk, IsErrOf};
-ghost use Rattle.fm_edge.specs.Causes.{Rose};
-ghost use Rattle.fm_parse.specs.Reads.{AreItems};
-ghost use Rattle.fm_top.specs.Taking.{Takes, TakesScore, TakesFault};
+ghost use Rattle.std.specs.Prelude.{IfOk, IfErr};
+ghost use Rattle.fm_top.specs.Plain.{AreItems};
+ghost use Rattle.fm_top.specs.Taking.{Takes, TakesScore, IsTaken};
 
+use crate::judge::judge;
+use crate::plain_item::PlainItem;
 use crate::read_fault::ReadFault;
-use crate::score_fault::ScoreFault;
+use crate::run_fault::RunFault;
+use crate::score_fault::{ScoreFault, TOO_MUCH_TEXT};
 use crate::text::read_text;
 use fm_edge::Source;
-use fm_parse::{PlainFault, PlainScore, parse_plain};
+use fm_lex::Spot;
 use std::alloc::Global;
 
-/// Reads the text of a source, and its score.
-pub fn read_score<S: Source>(alloc: Global, source: &mut S) -> Result<PlainScore, ScoreFault>
+/// Where a text begins.
+const START: Spot = Spot { line: 1, column: 1 };
+
+/// Reads the text of a source, and its items.
+pub fn read_score<S: Source>(alloc: Global, source: &mut S) -> Result<Vec<PlainItem>, RunFault>
     ensures takes { Takes S.left S.faults source.old source.new }
-    ensures score { IfOk result (λ s.
-        TakesScore (S.left source.old) (S.left source.new) s.items.items) }
-    ensures limits { IfOk result (λ s. AreItems s.items.items) }
-    ensures refused { IsErrOf result ScoreFault.Refused
-        → TakesFault (S.left source.old) (S.left source.new) }
-    ensures read { IsErrOf result ScoreFault.Read
-        → Rose (S.faults source.old) (S.faults source.new) }
+    ensures score { IfOk result (λ items.
+        TakesScore (S.left source.old) (S.left source.new) items.items) }
+    ensures limits { IfOk result (λ items. AreItems items.items) }
+    ensures stopped { IfErr result (λ fault.
+        IsTaken S.left S.faults source.old source.new fault) }
 {
     let text = match read_text(alloc, source) {
         Ok(text) => text,
-        Err(ReadFault::Failed) => return Err(ScoreFault::Read),
-        Err(ReadFault::TooLong) => return Err(ScoreFault::Refused),
-        Err(ReadFault::Memory) => return Err(ScoreFault::Memory),
+        Err(ReadFault::Failed) => return Err(RunFault::Read),
+        Err(ReadFault::TooLong) => {
+            return Err(RunFault::Score(ScoreFault::At {
+                spot: START,
+                number: TOO_MUCH_TEXT,
+            }));
+        }
+        Err(ReadFault::Memory) => return Err(RunFault::Memory),
     };
-    match parse_plain(alloc, &text) {
-        Ok(score) => Ok(score),
-        Err(PlainFault::Refused) => Err(ScoreFault::Refused),
-        Err(PlainFault::Memory) => Err(ScoreFault::Memory),
-    }
+    judge(alloc, &text)
 }

@@ -76,21 +76,28 @@ fn file_of<R: Threads + Wait + Sync>(
     Ok(None)
 }
 
-// The status and the sink after a run on a text and so many words, where these reads and these
-// calls of the sink fail.
+/// What a run leaves.
+#[derive(Drop)]
+struct Ran {
+    status: u8,
+    sink: MemorySink,
+    console: MemorySink,
+}
+
+// A run on a text and so many words, where these reads, and these calls of the sink and of the
+// console, fail.
 fn run_with_faults<R: Threads + Wait + Sync>(
     rt: &R,
     alloc: Global,
-    text: &str,
+    text: &[u8],
     count: usize,
-    reads: &[u64],
-    calls: &[(u64, u32)],
-) -> Result<(u8, MemorySink), AllocError> {
+    faults: (&[u64], &[(u64, u32)], &[(u64, u32)]),
+) -> Result<Ran, AllocError> {
     let words = some_words(alloc, count)?;
-    let text = text.as_bytes().to_vec(alloc)?;
-    let mut source = MemorySource::new(text, 5, reads.to_vec(alloc)?);
-    let mut sink = MemorySink::new(alloc, CAPACITY, calls.to_vec(alloc)?)?;
-    let mut console = NullSink::new();
+    let text = text.to_vec(alloc)?;
+    let mut source = MemorySource::new(text, 5_000, faults.0.to_vec(alloc)?);
+    let mut sink = MemorySink::new(alloc, CAPACITY, faults.1.to_vec(alloc)?)?;
+    let mut console = MemorySink::new(alloc, CAPACITY, faults.2.to_vec(alloc)?)?;
     let status = formula(
         rt,
         alloc,
@@ -100,7 +107,26 @@ fn run_with_faults<R: Threads + Wait + Sync>(
         &mut console,
         &OpenGate,
     );
-    Ok((status, sink))
+    Ok(Ran {
+        status,
+        sink,
+        console,
+    })
+}
+
+// A text, so many times, between two others.
+fn repeated(
+    alloc: Global,
+    ends: (&str, &str),
+    part: &str,
+    times: u64,
+) -> Result<String, AllocError> {
+    let mut text = String::from_str(alloc, ends.0)?;
+    for _ in 0..times {
+        text.push_str(part)?;
+    }
+    text.push_str(ends.1)?;
+    Ok(text)
 }
 
 // A program that always answers want of memory is refused here.
@@ -133,23 +159,89 @@ fn rests_longer_than_a_quantity(rt: HostRuntime) -> Result<(), Fail> {
 }
 
 #[test]
-fn statuses_that_leave_the_sink(rt: HostRuntime) -> Result<(), Fail> {
+fn statuses_and_texts_that_leave_the_sink(rt: HostRuntime) -> Result<(), Fail> {
     let alloc = rt.alloc();
-    let seventh = "formula 1; note c4 1/7;";
-    for (text, count, reads, wanted) in [
-        (NOTE, 1, [].as_slice(), 1),
-        (NOTE, 3, [].as_slice(), 1),
-        (NOTE, 2, [1].as_slice(), 2),
-        (NOTE, 2, [3].as_slice(), 2),
-        (NOTE, 2, [6].as_slice(), 2),
-        (seventh, 2, [6].as_slice(), 2),
-        (seventh, 2, [].as_slice(), 3),
-        ("", 2, [].as_slice(), 3),
+    let words = "formula: words refused\n";
+    let read = "formula: read fault\n";
+    let unplain = "formula: score refused\n";
+    for (text, count, reads, status, said) in [
+        (NOTE, 0, [].as_slice(), 1, words),
+        (NOTE, 1, [].as_slice(), 1, words),
+        (NOTE, 3, [].as_slice(), 1, words),
+        (NOTE, 2, [1].as_slice(), 2, read),
+        (NOTE, 2, [2].as_slice(), 2, read),
+        ("", 2, [1].as_slice(), 2, read),
+        ("formula 1; note c4 1/7;", 2, [].as_slice(), 3, unplain),
+        ("formula 2;", 2, [].as_slice(), 3, unplain),
+        ("formula 1; do x;", 2, [].as_slice(), 3, unplain),
     ] {
-        let (status, sink) = run_with_faults(&rt, alloc, text, count, reads, &[])?;
-        assert_eq!(rt; status, wanted, "at {count} words and the text {text}");
-        assert_eq!(rt; sink.content().len(), 0);
+        let ran = run_with_faults(&rt, alloc, text.as_bytes(), count, (reads, &[], &[]))?;
+        assert_eq!(rt; ran.status, status, "at {count} words and the text {text}");
+        assert_eq!(rt; ran.console.content(), said.as_bytes());
+        assert_eq!(rt; ran.sink.content().len(), 0);
     }
+    Ok(())
+}
+
+#[test]
+fn places_of_faults(rt: HostRuntime) -> Result<(), Fail> {
+    let alloc = rt.alloc();
+    let head = "formula 1; ";
+    let deep = repeated(alloc, (head, ""), "if 1 {", 65)?;
+    let negated = repeated(alloc, ("formula 1; set r0 = ", "1;"), "-", 64)?;
+    let lines = repeated(alloc, ("", "x"), "\n", 41_000)?;
+    for (text, place) in [
+        ("formula 1; Note", "1:12 fault 1"),
+        ("formula 1x;", "1:9 fault 2"),
+        ("formula 1; note c4,", "1:20 fault 3"),
+        ("", "1:1 fault 3"),
+        ("formula 1; note c4 1/4; }", "1:25 fault 3"),
+        (lines.as_str(), "41001:1 fault 3"),
+        (deep.as_str(), "1:396 fault 4"),
+        (negated.as_str(), "1:84 fault 4"),
+    ] {
+        let ran = run_with_faults(&rt, alloc, text.as_bytes(), 2, (&[], &[], &[]))?;
+        let said = format!(in alloc; "formula: score refused: {place}\n")?;
+        assert_eq!(rt; ran.status, 3);
+        assert_eq!(rt; ran.console.content(), said.as_bytes());
+    }
+    Ok(())
+}
+
+// A text that passes the limit is refused before it is judged.
+#[test]
+fn one_byte_too_many(rt: HostRuntime) -> Result<(), Fail> {
+    let alloc = rt.alloc();
+    let blanks = vec![in alloc; b' '; 1_048_577]?;
+    for (length, said) in [
+        (1_048_577, "formula: score refused: 1:1 fault 18\n"),
+        (1_048_576, "formula: score refused: 1:1048577 fault 3\n"),
+    ] {
+        let text = blanks.get(..length).unwrap_or(&[]);
+        let ran = run_with_faults(&rt, alloc, text, 2, (&[], &[], &[]))?;
+        assert_eq!(rt; ran.status, 3);
+        assert_eq!(rt; ran.console.content(), said.as_bytes());
+    }
+    Ok(())
+}
+
+// The text is one call, and nothing is said where the file is written.
+#[test]
+fn the_console_fails_after_each_byte(rt: HostRuntime) -> Result<(), Fail> {
+    let alloc = rt.alloc();
+    let said = b"formula: words refused\n";
+    for count in 0u32..=23 {
+        let ran = run_with_faults(&rt, alloc, b"", 1, (&[], &[], &[(1, count)]))?;
+        assert_eq!(rt; ran.status, 5);
+        assert_eq!(rt; Some(ran.console.content()), said.get(..count as usize));
+        let ran = run_with_faults(&rt, alloc, b"", 1, (&[], &[], &[(2, count)]))?;
+        assert_eq!(rt; ran.status, 1);
+    }
+    let ran = run_with_faults(&rt, alloc, NOTE.as_bytes(), 2, (&[], &[], &[(1, 0)]))?;
+    assert_eq!(rt; ran.status, 0);
+    let ran = run_with_faults(&rt, alloc, NOTE.as_bytes(), 2, (&[], &[(2, 2)], &[(1, 0)]))?;
+    assert_eq!(rt; ran.status, 5);
+    assert_eq!(rt; ran.sink.content().len(), 31);
     Ok(())
 }
 
@@ -158,19 +250,24 @@ fn statuses_that_leave_the_sink(rt: HostRuntime) -> Result<(), Fail> {
 fn each_write_fails_after_each_byte(rt: HostRuntime) -> Result<(), Fail> {
     let alloc = rt.alloc();
     let blank = file_with(alloc, &QUARTER, 0)?;
+    let said = b"formula: write fault\n".as_slice();
     for (call, begin, length) in [(1, 0usize, 29), (2, 29, 4), (3, 33, 5), (4, 38, 4)] {
         for count in 0..=length {
-            let (status, sink) = run_with_faults(&rt, alloc, NOTE, 2, &[], &[(call, count)])?;
+            let calls = [(call, count)];
+            let ran = run_with_faults(&rt, alloc, NOTE.as_bytes(), 2, (&[], &calls, &[]))?;
             let end = begin.saturating_add(count as usize);
-            assert_eq!(rt; status, 4, "at call {call} after {count} bytes");
-            assert_eq!(rt; Some(sink.content()), blank.get(..end));
+            assert_eq!(rt; ran.status, 4, "at call {call} after {count} bytes");
+            assert_eq!(rt; Some(ran.sink.content()), blank.get(..end));
+            assert_eq!(rt; ran.console.content(), said);
         }
     }
     for count in 0..=4 {
-        let (status, sink) = run_with_faults(&rt, alloc, NOTE, 2, &[], &[(5, count)])?;
+        let calls = [(5, count)];
+        let ran = run_with_faults(&rt, alloc, NOTE.as_bytes(), 2, (&[], &calls, &[]))?;
         let patched = file_with(alloc, &QUARTER, count as usize)?;
-        assert_eq!(rt; status, 4, "at the length after {count} bytes");
-        assert_eq!(rt; sink.content(), patched.as_slice());
+        assert_eq!(rt; ran.status, 4, "at the length after {count} bytes");
+        assert_eq!(rt; ran.sink.content(), patched.as_slice());
+        assert_eq!(rt; ran.console.content(), said);
     }
     Ok(())
 }

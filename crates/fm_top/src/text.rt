@@ -5,14 +5,14 @@ ghost use Rattle.fm_top.specs.Taking.{Takes, TakesAll, TakesLong};
 
 use crate::read_fault::ReadFault;
 use fm_edge::Source;
-use fm_parse::MAX_SOURCE;
+use fm_lex::MAX_TEXT;
 use std::alloc::Global;
 
 /// How many bytes are asked for at a time.
 const PIECE: usize = 4_096;
 
 /// The most bytes that are taken: one past the limit.
-const MOST: usize = MAX_SOURCE + 1;
+const MOST: usize = MAX_TEXT + 1;
 
 /// Reads to the end of the source, or to the first byte past the limit.
 pub fn read_text<S: Source>(alloc: Global, source: &mut S) -> Result<Vec<u8>, ReadFault>

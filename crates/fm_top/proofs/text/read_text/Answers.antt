@@ -1,12 +1,12 @@
 use Rattle.std.proofs.Common.{◌+◌, ◌≤◌, length, take, arith}
 use Rattle.std.proofs.lemmas.Grind.{common_steps}
-use Rattle.fm_parse.specs.declared.limits.TheConstants.{MAX_SOURCE}
+use Rattle.fm_lex.specs.declared.lexer.TheConstants.{MAX_TEXT}
 use Rattle.fm_top.proofs.Reading.{read_more, read_takes}
 use Rattle.fm_top.proofs.text.read_text.Goals as goal
 
 pub returns-in_err-extend_from_slice-clause-takes : goal.returns-in_err-extend_from_slice-clause-takes
 returns-in_err-extend_from_slice-clause-takes g c =
-    let few : length c.loop-piece.text.items + length (take c.in_ok-count.count c.read.new.into) ≤ MAX_SOURCE + 1 =
+    let few : length c.loop-piece.text.items + length (take c.in_ok-count.count c.read.new.into) ≤ MAX_TEXT + 1 =
     grind (arith, common_steps)
     in
     read_takes _ _ _ _ _

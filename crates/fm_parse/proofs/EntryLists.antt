@@ -1,0 +1,136 @@
+-- Entries, one behind another.
+use Rattle.std.proofs.Common.{◌≡◌, ℕ, ◌<◌, List, [], ◌∷◌, ◌++◌, Option, None, Result, Err, length, map, refl, sym, ap, ◌∙◌, subst, arith}
+use Rattle.std.specs.Prelude.{◌≢◌}
+use Rattle.std.proofs.lemmas.List.{map-append}
+use Rattle.std.proofs.lemmas.Bool.Decides.{nat_tests}
+use Rattle.fm_lex.specs.declared.kind.Kind.{Kind}
+use Rattle.fm_lex.specs.declared.kind.Kind.TheVariants.{Name, Number, Pitch, Register, Index, Symbol, End}
+use Rattle.fm_lex.specs.declared.kind.Kind.TheVariants as kinds
+use Rattle.fm_lex.specs.declared.keyword.Keyword.TheVariants.{Shape, Phrase, Note, Play, Rest, Skip, Control, Program, Bend, Set, If, Repeat, Do, Warp, Par, Channel, Volume, Gate, Rhythm, Artic, Loud}
+use Rattle.fm_lex.specs.Tokens.{Lexed}
+use Rattle.fm_grammar.specs.declared.entry.Entry as code_entry
+use Rattle.fm_grammar.specs.View.{entry_view}
+use Rattle.fm_grammar.specs.Grammar.{EntryForm, shape, phrase, plays, EntriesForm, no_entry, entry}
+use Rattle.fm_grammar.specs.Signs.{semicolon, equals, tok}
+use Rattle.fm_grammar.specs.Spelling.{entry_text, entries_text, part_text}
+use Rattle.fm_grammar.specs.Standing.{entry_tree, entries_tree}
+use Rattle.fm_grammar.specs.Reads.{Fault}
+use Rattle.fm_grammar.specs.Rules.{Sym, one, entries, kind_code, rules_of, parts, with_commas, block}
+use Rattle.fm_grammar.specs.Table.{taking, opened}
+use Rattle.fm_parse.specs.declared.fault.ParseFault.{ParseFault}
+use Rattle.fm_parse.specs.Reader.{first_kind}
+use Rattle.fm_parse.specs.Follow.{At, Says, Spelt, IsThere}
+use Rattle.fm_parse.specs.Statements.{starter}
+use Rattle.fm_parse.specs.Whole.{EntryLeads, shape_syms, phrase_syms}
+use Rattle.fm_parse.proofs.Steps.{begun, skipped}
+use Rattle.fm_parse.proofs.Lengths.{part_more}
+use Rattle.fm_parse.proofs.StmtLengths.{listed_more, block_more, stmt_more}
+
+-- an answer that hands a fault on
+pub entry_stopped : (F : Option Fault) (below : List Sym) (r : Result (Option code_entry.Entry) ParseFault)
+    (e : ParseFault) (new : List Lexed)
+    → r ≡ Err e → Says e F → EntryLeads F below r new
+entry_stopped F below r e new is says = subst (λ x. EntryLeads F below x new) (sym is) says
+
+-- ---- where an entry begins
+
+module _ (l : List Lexed) (there : IsThere l) (F : Option Fault) (u : ℕ) (below : List Sym) where
+  pub at_shape : first_kind l ≡ kinds.Keyword Shape → At F u (entries ∷ below) l
+      → At F u (shape_syms ++ (entries ∷ below)) l
+  at_shape same a =
+      begun there.token l there.is F u entries (kinds.Keyword Shape) (one Name ∷ one equals ∷ with_commas parts
+      (one semicolon ∷ entries ∷ [])) below refl
+      (sym (ap first_kind there.is) ∙ same) refl (omega (arith, a.braces)) (omega (arith, a.tokens)) a
+
+  pub at_phrase : first_kind l ≡ kinds.Keyword Phrase → opened below ≡ 0 → At F u (entries ∷ below) l
+      → At F u (phrase_syms ++ (entries ∷ below)) l
+  at_phrase same d a =
+      begun there.token l there.is F u entries (kinds.Keyword Phrase) (one Name ∷ block (entries ∷ [])) below refl
+      (sym (ap first_kind there.is) ∙ same) refl (omega (arith, d, a.braces)) (omega (arith, a.tokens)) a
+
+no_entry_rule : (k : Kind) → starter k ≡ None → k ≢ kinds.Keyword Shape → k ≢ kinds.Keyword Phrase
+    → taking (kind_code k) (rules_of entries) ≡ None
+no_entry_rule Name none s p = refl
+no_entry_rule (Number n) none s p = refl
+no_entry_rule (Pitch n) none s p = refl
+no_entry_rule (Register n) none s p = refl
+no_entry_rule (Index n) none s p = refl
+no_entry_rule End none s p = refl
+no_entry_rule (Symbol b) none s p = grind (arith, nat_tests)
+no_entry_rule (kinds.Keyword Shape) none s p = absurd (s refl)
+no_entry_rule (kinds.Keyword Phrase) none s p = absurd (p refl)
+no_entry_rule (kinds.Keyword Note) none s p = cc
+no_entry_rule (kinds.Keyword Play) none s p = cc
+no_entry_rule (kinds.Keyword Rest) none s p = cc
+no_entry_rule (kinds.Keyword Skip) none s p = cc
+no_entry_rule (kinds.Keyword Control) none s p = cc
+no_entry_rule (kinds.Keyword Program) none s p = cc
+no_entry_rule (kinds.Keyword Bend) none s p = cc
+no_entry_rule (kinds.Keyword Set) none s p = cc
+no_entry_rule (kinds.Keyword If) none s p = cc
+no_entry_rule (kinds.Keyword Repeat) none s p = cc
+no_entry_rule (kinds.Keyword Do) none s p = cc
+no_entry_rule (kinds.Keyword Warp) none s p = cc
+no_entry_rule (kinds.Keyword Par) none s p = cc
+no_entry_rule (kinds.Keyword Channel) none s p = cc
+no_entry_rule (kinds.Keyword Volume) none s p = cc
+no_entry_rule (kinds.Keyword Gate) none s p = cc
+no_entry_rule (kinds.Keyword Rhythm) none s p = cc
+no_entry_rule (kinds.Keyword Artic) none s p = cc
+no_entry_rule (kinds.Keyword Loud) none s p = cc
+no_entry_rule (kinds.Keyword w) none s p = refl
+
+pub ends_entries : (l : List Lexed) (there : IsThere l) (F : Option Fault) (u : ℕ) (below : List Sym)
+    → starter (first_kind l) ≡ None
+    → first_kind l ≢ kinds.Keyword Shape → first_kind l ≢ kinds.Keyword Phrase → At F u (entries ∷ below) l
+    → At F 0 below l
+ends_entries l there F u below none s p a =
+    let kind : there.token.kind ≡ first_kind l = sym (ap first_kind there.is) in
+    skipped there.token l there.is F u entries below refl refl
+    (no_entry_rule there.token.kind (ap starter kind ∙ none) (λ h. s (sym kind ∙ h)) (λ h. p (sym kind ∙ h))) a
+
+-- ---- what was read
+
+-- some entries were read
+pub record Entering (xs : List code_entry.Entry) (start now : List Lexed) : Type 0 where
+  pub form : EntriesForm
+  pub spells : start ≡ entries_text form now
+  pub stands_for : map entry_view xs ≡ entries_tree form
+  pub leads : (F : Option Fault) (u : ℕ) (below : List Sym) → opened below ≡ 0 → At F u (entries ∷ below) start
+      → At F 0 (entries ∷ below) now
+
+abbrev entries_with : EntriesForm → EntryForm → EntriesForm
+entries_with no_entry x = entry x no_entry
+entries_with (entry e es) x = entry e (entries_with es x)
+
+entries_with_text : (es : EntriesForm) (x : EntryForm) (next : List Lexed)
+    → entries_text (entries_with es x) next ≡ entries_text es (entry_text x next)
+entries_with_text no_entry x next = refl
+entries_with_text (entry e es) x next = ap (entry_text e) (entries_with_text es x next)
+
+entries_with_tree : (es : EntriesForm) (x : EntryForm)
+    → entries_tree (entries_with es x) ≡ entries_tree es ++ entry_tree x ∷ []
+entries_with_tree no_entry x = refl
+entries_with_tree (entry e es) x = ap (λ l. entry_tree e ∷ l) (entries_with_tree es x)
+
+-- one entry more
+pub one_entered : (xs xs' : List code_entry.Entry) (e : code_entry.Entry) (start now new : List Lexed)
+    (g : Entering xs start now)
+    (x : Spelt entry_text entry_tree (entry_view e) now new) → xs' ≡ xs ++ e ∷ []
+    → ((F : Option Fault) (below : List Sym) → opened below ≡ 0 → At F 0 (entries ∷ below) now
+    → At F 0 (entries ∷ below) new)
+    → Entering xs' start new
+one_entered xs xs' e start now new g x more leads = record {
+  form = entries_with g.form x.form;
+  spells = g.spells ∙ ap (entries_text g.form) x.spells ∙ sym (entries_with_text g.form x.form new);
+  stands_for = ap (map entry_view) more ∙ map-append entry_view xs (e ∷ [])
+      ∙ ap (λ l. l ++ entry_view e ∷ []) g.stands_for
+      ∙ ap (λ y. entries_tree g.form ++ y ∷ []) x.stands_for ∙ sym (entries_with_tree g.form x.form);
+  leads = λ F u below d a. leads F below d (g.leads F u below d a);
+}
+
+-- an entry is no shorter than its first token
+pub entry_more : (e : EntryForm) (next : List Lexed) → length next < length (entry_text e next)
+entry_more (shape w n q ps e) next = omega (arith, listed_more part_text part_more ps (tok semicolon e ∷ next))
+entry_more (phrase w n b) next = omega (arith, block_more b next)
+entry_more (plays s) next = stmt_more s next

@@ -1,0 +1,502 @@
+-- Each function of an expression follows the table, and grows the draft by the nodes of its form.
+use Rattle.std.proofs.Common.{◌≡◌, ◌+◌, Err, refl, ap, ◌∙◌, arith}
+use Rattle.std.proofs.lemmas.Grind.{common_steps}
+use Rattle.fm_lex.specs.declared.kind.Kind.TheVariants.{Symbol}
+use Rattle.fm_lex.specs.declared.kind.Kind.TheVariants as kinds
+use Rattle.fm_grammar.specs.Signs.{close_parenthesis}
+use Rattle.fm_grammar.specs.Grammar.{negate, group, pick, compare, no_term, term, no_sum, sum, expr}
+use Rattle.fm_grammar.specs.Rules.{factor, kind_code, rules_of}
+use Rattle.fm_grammar.specs.Table.{taking}
+use Rattle.fm_parse.proofs.Steps.{deep_says, kind_there, no_memory, recount}
+use Rattle.fm_parse.proofs.Insides.{owes_sign, owes_terms, owes_sums, owes_second, at_minus, deep_minus, at_group, deep_group, at_pick, deep_pick, at_compared, deep_compared, at_scaling, deep_scaling, no_scaling, at_adding, deep_adding, no_adding, stopped, deep_here, marked_scaling, marked_adding, marked_comparing, no_factor, no_function}
+use Rattle.fm_parse.proofs.Pieces.{compared_text, compared_nodes, scaled_text, scaled_nodes, added_text, added_nodes}
+use Rattle.fm_parse.proofs.Drafting.{extended-none, extended-twice}
+use Rattle.fm_parse.specs.Follow.{leaf_at}
+use Rattle.fm_parse.proofs.expr.+expr.Goals as goal
+
+pub read_negated-returns-in_err-check_limit-clause-follows : goal.read_negated-returns-in_err-check_limit-clause-follows
+read_negated-returns-in_err-check_limit-clause-follows t c = λ F below o a.
+    let e = c.in_err-check_limit.field-0.0 in
+    let is : c.from_residual.result ≡ Err e = grind (arith, common_steps) in
+    stopped F below _ e _ is (deep_says F _ _ e _ c.in_err-check_limit.ensures.deep
+    (deep_minus c.in_err-check_limit.ensures.deep.token _ c.in_err-check_limit.ensures.deep.is F c.args.used
+    c.args.owed below o (kind_there c.in_err-check_limit.ensures.deep.token _ _ c.in_err-check_limit.ensures.deep.is
+    c.requires.first) (omega (arith, c.in_err-check_limit.ensures.deep.passes)) a))
+
+pub read_negated-returns-in_err-minus-clause-follows : goal.read_negated-returns-in_err-minus-clause-follows
+read_negated-returns-in_err-minus-clause-follows t c = λ F below o a.
+    let e = c.in_err-minus.field-0.0 in
+    let is : c.from_residual-in_err-minus.result ≡ Err e = grind (arith, common_steps) in
+    stopped F below _ e _ is (c.in_err-minus.ensures.inside F _ _ (at_minus c.in_ok-check_limit.ensures.there.token _
+    c.in_ok-check_limit.ensures.there.is F c.args.used c.args.owed below o
+    (kind_there c.in_ok-check_limit.ensures.there.token _ _ c.in_ok-check_limit.ensures.there.is c.requires.first)
+    (omega (arith, c.in_ok-check_limit.ensures.within)) a))
+
+pub read_negated-returns-in_err-count-clause-follows : goal.read_negated-returns-in_err-count-clause-follows
+read_negated-returns-in_err-count-clause-follows t c = λ F below o a.
+    let e = c.in_err-count.field-0.0 in
+    let is : c.from_residual-in_err-count.result ≡ Err e = grind (arith, common_steps) in
+    stopped F below _ e _ is (c.in_err-count.ensures.follows F _ o (c.in_ok-minus.ensures.inside F _ _
+    (at_minus c.in_ok-check_limit.ensures.there.token _ c.in_ok-check_limit.ensures.there.is F c.args.used
+    c.args.owed below o (kind_there c.in_ok-check_limit.ensures.there.token _ _ c.in_ok-check_limit.ensures.there.is
+    c.requires.first) (omega (arith, c.in_ok-check_limit.ensures.within)) a)))
+
+pub read_negated-returns-in_err-push_node-clause-follows : goal.read_negated-returns-in_err-push_node-clause-follows
+read_negated-returns-in_err-push_node-clause-follows t c = λ F below o a.
+    let e = c.in_err-push_node.field-0.0 in
+    let is : c.from_residual-in_err-push_node.result ≡ Err e = grind (arith, common_steps) in
+    stopped F below _ e _ is (no_memory F e c.in_err-push_node.ensures.memory)
+
+pub read_negated-returns-clause-follows : goal.read_negated-returns-clause-follows
+read_negated-returns-clause-follows t c = λ F below o a. c.in_ok-count.ensures.follows F _ o
+    (c.in_ok-minus.ensures.inside F _ _ (at_minus c.in_ok-check_limit.ensures.there.token _
+    c.in_ok-check_limit.ensures.there.is F c.args.used c.args.owed below o
+    (kind_there c.in_ok-check_limit.ensures.there.token _ _ c.in_ok-check_limit.ensures.there.is c.requires.first)
+    (omega (arith, c.in_ok-check_limit.ensures.within)) a))
+
+pub read_negated-returns-clause-text : goal.read_negated-returns-clause-text
+read_negated-returns-clause-text t c = record {
+  form = negate (leaf_at c.in_ok-minus.ensures.text.bytes c.in_ok-minus.minus) c.in_ok-count.ensures.text.form;
+  spells = rw (c.in_ok-minus.ensures.text.text, c.in_ok-count.ensures.text.spells) refl;
+  grows = extended-twice _ _ _ _ _ c.in_ok-count.ensures.text.grows c.in_ok-push_node.ensures.ok;
+}
+
+pub read_group-returns-in_err-check_limit-clause-follows : goal.read_group-returns-in_err-check_limit-clause-follows
+read_group-returns-in_err-check_limit-clause-follows t c = λ F below o a.
+    let e = c.in_err-check_limit.field-0.0 in
+    let is : c.from_residual.result ≡ Err e = grind (arith, common_steps) in
+    stopped F below _ e _ is (deep_says F _ _ e _ c.in_err-check_limit.ensures.deep
+    (deep_group c.in_err-check_limit.ensures.deep.token _ c.in_err-check_limit.ensures.deep.is F c.args.used
+    c.args.owed below o (kind_there c.in_err-check_limit.ensures.deep.token _ _ c.in_err-check_limit.ensures.deep.is
+    c.requires.first) (omega (arith, c.in_err-check_limit.ensures.deep.passes)) a))
+
+pub read_group-returns-in_err-expect-clause-follows : goal.read_group-returns-in_err-expect-clause-follows
+read_group-returns-in_err-expect-clause-follows t c = λ F below o a.
+    let e = c.in_err-expect.field-0.0 in
+    let is : c.from_residual-in_err-expect.result ≡ Err e = grind (arith, common_steps) in
+    stopped F below _ e _ is (c.in_err-expect.ensures.inside F _ _ (at_group c.in_ok-check_limit.ensures.there.token _
+    c.in_ok-check_limit.ensures.there.is F c.args.used c.args.owed below o
+    (kind_there c.in_ok-check_limit.ensures.there.token _ _ c.in_ok-check_limit.ensures.there.is c.requires.first)
+    (omega (arith, c.in_ok-check_limit.ensures.within)) a))
+
+pub read_group-returns-in_err-count-clause-follows : goal.read_group-returns-in_err-count-clause-follows
+read_group-returns-in_err-count-clause-follows t c = λ F below o a.
+    let e = c.in_err-count.field-0.0 in
+    let is : c.from_residual-in_err-count.result ≡ Err e = grind (arith, common_steps) in
+    stopped F below _ e _ is (c.in_err-count.ensures.follows F _ (owes_sign close_parenthesis below _ o)
+    (c.in_ok-expect.ensures.inside F _ _ (at_group c.in_ok-check_limit.ensures.there.token _
+    c.in_ok-check_limit.ensures.there.is F c.args.used c.args.owed below o
+    (kind_there c.in_ok-check_limit.ensures.there.token _ _ c.in_ok-check_limit.ensures.there.is c.requires.first)
+    (omega (arith, c.in_ok-check_limit.ensures.within)) a)))
+
+pub read_group-returns-in_err-expect-2-clause-follows : goal.read_group-returns-in_err-expect-2-clause-follows
+read_group-returns-in_err-expect-2-clause-follows t c = λ F below o a.
+    let e = c.in_err-expect-2.field-0.0 in
+    let is : c.from_residual-in_err-expect-2.result ≡ Err e = grind (arith, common_steps) in
+    stopped F below _ e _ is (c.in_err-expect-2.ensures.inside F _ _ (c.in_ok-count.ensures.follows F _
+    (owes_sign close_parenthesis below _ o) (c.in_ok-expect.ensures.inside F _ _
+    (at_group c.in_ok-check_limit.ensures.there.token _ c.in_ok-check_limit.ensures.there.is F c.args.used
+    c.args.owed below o (kind_there c.in_ok-check_limit.ensures.there.token _ _ c.in_ok-check_limit.ensures.there.is
+    c.requires.first) (omega (arith, c.in_ok-check_limit.ensures.within)) a))))
+
+pub read_group-returns-clause-follows : goal.read_group-returns-clause-follows
+read_group-returns-clause-follows t c = λ F below o a. c.in_ok-expect-2.ensures.inside F _ _
+    (c.in_ok-count.ensures.follows F _ (owes_sign close_parenthesis below _ o) (c.in_ok-expect.ensures.inside F _ _
+    (at_group c.in_ok-check_limit.ensures.there.token _ c.in_ok-check_limit.ensures.there.is F c.args.used c.args.owed
+    below o (kind_there c.in_ok-check_limit.ensures.there.token _ _ c.in_ok-check_limit.ensures.there.is
+    c.requires.first) (omega (arith, c.in_ok-check_limit.ensures.within)) a)))
+
+pub read_group-returns-clause-text : goal.read_group-returns-clause-text
+read_group-returns-clause-text t c = record {
+  form = group (leaf_at c.in_ok-expect.ensures.text.bytes c.in_ok-expect.field-0) c.in_ok-count.ensures.text.form
+      (leaf_at c.in_ok-expect-2.ensures.text.bytes c.in_ok-expect-2.field-0);
+  spells = rw (c.in_ok-expect.ensures.text.text, c.in_ok-count.ensures.text.spells, c.in_ok-expect-2.ensures.text.text)
+      refl;
+  grows = c.in_ok-count.ensures.text.grows;
+}
+
+pub read_pick-returns-in_err-check_limit-clause-follows : goal.read_pick-returns-in_err-check_limit-clause-follows
+read_pick-returns-in_err-check_limit-clause-follows t c = λ F below o a.
+    let e = c.in_err-check_limit.field-0.0 in
+    let is : c.from_residual.result ≡ Err e = grind (arith, common_steps) in
+    stopped F below _ e _ is (deep_says F _ _ e _ c.in_err-check_limit.ensures.deep
+    (deep_pick c.in_err-check_limit.ensures.deep.token _ c.in_err-check_limit.ensures.deep.is F c.args.used
+    c.args.owed below o (kind_there c.in_err-check_limit.ensures.deep.token _ _ c.in_err-check_limit.ensures.deep.is
+    c.requires.first) (omega (arith, c.in_err-check_limit.ensures.deep.passes)) a))
+
+pub read_pick-returns-in_err-word-clause-follows : goal.read_pick-returns-in_err-word-clause-follows
+read_pick-returns-in_err-word-clause-follows t c = λ F below o a.
+    let e = c.in_err-word.field-0.0 in
+    let is : c.from_residual-in_err-word.result ≡ Err e = grind (arith, common_steps) in
+    stopped F below _ e _ is (c.in_err-word.ensures.inside F _ _ (at_pick c.in_ok-check_limit.ensures.there.token _
+    c.in_ok-check_limit.ensures.there.is F c.args.used c.args.owed below o
+    (kind_there c.in_ok-check_limit.ensures.there.token _ _ c.in_ok-check_limit.ensures.there.is c.requires.first)
+    (omega (arith, c.in_ok-check_limit.ensures.within)) a))
+
+pub read_pick-returns-in_err-expect-clause-follows : goal.read_pick-returns-in_err-expect-clause-follows
+read_pick-returns-in_err-expect-clause-follows t c = λ F below o a.
+    let e = c.in_err-expect.field-0.0 in
+    let is : c.from_residual-in_err-expect.result ≡ Err e = grind (arith, common_steps) in
+    stopped F below _ e _ is (c.in_err-expect.ensures.inside F _ _ (c.in_ok-word.ensures.inside F _ _
+    (at_pick c.in_ok-check_limit.ensures.there.token _ c.in_ok-check_limit.ensures.there.is F c.args.used
+    c.args.owed below o (kind_there c.in_ok-check_limit.ensures.there.token _ _ c.in_ok-check_limit.ensures.there.is
+    c.requires.first) (omega (arith, c.in_ok-check_limit.ensures.within)) a)))
+
+pub read_pick-returns-in_err-count-clause-follows : goal.read_pick-returns-in_err-count-clause-follows
+read_pick-returns-in_err-count-clause-follows t c = λ F below o a.
+    let e = c.in_err-count.field-0.0 in
+    let is : c.from_residual-in_err-count.result ≡ Err e = grind (arith, common_steps) in
+    stopped F below _ e _ is (c.in_err-count.ensures.follows F _ (owes_sign close_parenthesis below _ o)
+    (recount F (c.args.used + 1 + 1) (c.args.used + 2) _ _ (omega arith) (c.in_ok-expect.ensures.inside F _ _
+    (c.in_ok-word.ensures.inside F _ _ (at_pick c.in_ok-check_limit.ensures.there.token _
+    c.in_ok-check_limit.ensures.there.is F c.args.used c.args.owed below o
+    (kind_there c.in_ok-check_limit.ensures.there.token _ _ c.in_ok-check_limit.ensures.there.is c.requires.first)
+    (omega (arith, c.in_ok-check_limit.ensures.within)) a)))))
+
+pub read_pick-returns-in_err-expect-2-clause-follows : goal.read_pick-returns-in_err-expect-2-clause-follows
+read_pick-returns-in_err-expect-2-clause-follows t c = λ F below o a.
+    let e = c.in_err-expect-2.field-0.0 in
+    let is : c.from_residual-in_err-expect-2.result ≡ Err e = grind (arith, common_steps) in
+    stopped F below _ e _ is (c.in_err-expect-2.ensures.inside F _ _ (c.in_ok-count.ensures.follows F _
+    (owes_sign close_parenthesis below _ o) (recount F (c.args.used + 1 + 1) (c.args.used + 2) _ _ (omega arith)
+    (c.in_ok-expect.ensures.inside F _ _ (c.in_ok-word.ensures.inside F _ _
+    (at_pick c.in_ok-check_limit.ensures.there.token _ c.in_ok-check_limit.ensures.there.is F c.args.used
+    c.args.owed below o (kind_there c.in_ok-check_limit.ensures.there.token _ _ c.in_ok-check_limit.ensures.there.is
+    c.requires.first) (omega (arith, c.in_ok-check_limit.ensures.within)) a))))))
+
+pub read_pick-returns-in_err-push_node-clause-follows : goal.read_pick-returns-in_err-push_node-clause-follows
+read_pick-returns-in_err-push_node-clause-follows t c = λ F below o a.
+    let e = c.in_err-push_node.field-0.0 in
+    let is : c.from_residual-in_err-push_node.result ≡ Err e = grind (arith, common_steps) in
+    stopped F below _ e _ is (no_memory F e c.in_err-push_node.ensures.memory)
+
+pub read_pick-returns-clause-follows : goal.read_pick-returns-clause-follows
+read_pick-returns-clause-follows t c = λ F below o a. c.in_ok-expect-2.ensures.inside F _ _
+    (c.in_ok-count.ensures.follows F _ (owes_sign close_parenthesis below _ o) (recount F (c.args.used + 1 + 1)
+    (c.args.used + 2) _ _ (omega arith) (c.in_ok-expect.ensures.inside F _ _ (c.in_ok-word.ensures.inside F _ _
+    (at_pick c.in_ok-check_limit.ensures.there.token _ c.in_ok-check_limit.ensures.there.is F c.args.used c.args.owed
+    below o (kind_there c.in_ok-check_limit.ensures.there.token _ _ c.in_ok-check_limit.ensures.there.is
+    c.requires.first) (omega (arith, c.in_ok-check_limit.ensures.within)) a)))))
+
+pub read_pick-returns-clause-text : goal.read_pick-returns-clause-text
+read_pick-returns-clause-text t c = record {
+  form = pick (leaf_at c.in_ok-word.ensures.text.bytes c.in_ok-word.word) (leaf_at c.in_ok-expect.ensures.text.bytes
+      c.in_ok-expect.field-0) c.in_ok-count.ensures.text.form (leaf_at c.in_ok-expect-2.ensures.text.bytes
+      c.in_ok-expect-2.field-0);
+  spells = rw (
+    c.in_ok-word.ensures.text.text,
+    c.in_ok-expect.ensures.text.text,
+    c.in_ok-count.ensures.text.spells,
+    c.in_ok-expect-2.ensures.text.text,
+  ) refl;
+  grows = extended-twice _ _ _ _ _ c.in_ok-count.ensures.text.grows c.in_ok-push_node.ensures.ok;
+}
+
+pub read_two-returns-in_err-expect-clause-follows : goal.read_two-returns-in_err-expect-clause-follows
+read_two-returns-in_err-expect-clause-follows t c = λ F below o a.
+    let e = c.in_err-expect.field-0.0 in
+    let is : c.from_residual.result ≡ Err e = grind (arith, common_steps) in
+    stopped F below _ e _ is (c.in_err-expect.ensures.inside F _ _ a)
+
+pub read_two-returns-in_err-first-clause-follows : goal.read_two-returns-in_err-first-clause-follows
+read_two-returns-in_err-first-clause-follows t c = λ F below o a.
+    let e = c.in_err-first.field-0.0 in
+    let is : c.from_residual-in_err-first.result ≡ Err e = grind (arith, common_steps) in
+    stopped F below _ e _ is (c.in_err-first.ensures.follows F _ (owes_second below _ o)
+    (c.in_ok-expect.ensures.inside F _ _ a))
+
+pub read_two-returns-in_err-expect-2-clause-follows : goal.read_two-returns-in_err-expect-2-clause-follows
+read_two-returns-in_err-expect-2-clause-follows t c = λ F below o a.
+    let e = c.in_err-expect-2.field-0.0 in
+    let is : c.from_residual-in_err-expect-2.result ≡ Err e = grind (arith, common_steps) in
+    stopped F below _ e _ is (c.in_err-expect-2.ensures.inside F _ _ (c.in_ok-first.ensures.follows F _
+    (owes_second below _ o) (c.in_ok-expect.ensures.inside F _ _ a)))
+
+pub read_two-returns-in_err-second-clause-follows : goal.read_two-returns-in_err-second-clause-follows
+read_two-returns-in_err-second-clause-follows t c = λ F below o a.
+    let e = c.in_err-second.field-0.0 in
+    let is : c.from_residual-in_err-second.result ≡ Err e = grind (arith, common_steps) in
+    stopped F below _ e _ is (c.in_err-second.ensures.follows F _ (owes_sign close_parenthesis below _ o)
+    (c.in_ok-expect-2.ensures.inside F _ _ (c.in_ok-first.ensures.follows F _ (owes_second below _ o)
+    (c.in_ok-expect.ensures.inside F _ _ a))))
+
+pub read_two-returns-in_err-expect-3-clause-follows : goal.read_two-returns-in_err-expect-3-clause-follows
+read_two-returns-in_err-expect-3-clause-follows t c = λ F below o a.
+    let e = c.in_err-expect-3.field-0.0 in
+    let is : c.from_residual-in_err-expect-3.result ≡ Err e = grind (arith, common_steps) in
+    stopped F below _ e _ is (c.in_err-expect-3.ensures.inside F _ _ (c.in_ok-second.ensures.follows F _
+    (owes_sign close_parenthesis below _ o) (c.in_ok-expect-2.ensures.inside F _ _ (c.in_ok-first.ensures.follows F
+    _ (owes_second below _ o) (c.in_ok-expect.ensures.inside F _ _ a)))))
+
+pub read_two-returns-clause-follows : goal.read_two-returns-clause-follows
+read_two-returns-clause-follows t c = λ F below o a. c.in_ok-expect-3.ensures.inside F _ _
+    (c.in_ok-second.ensures.follows F _ (owes_sign close_parenthesis below _ o) (c.in_ok-expect-2.ensures.inside F _ _
+    (c.in_ok-first.ensures.follows F _ (owes_second below _ o) (c.in_ok-expect.ensures.inside F _ _ a))))
+
+pub read_two-returns-clause-text : goal.read_two-returns-clause-text
+read_two-returns-clause-text t c = record {
+  form = record {
+    opens = leaf_at c.in_ok-expect.ensures.text.bytes c.in_ok-expect.field-0;
+    left = c.in_ok-first.ensures.text.form;
+    comma_at = leaf_at c.in_ok-expect-2.ensures.text.bytes
+        c.in_ok-expect-2.field-0;
+    right = c.in_ok-second.ensures.text.form;
+    closes =
+        (leaf_at c.in_ok-expect-3.ensures.text.bytes c.in_ok-expect-3.field-0);
+  };
+  spells = rw (
+    c.in_ok-expect.ensures.text.text,
+    c.in_ok-first.ensures.text.spells,
+    c.in_ok-expect-2.ensures.text.text,
+    c.in_ok-second.ensures.text.spells,
+    c.in_ok-expect-3.ensures.text.text,
+  ) refl;
+  grows = extended-twice _ _ _ _ _ c.in_ok-first.ensures.text.grows c.in_ok-second.ensures.text.grows;
+}
+
+pub read_compared-returns-in_err-check_limit-clause-follows :
+    goal.read_compared-returns-in_err-check_limit-clause-follows
+read_compared-returns-in_err-check_limit-clause-follows t c = λ F below o a.
+    let e = c.in_err-check_limit.field-0.0 in
+    let is : c.from_residual.result ≡ Err e = grind (arith, common_steps) in
+    stopped F below _ e _ is (deep_says F _ _ e _ c.in_err-check_limit.ensures.deep
+    (deep_compared c.in_err-check_limit.ensures.deep.token _ c.in_err-check_limit.ensures.deep.is F c.args.used
+    c.args.owed below o c.requires.compares.sort (kind_there c.in_err-check_limit.ensures.deep.token _ _
+    c.in_err-check_limit.ensures.deep.is c.requires.first ∙ ap kinds.Keyword c.requires.compares.word_is)
+    (omega (arith, c.in_err-check_limit.ensures.deep.passes)) a))
+
+pub read_compared-returns-in_err-place-clause-follows : goal.read_compared-returns-in_err-place-clause-follows
+read_compared-returns-in_err-place-clause-follows t c = λ F below o a.
+    let e = c.in_err-place.field-0.0 in
+    let is : c.from_residual-in_err-place.result ≡ Err e = grind (arith, common_steps) in
+    stopped F below _ e _ is (c.in_err-place.ensures.inside F _ _ (marked_comparing F _ _ c.requires.compares.sort _
+    c.requires.compares.word_is (at_compared c.in_ok-check_limit.ensures.there.token _
+    c.in_ok-check_limit.ensures.there.is F c.args.used c.args.owed below o c.requires.compares.sort
+    (kind_there c.in_ok-check_limit.ensures.there.token _ _ c.in_ok-check_limit.ensures.there.is c.requires.first
+    ∙ ap kinds.Keyword c.requires.compares.word_is) (omega (arith, c.in_ok-check_limit.ensures.within)) a)))
+
+pub read_compared-returns-in_err-count-clause-follows : goal.read_compared-returns-in_err-count-clause-follows
+read_compared-returns-in_err-count-clause-follows t c = λ F below o a.
+    let e = c.in_err-count.field-0.0 in
+    let is : c.from_residual-in_err-count.result ≡ Err e = grind (arith, common_steps) in
+    stopped F below _ e _ is (c.in_err-count.ensures.follows F _ o (c.in_ok-place.ensures.inside F _ _
+    (marked_comparing F _ _ c.requires.compares.sort _ c.requires.compares.word_is
+    (at_compared c.in_ok-check_limit.ensures.there.token _ c.in_ok-check_limit.ensures.there.is F c.args.used
+    c.args.owed below o c.requires.compares.sort (kind_there c.in_ok-check_limit.ensures.there.token _ _
+    c.in_ok-check_limit.ensures.there.is c.requires.first ∙ ap kinds.Keyword c.requires.compares.word_is)
+    (omega (arith, c.in_ok-check_limit.ensures.within)) a))))
+
+pub read_compared-returns-in_err-push_node-clause-follows : goal.read_compared-returns-in_err-push_node-clause-follows
+read_compared-returns-in_err-push_node-clause-follows t c = λ F below o a.
+    let e = c.in_err-push_node.field-0.0 in
+    let is : c.from_residual-in_err-push_node.result ≡ Err e = grind (arith, common_steps) in
+    stopped F below _ e _ is (no_memory F e c.in_err-push_node.ensures.memory)
+
+pub read_compared-returns-clause-follows : goal.read_compared-returns-clause-follows
+read_compared-returns-clause-follows t c = λ F below o a. c.in_ok-count.ensures.follows F _ o
+    (c.in_ok-place.ensures.inside F _ _ (marked_comparing F _ _ c.requires.compares.sort _ c.requires.compares.word_is
+    (at_compared c.in_ok-check_limit.ensures.there.token _ c.in_ok-check_limit.ensures.there.is F c.args.used
+    c.args.owed below o c.requires.compares.sort (kind_there c.in_ok-check_limit.ensures.there.token _ _
+    c.in_ok-check_limit.ensures.there.is c.requires.first ∙ ap kinds.Keyword c.requires.compares.word_is)
+    (omega (arith, c.in_ok-check_limit.ensures.within)) a)))
+
+pub read_compared-returns-clause-text : goal.read_compared-returns-clause-text
+read_compared-returns-clause-text t c = record {
+  form = compare c.requires.compares.sort (leaf_at c.in_ok-place.ensures.text.bytes c.in_ok-place.place)
+      c.in_ok-count.ensures.text.form.opens c.in_ok-count.ensures.text.form.left
+      c.in_ok-count.ensures.text.form.comma_at c.in_ok-count.ensures.text.form.right
+      c.in_ok-count.ensures.text.form.closes;
+  spells = c.in_ok-place.ensures.text.text ∙ compared_text _ _ c.requires.compares.word_is _ _ _ _
+      c.in_ok-count.ensures.text.spells;
+  grows = compared_nodes _ _ c.requires.compares.node_is _ _ _ _ _ _ c.in_ok-count.ensures.text.grows
+      c.in_ok-push_node.ensures.ok;
+}
+
+pub read_terms-returns-in_err-check_limit-clause-follows : goal.read_terms-returns-in_err-check_limit-clause-follows
+read_terms-returns-in_err-check_limit-clause-follows t c = λ F below o a.
+    let e = c.in_err-check_limit.field-0.0 in
+    let is : c.from_residual.result ≡ Err e = grind (arith, common_steps) in
+    stopped F below _ e _ is (deep_here F _ _ e _ _ c.peek-token.ensures c.in_err-check_limit.ensures.deep
+    (deep_scaling _ _ c.peek-token.ensures F c.args.used c.args.owed below o c.in-Some.ensures.some.sign
+    c.in-Some.ensures.some.kind_is (omega (arith, c.in_err-check_limit.ensures.deep.passes)) a))
+
+pub read_terms-returns-in_err-spot-clause-follows : goal.read_terms-returns-in_err-spot-clause-follows
+read_terms-returns-in_err-spot-clause-follows t c = λ F below o a.
+    let e = c.in_err-spot.field-0.0 in
+    let is : c.from_residual-in_err-spot.result ≡ Err e = grind (arith, common_steps) in
+    stopped F below _ e _ is (c.in_err-spot.ensures.inside F _ _ (marked_scaling F _ _ _ _
+    c.in-Some.ensures.some.kind_is (at_scaling _ _ c.peek-token.ensures F c.args.used c.args.owed below o
+    c.in-Some.ensures.some.sign c.in-Some.ensures.some.kind_is (omega (arith, c.in_ok-check_limit.ensures.within))
+    a)))
+
+pub read_terms-returns-in_err-first-clause-follows : goal.read_terms-returns-in_err-first-clause-follows
+read_terms-returns-in_err-first-clause-follows t c = λ F below o a.
+    let e = c.in_err-first.field-0.0 in
+    let is : c.from_residual-in_err-first.result ≡ Err e = grind (arith, common_steps) in
+    stopped F below _ e _ is (c.in_err-first.ensures.follows F _ (owes_terms below _ o) (c.in_ok-spot.ensures.inside F _
+    _ (marked_scaling F _ _ _ _ c.in-Some.ensures.some.kind_is (at_scaling _ _ c.peek-token.ensures F c.args.used
+    c.args.owed below o c.in-Some.ensures.some.sign c.in-Some.ensures.some.kind_is
+    (omega (arith, c.in_ok-check_limit.ensures.within)) a))))
+
+pub read_terms-returns-in_err-push_node-clause-follows : goal.read_terms-returns-in_err-push_node-clause-follows
+read_terms-returns-in_err-push_node-clause-follows t c = λ F below o a.
+    let e = c.in_err-push_node.field-0.0 in
+    let is : c.from_residual-in_err-push_node.result ≡ Err e = grind (arith, common_steps) in
+    stopped F below _ e _ is (no_memory F e c.in_err-push_node.ensures.memory)
+
+pub read_terms-returns-in_err-count-clause-follows : goal.read_terms-returns-in_err-count-clause-follows
+read_terms-returns-in_err-count-clause-follows t c = λ F below o a.
+    let e = c.in_err-count.field-0.0 in
+    let is : c.from_residual-in_err-count.result ≡ Err e = grind (arith, common_steps) in
+    stopped F below _ e _ is (c.in_err-count.ensures.follows F _ o (c.in_ok-first.ensures.follows F _
+    (owes_terms below _ o) (c.in_ok-spot.ensures.inside F _ _ (marked_scaling F _ _ _ _
+    c.in-Some.ensures.some.kind_is (at_scaling _ _ c.peek-token.ensures F c.args.used c.args.owed below o
+    c.in-Some.ensures.some.sign c.in-Some.ensures.some.kind_is (omega (arith, c.in_ok-check_limit.ensures.within))
+    a)))))
+
+pub read_terms-returns-clause-follows : goal.read_terms-returns-clause-follows
+read_terms-returns-clause-follows t c = λ F below o a. c.in_ok-count.ensures.follows F _ o
+    (c.in_ok-first.ensures.follows F _ (owes_terms below _ o) (c.in_ok-spot.ensures.inside F _ _
+    (marked_scaling F _ _ _ _ c.in-Some.ensures.some.kind_is (at_scaling _ _ c.peek-token.ensures F c.args.used
+    c.args.owed below o c.in-Some.ensures.some.sign c.in-Some.ensures.some.kind_is
+    (omega (arith, c.in_ok-check_limit.ensures.within)) a))))
+
+pub read_terms-returns-in_default-clause-follows : goal.read_terms-returns-in_default-clause-follows
+read_terms-returns-in_default-clause-follows t c = λ F below o a. no_scaling _ _ c.peek-token.ensures F c.args.used
+    c.args.owed below o (c.scaling_of.ensures.none c.in_default.is) a
+
+pub read_terms-returns-in_default-clause-text : goal.read_terms-returns-in_default-clause-text
+read_terms-returns-in_default-clause-text t c = record { form = no_term; spells = refl; grows = extended-none _ }
+
+pub read_terms-returns-clause-text : goal.read_terms-returns-clause-text
+read_terms-returns-clause-text t c = record {
+  form = term c.in-Some.ensures.some.sign (leaf_at c.in_ok-spot.ensures.text.bytes c.in_ok-spot.spot)
+      c.in_ok-first.ensures.text.form c.in_ok-count.ensures.text.form;
+  spells = c.in_ok-spot.ensures.text.text ∙ scaled_text _ _ c.in-Some.ensures.some.kind_is _
+      c.in_ok-first.ensures.text.form c.in_ok-count.ensures.text.form _ _ c.read_terms.new.r
+      c.in_ok-first.ensures.text.spells c.in_ok-count.ensures.text.spells;
+  grows = scaled_nodes _ _ c.in-Some.ensures.some.node_is _ _ _ _ _ _ _ c.in_ok-first.ensures.text.grows
+      c.in_ok-push_node.ensures.ok c.in_ok-count.ensures.text.grows;
+}
+
+pub read_sums-returns-in_err-check_limit-clause-follows : goal.read_sums-returns-in_err-check_limit-clause-follows
+read_sums-returns-in_err-check_limit-clause-follows t c = λ F below o a.
+    let e = c.in_err-check_limit.field-0.0 in
+    let is : c.from_residual.result ≡ Err e = grind (arith, common_steps) in
+    stopped F below _ e _ is (deep_here F _ _ e _ _ c.peek-token.ensures c.in_err-check_limit.ensures.deep
+    (deep_adding _ _ c.peek-token.ensures F c.args.used c.args.owed below o c.in-Some.ensures.some.sign
+    c.in-Some.ensures.some.kind_is (omega (arith, c.in_err-check_limit.ensures.deep.passes)) a))
+
+pub read_sums-returns-in_err-spot-clause-follows : goal.read_sums-returns-in_err-spot-clause-follows
+read_sums-returns-in_err-spot-clause-follows t c = λ F below o a.
+    let e = c.in_err-spot.field-0.0 in
+    let is : c.from_residual-in_err-spot.result ≡ Err e = grind (arith, common_steps) in
+    stopped F below _ e _ is (c.in_err-spot.ensures.inside F _ _ (marked_adding F _ _ _ _ c.in-Some.ensures.some.kind_is
+    (at_adding _ _ c.peek-token.ensures F c.args.used c.args.owed below o c.in-Some.ensures.some.sign
+    c.in-Some.ensures.some.kind_is (omega (arith, c.in_ok-check_limit.ensures.within)) a)))
+
+pub read_sums-returns-in_err-factor-clause-follows : goal.read_sums-returns-in_err-factor-clause-follows
+read_sums-returns-in_err-factor-clause-follows t c = λ F below o a.
+    let e = c.in_err-factor.field-0.0 in
+    let is : c.from_residual-in_err-factor.result ≡ Err e = grind (arith, common_steps) in
+    stopped F below _ e _ is (c.in_err-factor.ensures.follows F _ (owes_terms _ _ (owes_sums below _ o))
+    (c.in_ok-spot.ensures.inside F _ _ (marked_adding F _ _ _ _ c.in-Some.ensures.some.kind_is
+    (at_adding _ _ c.peek-token.ensures F c.args.used c.args.owed below o c.in-Some.ensures.some.sign
+    c.in-Some.ensures.some.kind_is (omega (arith, c.in_ok-check_limit.ensures.within)) a))))
+
+pub read_sums-returns-in_err-term-clause-follows : goal.read_sums-returns-in_err-term-clause-follows
+read_sums-returns-in_err-term-clause-follows t c = λ F below o a.
+    let e = c.in_err-term.field-0.0 in
+    let is : c.from_residual-in_err-term.result ≡ Err e = grind (arith, common_steps) in
+    stopped F below _ e _ is (c.in_err-term.ensures.follows F _ (owes_sums below _ o) (c.in_ok-factor.ensures.follows F
+    _ (owes_terms _ _ (owes_sums below _ o)) (c.in_ok-spot.ensures.inside F _ _ (marked_adding F _ _ _ _
+    c.in-Some.ensures.some.kind_is (at_adding _ _ c.peek-token.ensures F c.args.used c.args.owed below o
+    c.in-Some.ensures.some.sign c.in-Some.ensures.some.kind_is (omega (arith, c.in_ok-check_limit.ensures.within))
+    a)))))
+
+pub read_sums-returns-in_err-push_node-clause-follows : goal.read_sums-returns-in_err-push_node-clause-follows
+read_sums-returns-in_err-push_node-clause-follows t c = λ F below o a.
+    let e = c.in_err-push_node.field-0.0 in
+    let is : c.from_residual-in_err-push_node.result ≡ Err e = grind (arith, common_steps) in
+    stopped F below _ e _ is (no_memory F e c.in_err-push_node.ensures.memory)
+
+pub read_sums-returns-in_err-count-clause-follows : goal.read_sums-returns-in_err-count-clause-follows
+read_sums-returns-in_err-count-clause-follows t c = λ F below o a.
+    let e = c.in_err-count.field-0.0 in
+    let is : c.from_residual-in_err-count.result ≡ Err e = grind (arith, common_steps) in
+    stopped F below _ e _ is (c.in_err-count.ensures.follows F _ o (c.in_ok-term.ensures.follows F _
+    (owes_sums below _ o) (c.in_ok-factor.ensures.follows F _ (owes_terms _ _ (owes_sums below _ o))
+    (c.in_ok-spot.ensures.inside F _ _ (marked_adding F _ _ _ _ c.in-Some.ensures.some.kind_is
+    (at_adding _ _ c.peek-token.ensures F c.args.used c.args.owed below o c.in-Some.ensures.some.sign
+    c.in-Some.ensures.some.kind_is (omega (arith, c.in_ok-check_limit.ensures.within)) a))))))
+
+pub read_sums-returns-clause-follows : goal.read_sums-returns-clause-follows
+read_sums-returns-clause-follows t c = λ F below o a. c.in_ok-count.ensures.follows F _ o (c.in_ok-term.ensures.follows
+    F _ (owes_sums below _ o) (c.in_ok-factor.ensures.follows F _ (owes_terms _ _ (owes_sums below _ o))
+    (c.in_ok-spot.ensures.inside F _ _ (marked_adding F _ _ _ _ c.in-Some.ensures.some.kind_is
+    (at_adding _ _ c.peek-token.ensures F c.args.used c.args.owed below o c.in-Some.ensures.some.sign
+    c.in-Some.ensures.some.kind_is (omega (arith, c.in_ok-check_limit.ensures.within)) a)))))
+
+pub read_sums-returns-in_default-clause-follows : goal.read_sums-returns-in_default-clause-follows
+read_sums-returns-in_default-clause-follows t c = λ F below o a. no_adding _ _ c.peek-token.ensures F c.args.used
+    c.args.owed below o (c.adding_of.ensures.none c.in_default.is) a
+
+pub read_sums-returns-in_default-clause-text : goal.read_sums-returns-in_default-clause-text
+read_sums-returns-in_default-clause-text t c = record { form = no_sum; spells = refl; grows = extended-none _ }
+
+pub read_sums-returns-clause-text : goal.read_sums-returns-clause-text
+read_sums-returns-clause-text t c = record {
+  form = sum c.in-Some.ensures.some.sign (leaf_at c.in_ok-spot.ensures.text.bytes c.in_ok-spot.spot)
+      c.in_ok-factor.ensures.text.form c.in_ok-term.ensures.text.form c.in_ok-count.ensures.text.form;
+  spells = c.in_ok-spot.ensures.text.text ∙ added_text _ _ c.in-Some.ensures.some.kind_is _
+      c.in_ok-factor.ensures.text.form c.in_ok-term.ensures.text.form c.in_ok-count.ensures.text.form _ _ _
+      c.read_sums.new.r c.in_ok-factor.ensures.text.spells c.in_ok-term.ensures.text.spells
+      c.in_ok-count.ensures.text.spells;
+  grows = added_nodes _ _ c.in-Some.ensures.some.node_is _ _ _ _ _ _ _ _ _ c.in_ok-factor.ensures.text.grows
+      c.in_ok-term.ensures.text.grows c.in_ok-push_node.ensures.ok c.in_ok-count.ensures.text.grows;
+}
+
+pub read_inner-returns-in_err-factor-clause-follows : goal.read_inner-returns-in_err-factor-clause-follows
+read_inner-returns-in_err-factor-clause-follows t c = λ F below o a.
+    let e = c.in_err-factor.field-0.0 in
+    let is : c.from_residual.result ≡ Err e = grind (arith, common_steps) in
+    stopped F below _ e _ is (c.in_err-factor.ensures.follows F _ (owes_terms _ _ (owes_sums below _ o)) a)
+
+pub read_inner-returns-in_err-term-clause-follows : goal.read_inner-returns-in_err-term-clause-follows
+read_inner-returns-in_err-term-clause-follows t c = λ F below o a.
+    let e = c.in_err-term.field-0.0 in
+    let is : c.from_residual-in_err-term.result ≡ Err e = grind (arith, common_steps) in
+    stopped F below _ e _ is (c.in_err-term.ensures.follows F _ (owes_sums below _ o) (c.in_ok-factor.ensures.follows F
+    _ (owes_terms _ _ (owes_sums below _ o)) a))
+
+pub read_inner-returns-in_err-count-clause-follows : goal.read_inner-returns-in_err-count-clause-follows
+read_inner-returns-in_err-count-clause-follows t c = λ F below o a.
+    let e = c.in_err-count.field-0.0 in
+    let is : c.from_residual-in_err-count.result ≡ Err e = grind (arith, common_steps) in
+    stopped F below _ e _ is (c.in_err-count.ensures.follows F _ o (c.in_ok-term.ensures.follows F _
+    (owes_sums below _ o) (c.in_ok-factor.ensures.follows F _ (owes_terms _ _ (owes_sums below _ o)) a)))
+
+pub read_inner-returns-clause-follows : goal.read_inner-returns-clause-follows
+read_inner-returns-clause-follows t c = λ F below o a. c.in_ok-count.ensures.follows F _ o (c.in_ok-term.ensures.follows
+    F _ (owes_sums below _ o) (c.in_ok-factor.ensures.follows F _ (owes_terms _ _ (owes_sums below _ o)) a))
+
+pub read_inner-returns-clause-text : goal.read_inner-returns-clause-text
+read_inner-returns-clause-text t c = record {
+  form = expr c.in_ok-factor.ensures.text.form c.in_ok-term.ensures.text.form c.in_ok-count.ensures.text.form;
+  spells = rw (c.in_ok-factor.ensures.text.spells, c.in_ok-term.ensures.text.spells, c.in_ok-count.ensures.text.spells)
+      refl;
+  grows = extended-twice _ _ _ _ _ c.in_ok-factor.ensures.text.grows (extended-twice _ _ _ _ _
+      c.in_ok-term.ensures.text.grows c.in_ok-count.ensures.text.grows);
+}
+
+pub read_function-returns-in_default : goal.read_function-returns-in_default
+read_function-returns-in_default t c = record {
+  room = tt;
+  more = tt;
+  text = tt;
+  follows = λ F below o a.
+      no_factor F _ below _ _ c.peek.ensures
+      (ap (λ k. taking (kind_code k) (rules_of factor)) (kind_there _ _ _ c.peek.ensures c.requires.first)
+      ∙ no_function c.args.word c.in_default.not-Pick c.in_default.not-Min c.in_default.not-Max c.in_default.not-Less
+      c.in_default.not-Same) a;
+}

@@ -1,0 +1,651 @@
+-- Each function of a statement follows the table, and its tree is what its tokens stand for.
+use Rattle.std.proofs.Common.{◌≡◌, [], ◌∷◌, ◌++◌, Err, refl, sym, ap, ap₂, ◌∙◌, arith}
+use Rattle.std.proofs.lemmas.Grind.{common_steps}
+use Rattle.fm_grammar.specs.Signs.{open_brace, close_brace}
+use Rattle.fm_grammar.specs.Grammar as forms
+use Rattle.fm_parse.proofs.Steps.{handed}
+use Rattle.std.proofs.Common.{length}
+use Rattle.fm_grammar.specs.Score as tree
+use Rattle.fm_grammar.specs.View.{name_view, items_view}
+use Rattle.fm_grammar.specs.Rules.{one, stmts, otherwise, branches}
+use Rattle.fm_parse.specs.Follow.{leaf_at}
+use Rattle.fm_parse.specs.Statements.{starter, bodies_view, placed}
+use Rattle.fm_parse.proofs.Steps.{no_memory, deep_says, kind_there, outer_zero}
+use Rattle.fm_parse.proofs.Ways.{at_else, without_else, at_branch, without_branch}
+use Rattle.fm_parse.proofs.Beginnings.{at_word, stmt_begun, stmt_deep, opened_main, no_other, no_statement}
+use Rattle.fm_parse.proofs.CountForms.{loop_form, loop_spells, loop_stands}
+use Rattle.fm_parse.proofs.StmtLengths.{block_more, stmt_more}
+use Rattle.fm_parse.proofs.Bodies.{one_stated, one_branched, branched}
+use Rattle.fm_parse.proofs.ItemViews.{choice_view, warp_view, par_view, rhythm_view}
+use Rattle.fm_parse.proofs.SortLemmas.{at_scope, at_cycle}
+use Rattle.fm_parse.specs.Sorts.{scoping, cycling}
+use Rattle.fm_grammar.specs.Standing.{scoping_tree, cycling_tree}
+use Rattle.fm_parse.proofs.items.+item.Goals as goal
+
+pub read_block-returns-in_err-expect-clause-follows : goal.read_block-returns-in_err-expect-clause-follows
+read_block-returns-in_err-expect-clause-follows t c = λ F u below d a.
+    let e = c.in_err-expect.field-0.0 in
+    let is : c.from_residual.result ≡ Err e = grind (arith, common_steps) in
+    handed F 0 below _ e _ is (c.in_err-expect.ensures.follows F u _ a)
+
+pub read_block-returns-in_err-body-clause-follows : goal.read_block-returns-in_err-body-clause-follows
+read_block-returns-in_err-body-clause-follows t c = λ F u below d a.
+    let e = c.in_err-body.field-0.0 in
+    let is : c.from_residual-in_err-body.result ≡ Err e = grind (arith, common_steps) in
+    handed F 0 below _ e _ is (c.in_err-body.ensures.follows F 0 (one close_brace ∷ below) (omega (arith, d))
+    (c.in_ok-expect.ensures.follows F u _ a))
+
+pub read_block-returns-in_err-expect-2-clause-follows : goal.read_block-returns-in_err-expect-2-clause-follows
+read_block-returns-in_err-expect-2-clause-follows t c = λ F u below d a.
+    let e = c.in_err-expect-2.field-0.0 in
+    let is : c.from_residual-in_err-expect-2.result ≡ Err e = grind (arith, common_steps) in
+    handed F 0 below _ e _ is (c.in_err-expect-2.ensures.follows F 0 _ (c.in_ok-body.ensures.follows F 0
+    (one close_brace ∷ below) (omega (arith, d)) (c.in_ok-expect.ensures.follows F u _ a)))
+
+pub read_block-returns-clause-follows : goal.read_block-returns-clause-follows
+read_block-returns-clause-follows t c = λ F u below d a. c.in_ok-expect-2.ensures.follows F 0 _
+    (c.in_ok-body.ensures.follows F 0 (one close_brace ∷ below) (omega (arith, d))
+    (c.in_ok-expect.ensures.follows F u _ a))
+
+pub read_block-returns-clause-text : goal.read_block-returns-clause-text
+read_block-returns-clause-text t c = record {
+  form = forms.block (leaf_at c.in_ok-expect.ensures.text.bytes c.in_ok-expect.field-0) c.in_ok-body.ensures.text.form
+      (leaf_at c.in_ok-expect-2.ensures.text.bytes c.in_ok-expect-2.field-0);
+  spells = rw (c.in_ok-expect.ensures.text.text, c.in_ok-body.ensures.text.spells, c.in_ok-expect-2.ensures.text.text)
+      refl;
+  stands_for = c.in_ok-body.ensures.text.stands_for;
+}
+
+pub read_if-returns-in_err-spot-clause-follows : goal.read_if-returns-in_err-spot-clause-follows
+read_if-returns-in_err-spot-clause-follows t c = λ F u below d a.
+    let e = c.in_err-spot.field-0.0 in
+    let is : c.from_residual.result ≡ Err e = grind (arith, common_steps) in
+    handed F 0 below _ e _ is (c.in_err-spot.ensures.follows F u _ a)
+
+pub read_if-returns-in_err-test-clause-follows : goal.read_if-returns-in_err-test-clause-follows
+read_if-returns-in_err-test-clause-follows t c = λ F u below d a.
+    let e = c.in_err-test.field-0.0 in
+    let is : c.from_residual-in_err-test.result ≡ Err e = grind (arith, common_steps) in
+    handed F 0 below _ e _ is (c.in_err-test.ensures.follows F open_brace _ (c.in_ok-spot.ensures.follows F u _ a))
+
+pub read_if-returns-in_err-taken-clause-follows : goal.read_if-returns-in_err-taken-clause-follows
+read_if-returns-in_err-taken-clause-follows t c = λ F u below d a.
+    let e = c.in_err-taken.field-0.0 in
+    let is : c.from_residual-in_err-taken.result ≡ Err e = grind (arith, common_steps) in
+    handed F 0 below _ e _ is (c.in_err-taken.ensures.follows F 0 (otherwise ∷ below) d (c.in_ok-test.ensures.follows F
+    open_brace _ (c.in_ok-spot.ensures.follows F u _ a)))
+
+pub read_if-returns-in_err-other-clause-follows : goal.read_if-returns-in_err-other-clause-follows
+read_if-returns-in_err-other-clause-follows t c = λ F u below d a.
+    let e = c.in_err-other.field-0.0 in
+    let is : c.from_residual-in_err-other.result ≡ Err e = grind (arith, common_steps) in
+    handed F 0 below _ e _ is (c.in_err-other.ensures.follows F 0 below d (c.in_ok-taken.ensures.follows F 0
+    (otherwise ∷ below) d (c.in_ok-test.ensures.follows F open_brace _ (c.in_ok-spot.ensures.follows F u _ a))))
+
+pub read_if-returns-clause-follows : goal.read_if-returns-clause-follows
+read_if-returns-clause-follows t c = λ F u below d a. c.in_ok-other.ensures.follows F 0 below d
+    (c.in_ok-taken.ensures.follows F 0 (otherwise ∷ below) d (c.in_ok-test.ensures.follows F open_brace _
+    (c.in_ok-spot.ensures.follows F u _ a)))
+
+pub read_if-returns-clause-text : goal.read_if-returns-clause-text
+read_if-returns-clause-text t c = record {
+  form = forms.choice (leaf_at c.in_ok-spot.ensures.text.bytes c.in_ok-spot.spot) c.in_ok-test.ensures.text.form
+      c.in_ok-taken.ensures.text.form c.in_ok-other.ensures.text.form;
+  spells = rw (
+    c.in_ok-spot.ensures.text.text,
+    c.in_ok-test.ensures.text.spells,
+    c.in_ok-taken.ensures.text.spells,
+    c.in_ok-other.ensures.text.spells,
+  ) refl;
+  stands_for = choice_view _ _ _ _ _ _ _ c.in_ok-test.ensures.text.stands_for c.in_ok-taken.ensures.text.stands_for
+      c.in_ok-other.ensures.text.stands_for;
+}
+
+pub read_repeat-returns-in_err-spot-clause-follows : goal.read_repeat-returns-in_err-spot-clause-follows
+read_repeat-returns-in_err-spot-clause-follows t c = λ F u below d a.
+    let e = c.in_err-spot.field-0.0 in
+    let is : c.from_residual.result ≡ Err e = grind (arith, common_steps) in
+    handed F 0 below _ e _ is (c.in_err-spot.ensures.follows F u _ a)
+
+pub read_repeat-returns-in_err-count-clause-follows : goal.read_repeat-returns-in_err-count-clause-follows
+read_repeat-returns-in_err-count-clause-follows t c = λ F u below d a.
+    let e = c.in_err-count.field-0.0 in
+    let is : c.from_residual-in_err-count.result ≡ Err e = grind (arith, common_steps) in
+    handed F 0 below _ e _ is (c.in_err-count.ensures.follows F 0 _ (c.in_ok-spot.ensures.follows F u _ a))
+
+pub read_repeat-returns-in_err-body-clause-follows : goal.read_repeat-returns-in_err-body-clause-follows
+read_repeat-returns-in_err-body-clause-follows t c = λ F u below d a.
+    let e = c.in_err-body.field-0.0 in
+    let is : c.from_residual-in_err-body.result ≡ Err e = grind (arith, common_steps) in
+    handed F 0 below _ e _ is (c.in_err-body.ensures.follows F 0 below d (c.in_ok-count.ensures.follows F 0 _
+    (c.in_ok-spot.ensures.follows F u _ a)))
+
+pub read_repeat-returns-clause-follows : goal.read_repeat-returns-clause-follows
+read_repeat-returns-clause-follows t c = λ F u below d a. c.in_ok-body.ensures.follows F 0 below d
+    (c.in_ok-count.ensures.follows F 0 _ (c.in_ok-spot.ensures.follows F u _ a))
+
+pub read_repeat-returns-clause-text : goal.read_repeat-returns-clause-text
+read_repeat-returns-clause-text t c = record {
+  form = loop_form (leaf_at c.in_ok-spot.ensures.text.bytes c.in_ok-spot.spot) c.in_ok-count.ensures.text.form
+      c.in_ok-body.ensures.text.form;
+  spells = c.in_ok-spot.ensures.text.text ∙ loop_spells _ _ _ _ _ _ c.in_ok-count.ensures.text.spells
+      c.in_ok-body.ensures.text.spells;
+  stands_for = c.loop_of.ensures ∙ loop_stands (leaf_at c.in_ok-spot.ensures.text.bytes c.in_ok-spot.spot)
+      c.in_ok-count.ensures.text.form c.in_ok-body.ensures.text.form _ _ c.in_ok-count.ensures.text.stands_for
+      c.in_ok-body.ensures.text.stands_for;
+}
+
+pub read_warp-returns-in_err-spot-clause-follows : goal.read_warp-returns-in_err-spot-clause-follows
+read_warp-returns-in_err-spot-clause-follows t c = λ F u below d a.
+    let e = c.in_err-spot.field-0.0 in
+    let is : c.from_residual.result ≡ Err e = grind (arith, common_steps) in
+    handed F 0 below _ e _ is (c.in_err-spot.ensures.follows F u _ a)
+
+pub read_warp-returns-in_err-name-clause-follows : goal.read_warp-returns-in_err-name-clause-follows
+read_warp-returns-in_err-name-clause-follows t c = λ F u below d a.
+    let e = c.in_err-name.field-0.0 in
+    let is : c.from_residual-in_err-name.result ≡ Err e = grind (arith, common_steps) in
+    handed F 0 below _ e _ is (c.in_err-name.ensures.follows F 0 _ (c.in_ok-spot.ensures.follows F u _ a))
+
+pub read_warp-returns-in_err-body-clause-follows : goal.read_warp-returns-in_err-body-clause-follows
+read_warp-returns-in_err-body-clause-follows t c = λ F u below d a.
+    let e = c.in_err-body.field-0.0 in
+    let is : c.from_residual-in_err-body.result ≡ Err e = grind (arith, common_steps) in
+    handed F 0 below _ e _ is (c.in_err-body.ensures.follows F 0 below d (c.in_ok-name.ensures.follows F 0 _
+    (c.in_ok-spot.ensures.follows F u _ a)))
+
+pub read_warp-returns-clause-follows : goal.read_warp-returns-clause-follows
+read_warp-returns-clause-follows t c = λ F u below d a. c.in_ok-body.ensures.follows F 0 below d
+    (c.in_ok-name.ensures.follows F 0 _ (c.in_ok-spot.ensures.follows F u _ a))
+
+pub read_warp-returns-clause-text : goal.read_warp-returns-clause-text
+read_warp-returns-clause-text t c = record {
+  form = forms.warp (leaf_at c.in_ok-spot.ensures.text.bytes c.in_ok-spot.spot) (name_view c.in_ok-name.name)
+      c.in_ok-body.ensures.text.form;
+  spells = rw (c.in_ok-spot.ensures.text.text, c.in_ok-name.ensures.text, c.in_ok-body.ensures.text.spells) refl;
+  stands_for = warp_view _ _ _ _ _ refl c.in_ok-body.ensures.text.stands_for;
+}
+
+pub read_par-returns-in_err-spot-clause-follows : goal.read_par-returns-in_err-spot-clause-follows
+read_par-returns-in_err-spot-clause-follows t c = λ F u below d a.
+    let e = c.in_err-spot.field-0.0 in
+    let is : c.from_residual.result ≡ Err e = grind (arith, common_steps) in
+    handed F 0 below _ e _ is (c.in_err-spot.ensures.follows F u _ a)
+
+pub read_par-returns-in_err-expect-clause-follows : goal.read_par-returns-in_err-expect-clause-follows
+read_par-returns-in_err-expect-clause-follows t c = λ F u below d a.
+    let e = c.in_err-expect.field-0.0 in
+    let is : c.from_residual-in_err-expect.result ≡ Err e = grind (arith, common_steps) in
+    handed F 0 below _ e _ is (c.in_err-expect.ensures.follows F 0 _ (c.in_ok-spot.ensures.follows F u _ a))
+
+pub read_par-returns-in_err-branches-clause-follows : goal.read_par-returns-in_err-branches-clause-follows
+read_par-returns-in_err-branches-clause-follows t c = λ F u below d a.
+    let e = c.in_err-branches.field-0.0 in
+    let is : c.from_residual-in_err-branches.result ≡ Err e = grind (arith, common_steps) in
+    handed F 0 below _ e _ is (c.in_err-branches.ensures.follows F 0 (one close_brace ∷ below) (omega (arith, d))
+    (c.in_ok-expect.ensures.follows F 0 _ (c.in_ok-spot.ensures.follows F u _ a)))
+
+pub read_par-returns-in_err-expect-2-clause-follows : goal.read_par-returns-in_err-expect-2-clause-follows
+read_par-returns-in_err-expect-2-clause-follows t c = λ F u below d a.
+    let e = c.in_err-expect-2.field-0.0 in
+    let is : c.from_residual-in_err-expect-2.result ≡ Err e = grind (arith, common_steps) in
+    handed F 0 below _ e _ is (c.in_err-expect-2.ensures.follows F 0 _ (c.in_ok-branches.ensures.follows F 0
+    (one close_brace ∷ below) (omega (arith, d)) (c.in_ok-expect.ensures.follows F 0 _
+    (c.in_ok-spot.ensures.follows F u _ a))))
+
+pub read_par-returns-clause-follows : goal.read_par-returns-clause-follows
+read_par-returns-clause-follows t c = λ F u below d a. c.in_ok-expect-2.ensures.follows F 0 _
+    (c.in_ok-branches.ensures.follows F 0 (one close_brace ∷ below) (omega (arith, d)) (c.in_ok-expect.ensures.follows F
+    0 _ (c.in_ok-spot.ensures.follows F u _ a)))
+
+pub read_par-returns-clause-text : goal.read_par-returns-clause-text
+read_par-returns-clause-text t c = record {
+  form = forms.par (leaf_at c.in_ok-spot.ensures.text.bytes c.in_ok-spot.spot)
+      (leaf_at c.in_ok-expect.ensures.text.bytes c.in_ok-expect.field-0) c.in_ok-branches.ensures.text.form.word
+      c.in_ok-branches.ensures.text.form.first c.in_ok-branches.ensures.text.form.others
+      (leaf_at c.in_ok-expect-2.ensures.text.bytes c.in_ok-expect-2.field-0);
+  spells = rw (
+    c.in_ok-spot.ensures.text.text,
+    c.in_ok-expect.ensures.text.text,
+    c.in_ok-branches.ensures.text.spells,
+    c.in_ok-expect-2.ensures.text.text,
+  ) refl;
+  stands_for = par_view _ _ _ c.in_ok-branches.ensures.text.stands_for;
+}
+
+pub read_scope-returns-in_err-spot-clause-follows : goal.read_scope-returns-in_err-spot-clause-follows
+read_scope-returns-in_err-spot-clause-follows t c = λ F u below d a.
+    let b = at_scope F u below _ _ (scoping c.args.scope) c.word.ensures a in
+    let e = c.in_err-spot.field-0.0 in
+    let is : c.from_residual.result ≡ Err e = grind (arith, common_steps) in
+    handed F 0 below _ e _ is (c.in_err-spot.ensures.follows F u _ b)
+
+pub read_scope-returns-in_err-number-clause-follows : goal.read_scope-returns-in_err-number-clause-follows
+read_scope-returns-in_err-number-clause-follows t c = λ F u below d a.
+    let b = at_scope F u below _ _ (scoping c.args.scope) c.word.ensures a in
+    let e = c.in_err-number.field-0.0 in
+    let is : c.from_residual-in_err-number.result ≡ Err e = grind (arith, common_steps) in
+    handed F 0 below _ e _ is (c.in_err-number.ensures.follows F 0 _ (c.in_ok-spot.ensures.follows F u _ b))
+
+pub read_scope-returns-in_err-body-clause-follows : goal.read_scope-returns-in_err-body-clause-follows
+read_scope-returns-in_err-body-clause-follows t c = λ F u below d a.
+    let b = at_scope F u below _ _ (scoping c.args.scope) c.word.ensures a in
+    let e = c.in_err-body.field-0.0 in
+    let is : c.from_residual-in_err-body.result ≡ Err e = grind (arith, common_steps) in
+    handed F 0 below _ e _ is (c.in_err-body.ensures.follows F 0 below d (c.in_ok-number.ensures.follows F 0 _
+    (c.in_ok-spot.ensures.follows F u _ b)))
+
+pub read_scope-returns-clause-follows : goal.read_scope-returns-clause-follows
+read_scope-returns-clause-follows t c = λ F u below d a.
+    let b = at_scope F u below _ _ (scoping c.args.scope) c.word.ensures a in
+    c.in_ok-body.ensures.follows F 0 below d
+    (c.in_ok-number.ensures.follows F 0 _ (c.in_ok-spot.ensures.follows F u _ b))
+
+pub read_scope-returns-clause-text : goal.read_scope-returns-clause-text
+read_scope-returns-clause-text t c = record {
+  form = forms.scope (scoping c.args.scope) (leaf_at c.in_ok-spot.ensures.text.bytes c.in_ok-spot.spot)
+      c.in_ok-number.ensures.text.form c.in_ok-body.ensures.text.form;
+  spells = rw (
+    c.in_ok-spot.ensures.text.text,
+    c.word.ensures,
+    c.in_ok-number.ensures.text.spells,
+    c.in_ok-body.ensures.text.spells,
+  )
+      refl;
+  stands_for = c.item.ensures
+      ∙ ap₂ (λ v w. placed c.in_ok-spot.spot (scoping_tree (scoping c.args.scope) v w))
+      c.in_ok-number.ensures.text.stands_for c.in_ok-body.ensures.text.stands_for;
+}
+
+pub read_rhythm-returns-in_err-spot-clause-follows : goal.read_rhythm-returns-in_err-spot-clause-follows
+read_rhythm-returns-in_err-spot-clause-follows t c = λ F u below d a.
+    let e = c.in_err-spot.field-0.0 in
+    let is : c.from_residual.result ≡ Err e = grind (arith, common_steps) in
+    handed F 0 below _ e _ is (c.in_err-spot.ensures.follows F u _ a)
+
+pub read_rhythm-returns-in_err-expect-clause-follows : goal.read_rhythm-returns-in_err-expect-clause-follows
+read_rhythm-returns-in_err-expect-clause-follows t c = λ F u below d a.
+    let e = c.in_err-expect.field-0.0 in
+    let is : c.from_residual-in_err-expect.result ≡ Err e = grind (arith, common_steps) in
+    handed F 0 below _ e _ is (c.in_err-expect.ensures.follows F 0 _ (c.in_ok-spot.ensures.follows F u _ a))
+
+pub read_rhythm-returns-in_err-list-clause-follows : goal.read_rhythm-returns-in_err-list-clause-follows
+read_rhythm-returns-in_err-list-clause-follows t c = λ F u below d a.
+    let e = c.in_err-list.field-0.0 in
+    let is : c.from_residual-in_err-list.result ≡ Err e = grind (arith, common_steps) in
+    handed F 0 below _ e _ is (c.in_err-list.ensures.follows F 0 _ (c.in_ok-expect.ensures.follows F 0 _
+    (c.in_ok-spot.ensures.follows F u _ a)))
+
+pub read_rhythm-returns-in_err-expect-2-clause-follows : goal.read_rhythm-returns-in_err-expect-2-clause-follows
+read_rhythm-returns-in_err-expect-2-clause-follows t c = λ F u below d a.
+    let e = c.in_err-expect-2.field-0.0 in
+    let is : c.from_residual-in_err-expect-2.result ≡ Err e = grind (arith, common_steps) in
+    handed F 0 below _ e _ is (c.in_err-expect-2.ensures.follows F 0 _ (c.in_ok-list.ensures.follows F 0 _
+    (c.in_ok-expect.ensures.follows F 0 _ (c.in_ok-spot.ensures.follows F u _ a))))
+
+pub read_rhythm-returns-in_err-body-clause-follows : goal.read_rhythm-returns-in_err-body-clause-follows
+read_rhythm-returns-in_err-body-clause-follows t c = λ F u below d a.
+    let e = c.in_err-body.field-0.0 in
+    let is : c.from_residual-in_err-body.result ≡ Err e = grind (arith, common_steps) in
+    handed F 0 below _ e _ is (c.in_err-body.ensures.follows F 0 below d (c.in_ok-expect-2.ensures.follows F 0 _
+    (c.in_ok-list.ensures.follows F 0 _ (c.in_ok-expect.ensures.follows F 0 _
+    (c.in_ok-spot.ensures.follows F u _ a)))))
+
+pub read_rhythm-returns-clause-follows : goal.read_rhythm-returns-clause-follows
+read_rhythm-returns-clause-follows t c = λ F u below d a. c.in_ok-body.ensures.follows F 0 below d
+    (c.in_ok-expect-2.ensures.follows F 0 _ (c.in_ok-list.ensures.follows F 0 _ (c.in_ok-expect.ensures.follows F 0 _
+    (c.in_ok-spot.ensures.follows F u _ a))))
+
+pub read_rhythm-returns-clause-text : goal.read_rhythm-returns-clause-text
+read_rhythm-returns-clause-text t c = record {
+  form = forms.rhythm (leaf_at c.in_ok-spot.ensures.text.bytes c.in_ok-spot.spot)
+      (leaf_at c.in_ok-expect.ensures.text.bytes c.in_ok-expect.field-0) c.in_ok-list.ensures.text.form
+      (leaf_at c.in_ok-expect-2.ensures.text.bytes c.in_ok-expect-2.field-0) c.in_ok-body.ensures.text.form;
+  spells = rw (
+    c.in_ok-spot.ensures.text.text,
+    c.in_ok-expect.ensures.text.text,
+    c.in_ok-list.ensures.text.spells,
+    c.in_ok-expect-2.ensures.text.text,
+    c.in_ok-body.ensures.text.spells,
+  ) refl;
+  stands_for = rhythm_view _ _ _ _ _ c.in_ok-list.ensures.text.stands_for c.in_ok-body.ensures.text.stands_for;
+}
+
+pub read_cycle-returns-in_err-spot-clause-follows : goal.read_cycle-returns-in_err-spot-clause-follows
+read_cycle-returns-in_err-spot-clause-follows t c = λ F u below d a.
+    let b = at_cycle F u below _ _ (cycling c.args.cycle) c.word.ensures a in
+    let e = c.in_err-spot.field-0.0 in
+    let is : c.from_residual.result ≡ Err e = grind (arith, common_steps) in
+    handed F 0 below _ e _ is (c.in_err-spot.ensures.follows F u _ b)
+
+pub read_cycle-returns-in_err-expect-clause-follows : goal.read_cycle-returns-in_err-expect-clause-follows
+read_cycle-returns-in_err-expect-clause-follows t c = λ F u below d a.
+    let b = at_cycle F u below _ _ (cycling c.args.cycle) c.word.ensures a in
+    let e = c.in_err-expect.field-0.0 in
+    let is : c.from_residual-in_err-expect.result ≡ Err e = grind (arith, common_steps) in
+    handed F 0 below _ e _ is (c.in_err-expect.ensures.follows F 0 _ (c.in_ok-spot.ensures.follows F u _ b))
+
+pub read_cycle-returns-in_err-list-clause-follows : goal.read_cycle-returns-in_err-list-clause-follows
+read_cycle-returns-in_err-list-clause-follows t c = λ F u below d a.
+    let b = at_cycle F u below _ _ (cycling c.args.cycle) c.word.ensures a in
+    let e = c.in_err-list.field-0.0 in
+    let is : c.from_residual-in_err-list.result ≡ Err e = grind (arith, common_steps) in
+    handed F 0 below _ e _ is (c.in_err-list.ensures.follows F 0 _ (c.in_ok-expect.ensures.follows F 0 _
+    (c.in_ok-spot.ensures.follows F u _ b)))
+
+pub read_cycle-returns-in_err-expect-2-clause-follows : goal.read_cycle-returns-in_err-expect-2-clause-follows
+read_cycle-returns-in_err-expect-2-clause-follows t c = λ F u below d a.
+    let b = at_cycle F u below _ _ (cycling c.args.cycle) c.word.ensures a in
+    let e = c.in_err-expect-2.field-0.0 in
+    let is : c.from_residual-in_err-expect-2.result ≡ Err e = grind (arith, common_steps) in
+    handed F 0 below _ e _ is (c.in_err-expect-2.ensures.follows F 0 _ (c.in_ok-list.ensures.follows F 0 _
+    (c.in_ok-expect.ensures.follows F 0 _ (c.in_ok-spot.ensures.follows F u _ b))))
+
+pub read_cycle-returns-in_err-body-clause-follows : goal.read_cycle-returns-in_err-body-clause-follows
+read_cycle-returns-in_err-body-clause-follows t c = λ F u below d a.
+    let b = at_cycle F u below _ _ (cycling c.args.cycle) c.word.ensures a in
+    let e = c.in_err-body.field-0.0 in
+    let is : c.from_residual-in_err-body.result ≡ Err e = grind (arith, common_steps) in
+    handed F 0 below _ e _ is (c.in_err-body.ensures.follows F 0 below d (c.in_ok-expect-2.ensures.follows F 0 _
+    (c.in_ok-list.ensures.follows F 0 _ (c.in_ok-expect.ensures.follows F 0 _
+    (c.in_ok-spot.ensures.follows F u _ b)))))
+
+pub read_cycle-returns-clause-follows : goal.read_cycle-returns-clause-follows
+read_cycle-returns-clause-follows t c = λ F u below d a.
+    let b = at_cycle F u below _ _ (cycling c.args.cycle) c.word.ensures a in
+    c.in_ok-body.ensures.follows F 0 below d
+    (c.in_ok-expect-2.ensures.follows F 0 _ (c.in_ok-list.ensures.follows F 0 _ (c.in_ok-expect.ensures.follows F 0 _
+    (c.in_ok-spot.ensures.follows F u _ b))))
+
+pub read_cycle-returns-clause-text : goal.read_cycle-returns-clause-text
+read_cycle-returns-clause-text t c = record {
+  form = forms.cycling (cycling c.args.cycle) (leaf_at c.in_ok-spot.ensures.text.bytes c.in_ok-spot.spot)
+      (leaf_at c.in_ok-expect.ensures.text.bytes c.in_ok-expect.field-0) c.in_ok-list.ensures.text.form
+      (leaf_at c.in_ok-expect-2.ensures.text.bytes c.in_ok-expect-2.field-0) c.in_ok-body.ensures.text.form;
+  spells = rw (
+    c.in_ok-spot.ensures.text.text,
+    c.word.ensures,
+    c.in_ok-expect.ensures.text.text,
+    c.in_ok-list.ensures.text.spells,
+    c.in_ok-expect-2.ensures.text.text,
+    c.in_ok-body.ensures.text.spells,
+  ) refl;
+  stands_for = c.item.ensures
+      ∙ ap₂ (λ v w. placed c.in_ok-spot.spot (cycling_tree (cycling c.args.cycle) v w))
+      c.in_ok-list.ensures.text.stands_for c.in_ok-body.ensures.text.stands_for;
+}
+
+pub read_else-returns-in_err-expect-clause-follows : goal.read_else-returns-in_err-expect-clause-follows
+read_else-returns-in_err-expect-clause-follows t c = λ F u below d a.
+    let e = c.in_err-expect.field-0.0 in
+    let is : c.from_residual.result ≡ Err e = grind (arith, common_steps) in
+    handed F 0 below _ e _ is (c.in_err-expect.ensures.follows F u _ (at_else _ c.next_is.ensures.there F u below
+    (c.next_is.ensures.same c.if-not-next_is.false) (omega (arith, d, c.requires)) a))
+
+pub read_else-returns-in_err-body-clause-follows : goal.read_else-returns-in_err-body-clause-follows
+read_else-returns-in_err-body-clause-follows t c = λ F u below d a.
+    let e = c.in_err-body.field-0.0 in
+    let is : c.from_residual-in_err-body.result ≡ Err e = grind (arith, common_steps) in
+    handed F 0 below _ e _ is (c.in_err-body.ensures.follows F 0 below d (c.in_ok-expect.ensures.follows F u _
+    (at_else _ c.next_is.ensures.there F u below (c.next_is.ensures.same c.if-not-next_is.false)
+    (omega (arith, d, c.requires)) a)))
+
+pub read_else-returns-clause-follows : goal.read_else-returns-clause-follows
+read_else-returns-clause-follows t c = λ F u below d a. c.in_ok-body.ensures.follows F 0 below d
+    (c.in_ok-expect.ensures.follows F u _ (at_else _ c.next_is.ensures.there F u below
+    (c.next_is.ensures.same c.if-not-next_is.false) (omega (arith, d, c.requires)) a))
+
+pub read_else-returns-clause-text : goal.read_else-returns-clause-text
+read_else-returns-clause-text t c = record {
+  form = forms.otherwise (leaf_at c.in_ok-expect.ensures.text.bytes c.in_ok-expect.field-0)
+      c.in_ok-body.ensures.text.form;
+  spells = rw (c.in_ok-expect.ensures.text.text, c.in_ok-body.ensures.text.spells) refl;
+  stands_for = c.in_ok-body.ensures.text.stands_for;
+}
+
+pub read_else-returns-then-not-next_is-clause-follows : goal.read_else-returns-then-not-next_is-clause-follows
+read_else-returns-then-not-next_is-clause-follows t c = λ F u below d a. without_else _ c.next_is.ensures.there F u
+    below (c.next_is.ensures.other c.if-not-next_is.true) a
+
+pub read_branches-returns-in_err-expect-clause-follows : goal.read_branches-returns-in_err-expect-clause-follows
+read_branches-returns-in_err-expect-clause-follows t c = λ F u below d a.
+    let e = c.in_err-expect.field-0.0 in
+    let is : c.from_residual.result ≡ Err e = grind (arith, common_steps) in
+    handed F 0 below _ e _ is (c.in_err-expect.ensures.follows F u _ a)
+
+pub read_branches-returns-in_err-first-clause-follows : goal.read_branches-returns-in_err-first-clause-follows
+read_branches-returns-in_err-first-clause-follows t c = λ F u below d a.
+    let e = c.in_err-first.field-0.0 in
+    let is : c.from_residual-in_err-first.result ≡ Err e = grind (arith, common_steps) in
+    handed F 0 below _ e _ is (c.in_err-first.ensures.follows F 0 (branches ∷ below) d
+    (c.in_ok-expect.ensures.follows F u _ a))
+
+pub read_branches-returns-in_err-push-clause-follows : goal.read_branches-returns-in_err-push-clause-follows
+read_branches-returns-in_err-push-clause-follows t c = λ F u below d a.
+    let e = c.in_err-push.field-0.0 in
+    let is : c.from_residual-in_err-push.result ≡ Err e = grind (arith, common_steps) in
+    handed F 0 below _ e _ is (no_memory F e c.in_err-push.ensures.memory)
+
+pub read_branches-loop-alloc-init : goal.read_branches-loop-alloc-init
+read_branches-loop-alloc-init t c = record {
+  word = leaf_at c.in_ok-expect.ensures.text.bytes c.in_ok-expect.field-0;
+  first = c.in_ok-first.ensures.text.form;
+  others = forms.no_branch;
+  spells = rw (c.in_ok-expect.ensures.text.text, c.in_ok-first.ensures.text.spells) refl;
+  stands_for = ap bodies_view (c.in_ok-push.ensures.ok ∙ ap (λ l. l ++ c.in_ok-first.first ∷ [])
+      c.new-list.ensures.items) ∙ ap (λ x. tree.branch x tree.none) c.in_ok-first.ensures.text.stands_for;
+  leads = λ F u below d a. c.in_ok-first.ensures.follows F 0 (branches ∷ below) d
+      (c.in_ok-expect.ensures.follows F u _ a);
+}
+
+pub read_branches-returns-in_err-expect-2-clause-follows : goal.read_branches-returns-in_err-expect-2-clause-follows
+read_branches-returns-in_err-expect-2-clause-follows t c = λ F u below d a.
+    let e = c.in_err-expect-2.field-0.0 in
+    let is : c.from_residual-in_err-expect-2.result ≡ Err e = grind (arith, common_steps) in
+    handed F 0 below _ e _ is (c.in_err-expect-2.ensures.follows F 0 _ (at_branch _ c.next_is.ensures.there F 0 below
+    (c.next_is.ensures.same c.loop-alloc-test.true) (omega (arith, d, c.requires)) (c.loop-alloc.invariant.leads F
+    u below d a)))
+
+pub read_branches-returns-in_err-next-clause-follows : goal.read_branches-returns-in_err-next-clause-follows
+read_branches-returns-in_err-next-clause-follows t c = λ F u below d a.
+    let e = c.in_err-next.field-0.0 in
+    let is : c.from_residual-in_err-next.result ≡ Err e = grind (arith, common_steps) in
+    handed F 0 below _ e _ is (c.in_err-next.ensures.follows F 0 (branches ∷ below) d (c.in_ok-expect-2.ensures.follows
+    F 0 _ (at_branch _ c.next_is.ensures.there F 0 below (c.next_is.ensures.same c.loop-alloc-test.true)
+    (omega (arith, d, c.requires)) (c.loop-alloc.invariant.leads F u below d a))))
+
+pub read_branches-returns-in_err-push-2-clause-follows : goal.read_branches-returns-in_err-push-2-clause-follows
+read_branches-returns-in_err-push-2-clause-follows t c = λ F u below d a.
+    let e = c.in_err-push-2.field-0.0 in
+    let is : c.from_residual-in_err-push-2.result ≡ Err e = grind (arith, common_steps) in
+    handed F 0 below _ e _ is (no_memory F e c.in_err-push-2.ensures.memory)
+
+pub read_branches-loop-alloc-preserved : goal.read_branches-loop-alloc-preserved
+read_branches-loop-alloc-preserved t c =
+    one_branched _ _ c.in_ok-next.next _ _ _ _ _ c.loop-alloc.invariant (leaf_at c.in_ok-expect-2.ensures.text.bytes
+    c.in_ok-expect-2.field-0) c.in_ok-next.ensures.text c.in_ok-expect-2.ensures.text.text c.in_ok-push-2.ensures.ok
+    (λ F below d a. c.in_ok-next.ensures.follows F 0 (branches ∷ below) d (c.in_ok-expect-2.ensures.follows F 0 _
+    (at_branch _ c.next_is.ensures.there F 0 below (c.next_is.ensures.same c.loop-alloc-test.true)
+    (omega (arith, d, c.requires)) a)))
+
+pub read_branches-loop-alloc-smaller : goal.read_branches-loop-alloc-smaller
+read_branches-loop-alloc-smaller t c =
+    let here = ap length c.in_ok-expect-2.ensures.text.text in
+    let behind = ap length c.in_ok-next.ensures.text.spells in
+    omega (arith, here, behind, block_more c.in_ok-next.ensures.text.form c.read_block-in-loop-alloc.new.r)
+
+pub read_branches-returns-clause-text : goal.read_branches-returns-clause-text
+read_branches-returns-clause-text t c = branched _ _ _ _ c.loop-alloc.invariant
+
+pub read_branches-returns-clause-follows : goal.read_branches-returns-clause-follows
+read_branches-returns-clause-follows t c = λ F u below d a. without_branch _ c.next_is.ensures.there F 0 below
+    (c.next_is.ensures.other c.loop-alloc-test.false) (c.loop-alloc.invariant.leads F u below d a)
+
+pub read_worded-returns-in-Note-clause-follows : goal.read_worded-returns-in-Note-clause-follows
+read_worded-returns-in-Note-clause-follows t c = λ F u below d a.
+    c.read_note.ensures.follows F u below (at_word F u below c.in-Note.is a)
+
+pub read_worded-returns-in-Play-clause-follows : goal.read_worded-returns-in-Play-clause-follows
+read_worded-returns-in-Play-clause-follows t c = λ F u below d a.
+    c.read_play.ensures.follows F u below (at_word F u below c.in-Play.is a)
+
+pub read_worded-returns-in-Rest-clause-follows : goal.read_worded-returns-in-Rest-clause-follows
+read_worded-returns-in-Rest-clause-follows t c = λ F u below d a.
+    c.read_rest.ensures.follows F u below (at_word F u below c.in-Rest.is a)
+
+pub read_worded-returns-in-Skip-clause-follows : goal.read_worded-returns-in-Skip-clause-follows
+read_worded-returns-in-Skip-clause-follows t c = λ F u below d a.
+    c.read_skip.ensures.follows F u below (at_word F u below c.in-Skip.is a)
+
+pub read_worded-returns-in-Control-clause-follows : goal.read_worded-returns-in-Control-clause-follows
+read_worded-returns-in-Control-clause-follows t c = λ F u below d a.
+    c.read_control.ensures.follows F u below (at_word F u below c.in-Control.is a)
+
+pub read_worded-returns-in-Program-clause-follows : goal.read_worded-returns-in-Program-clause-follows
+read_worded-returns-in-Program-clause-follows t c = λ F u below d a.
+    c.read_sent.ensures.follows F u below (at_word F u below c.in-Program.is a)
+
+pub read_worded-returns-in-Bend-clause-follows : goal.read_worded-returns-in-Bend-clause-follows
+read_worded-returns-in-Bend-clause-follows t c = λ F u below d a.
+    c.read_sent-in-Bend.ensures.follows F u below (at_word F u below c.in-Bend.is a)
+
+pub read_worded-returns-in-Set-clause-follows : goal.read_worded-returns-in-Set-clause-follows
+read_worded-returns-in-Set-clause-follows t c = λ F u below d a.
+    c.read_set.ensures.follows F u below (at_word F u below c.in-Set.is a)
+
+pub read_worded-returns-in-Do-clause-follows : goal.read_worded-returns-in-Do-clause-follows
+read_worded-returns-in-Do-clause-follows t c = λ F u below d a.
+    c.read_do.ensures.follows F u below (at_word F u below c.in-Do.is a)
+
+pub read_worded-returns-in-If-clause-follows : goal.read_worded-returns-in-If-clause-follows
+read_worded-returns-in-If-clause-follows t c = λ F u below d a.
+    c.read_if.ensures.follows F u below d (at_word F u below c.in-If.is a)
+
+pub read_worded-returns-in-Repeat-clause-follows : goal.read_worded-returns-in-Repeat-clause-follows
+read_worded-returns-in-Repeat-clause-follows t c = λ F u below d a.
+    c.read_repeat.ensures.follows F u below d (at_word F u below c.in-Repeat.is a)
+
+pub read_worded-returns-in-Warp-clause-follows : goal.read_worded-returns-in-Warp-clause-follows
+read_worded-returns-in-Warp-clause-follows t c = λ F u below d a.
+    c.read_warp.ensures.follows F u below d (at_word F u below c.in-Warp.is a)
+
+pub read_worded-returns-in-Par-clause-follows : goal.read_worded-returns-in-Par-clause-follows
+read_worded-returns-in-Par-clause-follows t c = λ F u below d a.
+    c.read_par.ensures.follows F u below d (at_word F u below c.in-Par.is a)
+
+pub read_worded-returns-in-Channel-clause-follows : goal.read_worded-returns-in-Channel-clause-follows
+read_worded-returns-in-Channel-clause-follows t c = λ F u below d a.
+    c.read_scope.ensures.follows F u below d (at_word F u below c.in-Channel.is a)
+
+pub read_worded-returns-in-Volume-clause-follows : goal.read_worded-returns-in-Volume-clause-follows
+read_worded-returns-in-Volume-clause-follows t c = λ F u below d a.
+    c.read_scope-in-Volume.ensures.follows F u below d (at_word F u below c.in-Volume.is a)
+
+pub read_worded-returns-in-Gate-clause-follows : goal.read_worded-returns-in-Gate-clause-follows
+read_worded-returns-in-Gate-clause-follows t c = λ F u below d a.
+    c.read_scope-in-Gate.ensures.follows F u below d (at_word F u below c.in-Gate.is a)
+
+pub read_worded-returns-in-Rhythm-clause-follows : goal.read_worded-returns-in-Rhythm-clause-follows
+read_worded-returns-in-Rhythm-clause-follows t c = λ F u below d a.
+    c.read_rhythm.ensures.follows F u below d (at_word F u below c.in-Rhythm.is a)
+
+pub read_worded-returns-in-Artic-clause-follows : goal.read_worded-returns-in-Artic-clause-follows
+read_worded-returns-in-Artic-clause-follows t c = λ F u below d a.
+    c.read_cycle.ensures.follows F u below d (at_word F u below c.in-Artic.is a)
+
+pub read_worded-returns-in-Loud-clause-follows : goal.read_worded-returns-in-Loud-clause-follows
+read_worded-returns-in-Loud-clause-follows t c = λ F u below d a.
+    c.read_cycle-in-Loud.ensures.follows F u below d (at_word F u below c.in-Loud.is a)
+
+pub read_worded-returns-in_default-clause-follows : goal.read_worded-returns-in_default-clause-follows
+read_worded-returns-in_default-clause-follows t c = λ F u below d a.
+    absurd (no_other c.args.word c.requires.begins c.in_default.not-Note c.in_default.not-Play c.in_default.not-Rest
+    c.in_default.not-Skip c.in_default.not-Control c.in_default.not-Program c.in_default.not-Bend
+    c.in_default.not-Set c.in_default.not-If c.in_default.not-Repeat c.in_default.not-Do c.in_default.not-Warp
+    c.in_default.not-Par c.in_default.not-Channel c.in_default.not-Volume c.in_default.not-Gate
+    c.in_default.not-Rhythm c.in_default.not-Artic c.in_default.not-Loud)
+
+pub read_statement-returns-in_err-check_limit-clause-follows :
+    goal.read_statement-returns-in_err-check_limit-clause-follows
+read_statement-returns-in_err-check_limit-clause-follows t c = λ F u s below main d a.
+    let e = c.in_err-check_limit.field-0.0 in
+    let is : c.from_residual.result ≡ Err e = grind (arith, common_steps) in
+    handed F 0 (s ∷ below) _ e _ is (deep_says F _ _ e _ c.in_err-check_limit.ensures.deep
+    (stmt_deep c.in_err-check_limit.ensures.deep.token _ c.in_err-check_limit.ensures.deep.is F u below s c.args.word
+    main c.requires.begins (kind_there c.in_err-check_limit.ensures.deep.token _ _ c.in_err-check_limit.ensures.deep.is
+    c.requires.first)
+    (omega (arith, d, c.in_err-check_limit.ensures.deep.passes, c.braces_of.ensures))
+    (omega (arith, d, c.requires.room)) a))
+
+pub read_statement-returns-in_err-item-clause-follows : goal.read_statement-returns-in_err-item-clause-follows
+read_statement-returns-in_err-item-clause-follows t c = λ F u s below main d a.
+    let e = c.in_err-item.field-0.0 in
+    let is : c.from_residual-in_err-item.result ≡ Err e = grind (arith, common_steps) in
+    handed F 0 (s ∷ below) _ e _ is (c.in_err-item.ensures.follows F u (s ∷ below) (opened_main s below main ∙ d)
+    (stmt_begun c.in_ok-check_limit.ensures.there.token _ c.in_ok-check_limit.ensures.there.is F u below s
+    c.args.word main c.requires.begins (kind_there c.in_ok-check_limit.ensures.there.token _ _
+    c.in_ok-check_limit.ensures.there.is c.requires.first) (omega (
+      arith,
+      d,
+      c.in_ok-check_limit.ensures.within,
+      c.braces_of.ensures,
+    )) a))
+
+pub read_statement-returns-clause-follows : goal.read_statement-returns-clause-follows
+read_statement-returns-clause-follows t c = λ F u s below main d a.
+    c.in_ok-item.ensures.follows F u (s ∷ below) (opened_main s below main ∙ d)
+    (stmt_begun c.in_ok-check_limit.ensures.there.token _ c.in_ok-check_limit.ensures.there.is F u below s
+    c.args.word main c.requires.begins (kind_there c.in_ok-check_limit.ensures.there.token _ _
+    c.in_ok-check_limit.ensures.there.is c.requires.first) (omega (
+      arith,
+      d,
+      c.in_ok-check_limit.ensures.within,
+      c.braces_of.ensures,
+    )) a)
+
+pub read_statements-loop-word-init : goal.read_statements-loop-word-init
+read_statements-loop-word-init t c = record {
+  form = forms.no_stmt;
+  spells = refl;
+  stands_for = ap items_view c.new-items.ensures.items;
+  leads = λ F u below d a. outer_zero F u stmts below _ refl a;
+}
+
+pub read_statements-returns-in_err-item-clause-follows : goal.read_statements-returns-in_err-item-clause-follows
+read_statements-returns-in_err-item-clause-follows t c = λ F u below d a.
+    let e = c.in_err-item.field-0.0 in
+    let is : c.from_residual.result ≡ Err e = grind (arith, common_steps) in
+    handed F 0 below _ e _ is (c.in_err-item.ensures.follows F 0 stmts below tt d (c.loop-word.invariant.leads F
+    u below d a))
+
+pub read_statements-returns-in_err-push-clause-follows : goal.read_statements-returns-in_err-push-clause-follows
+read_statements-returns-in_err-push-clause-follows t c = λ F u below d a.
+    let e = c.in_err-push.field-0.0 in
+    let is : c.from_residual-in_err-push.result ≡ Err e = grind (arith, common_steps) in
+    handed F 0 below _ e _ is (no_memory F e c.in_err-push.ensures.memory)
+
+pub read_statements-loop-word-preserved : goal.read_statements-loop-word-preserved
+read_statements-loop-word-preserved t c =
+    one_stated _ _ c.in_ok-item.item _ _ _ _ c.loop-word.invariant c.in_ok-item.ensures.text c.in_ok-push.ensures.ok
+    (λ F below d a. c.in_ok-item.ensures.follows F 0 stmts below tt d a)
+
+pub read_statements-loop-word-smaller : goal.read_statements-loop-word-smaller
+read_statements-loop-word-smaller t c =
+    let behind = ap length c.in_ok-item.ensures.text.spells in
+    omega (arith, behind, stmt_more c.in_ok-item.ensures.text.form c.read_statement.new.r)
+
+pub read_statements-returns-clause-text : goal.read_statements-returns-clause-text
+read_statements-returns-clause-text t c = record {
+  form = c.loop-word.invariant.form;
+  spells = c.loop-word.invariant.spells;
+  stands_for = c.loop-word.invariant.stands_for;
+}
+
+pub read_statements-returns-clause-follows : goal.read_statements-returns-clause-follows
+read_statements-returns-clause-follows t c = λ F u below d a.
+    no_statement _ c.kind.ensures.there F 0 below (sym (ap starter c.kind.ensures.is) ∙ c.starter_of.ensures.none
+    c.in_default.is) (c.loop-word.invariant.leads F u below d a)
+
+pub read_else-returns-then-not-next_is-clause-text : goal.read_else-returns-then-not-next_is-clause-text
+read_else-returns-then-not-next_is-clause-text t c =
+    record { form = forms.no_else; spells = refl; stands_for = ap items_view c.new.ensures.items }

@@ -1,0 +1,100 @@
+-- What the reading of a whole text answers.
+use Rattle.std.specs.Prelude.{◌≡◌, ◌⊎◌, List, [], ◌∷◌, Option, Some, None, Result, Ok, Err}
+use Rattle.fm_lex.specs.declared.kind.Kind.TheVariants.{Name}
+use Rattle.fm_lex.specs.declared.kind.Kind.TheVariants as kinds
+use Rattle.fm_lex.specs.declared.keyword.Keyword.TheVariants.{Formula, Shape, Phrase}
+use Rattle.fm_lex.specs.Tokens.{Lexed}
+use Rattle.fm_grammar.specs.declared.number.Number.{Number}
+use Rattle.fm_grammar.specs.declared.entry.Entry as code_entry
+use Rattle.fm_grammar.specs.declared.score.Score as code_score
+use Rattle.fm_grammar.specs.Score.{Leaf, Score}
+use Rattle.fm_grammar.specs.View.{entry_view, score_view}
+use Rattle.fm_grammar.specs.Grammar.{NumForm, SeedForm, ScoreForm}
+use Rattle.fm_grammar.specs.Signs.{tok, key, num, semicolon, equals}
+use Rattle.fm_grammar.specs.Spelling.{seed_text, entry_text, score_text}
+use Rattle.fm_grammar.specs.Standing.{num_tree, seed_tree, entry_tree, score_tree}
+use Rattle.fm_grammar.specs.Reads.{Fault, lexical, expected, too_nested, TripsWith}
+use Rattle.fm_grammar.specs.Rules.{Sym, one, entries, parts, with_commas, block}
+use Rattle.fm_parse.specs.declared.fault.ParseFault.{ParseFault}
+use Rattle.fm_parse.specs.declared.fault.ParseFault.TheVariants.{Lex, Expected, TooNested, Memory}
+use Rattle.fm_parse.specs.declared.head.Head as code_head
+use Rattle.fm_parse.specs.Follow.{At, Says, Spelt}
+
+-- an entry was read, or none begins there
+abbrev pub EntryRead : Option code_entry.Entry → List Lexed → List Lexed → Type 0
+EntryRead (Some e) old new = Spelt entry_text entry_tree (entry_view e) old new
+EntryRead None old new = old ≡ new
+
+-- further entries may come behind an entry, and else what stands below
+abbrev pub EntryLeads :
+    Option Fault → List Sym → Result (Option code_entry.Entry) ParseFault → List Lexed → Type 0
+EntryLeads whole below (Ok (Some e)) new = At whole 0 (entries ∷ below) new
+EntryLeads whole below (Ok None) new = At whole 0 below new
+EntryLeads whole below (Err e) new = Says e whole
+
+-- the end was found, and the text trips nowhere
+abbrev pub Closes : {A : Type 0} → Option Fault → Result A ParseFault → Type 0
+Closes whole (Ok x) = whole ≡ None
+Closes whole (Err e) = Says e whole
+
+-- the head of a score: its version and its seed
+pub record HeadForm : Type 0 where
+  pub word : Leaf
+  pub version : NumForm
+  pub ends : Leaf
+  pub seeded : SeedForm
+
+-- its tokens
+abbrev pub head_text : HeadForm → List Lexed → List Lexed
+head_text h next = key Formula h.word ∷ num h.version ∷ tok semicolon h.ends ∷ seed_text h.seeded next
+
+-- a version and a seed
+pub record Head : Type 0 where
+  pub version : Number
+  pub seed : Option Number
+
+-- what it stands for
+abbrev pub head_tree : HeadForm → Head
+head_tree h = record { version = num_tree h.version; seed = seed_tree h.seeded }
+
+-- the tokens trip with the fault, unless memory ran out
+abbrev pub IsFault : ParseFault → List Lexed → Type 0
+IsFault (Lex f) ts = TripsWith ts (lexical f)
+IsFault (Expected spot) ts = TripsWith ts (expected spot)
+IsFault (TooNested spot) ts = TripsWith ts (too_nested spot)
+IsFault Memory ts = Unit {0}
+
+-- the score is answered, unless memory ran out
+abbrev pub Answers : Score → Result code_score.Score ParseFault → Type 0
+Answers score (Ok s) = score_view s ≡ score
+Answers score (Err Memory) = Unit {0}
+Answers score (Err e) = ⊥
+
+-- the fault of the parser for a fault of the grammar
+abbrev pub fault_of : Fault → ParseFault
+fault_of (lexical f) = Lex f
+fault_of (expected spot) = Expected spot
+fault_of (too_nested spot) = TooNested spot
+
+-- the fault is answered, unless memory ran out
+abbrev pub Refuses : {A : Type 0} → Fault → Result A ParseFault → Type 0
+Refuses fault (Ok x) = ⊥
+Refuses fault (Err e) = (e ≡ fault_of fault) ⊎ (e ≡ Memory)
+
+-- a definition of a shape
+abbrev pub shape_syms : List Sym
+shape_syms = one (kinds.Keyword Shape) ∷ one Name ∷ one equals ∷ with_commas parts (one semicolon ∷ [])
+
+-- a definition of a phrase
+abbrev pub phrase_syms : List Sym
+phrase_syms = one (kinds.Keyword Phrase) ∷ one Name ∷ block []
+
+-- the tokens spell a form of a score, which stands for it
+pub record WholeRead (score : Score) (ts : List Lexed) : Type 0 where
+  pub form : ScoreForm
+  pub spells : ts ≡ score_text form
+  pub stands_for : score ≡ score_tree form
+
+-- a head of the code
+abbrev pub head_view : code_head.Head → Head
+head_view h = record { version = h.version; seed = h.seed }

@@ -1,0 +1,323 @@
+//! Reading statements and blocks. Each function is given how many braces are open round it.
+
+ghost use Rattle.std.specs.Prelude.{◌≡◌, true, ℕ, ◌+◌, ◌<◌, ◌≤◌, List, [], ◌∷◌, ◌++◌, Option, IfOk};
+ghost use Rattle.fm_lex.specs.declared.kind.Kind.TheVariants.{Keyword as Word};
+ghost use Rattle.fm_lex.specs.declared.keyword.Keyword.TheVariants.{If, Repeat, Par, Branch, Warp, Rhythm};
+ghost use Rattle.fm_grammar.specs.Reads.{Fault};
+ghost use Rattle.fm_grammar.specs.View.{item_view, items_view};
+ghost use Rattle.fm_grammar.specs.Spelling.{stmt_text, stmts_text, block_text, else_text, scoping_word, cycling_word};
+ghost use Rattle.fm_grammar.specs.Standing.{stmts_tree, block_tree, else_tree};
+ghost use Rattle.fm_grammar.specs.Rules.{Sym, one, stmts as statements, otherwise, branches as further, block};
+ghost use Rattle.fm_grammar.specs.Table.{opened};
+ghost use Rattle.fm_parse.specs.Counts.{count_view};
+ghost use Rattle.fm_parse.specs.Reader.{first_kind};
+ghost use Rattle.fm_parse.specs.Follow.{At, Leads, FollowsIn, Spelt};
+ghost use Rattle.fm_parse.specs.Sorts.{scoping, cycling};
+ghost use Rattle.fm_parse.specs.Statements.{loop_view, begins, stmt_syms, placed_tree, braces_needed, IsMain, fork_text, fork_tree, bodies_view};
+
+use crate::count::Count;
+use crate::expr::read_expr;
+use crate::fault::ParseFault;
+use crate::lists::{read_lengths, read_numbers};
+use crate::push::push;
+use crate::reader::Reader;
+use crate::simple::{
+    read_control, read_do, read_note, read_play, read_rest, read_sent, read_set, read_skip,
+};
+use crate::sorts::{Cycle, Scope, Sent};
+use crate::token::{check_limit, expect, read_name, read_number};
+use crate::value::read_count;
+use crate::words::{braces_of, starter_of};
+use fm_grammar::{Item, What};
+use fm_lex::{Keyword, Kind, Spot};
+use std::alloc::Global;
+
+/// The most braces that are open at one time.
+const MAX_BRACES: u32 = 64;
+
+const OPENS: Kind = Kind::Symbol(b'{');
+
+const CLOSES: Kind = Kind::Symbol(b'}');
+
+const LIST_OPENS: Kind = Kind::Symbol(b'[');
+
+const LIST_CLOSES: Kind = Kind::Symbol(b']');
+
+const BRANCH: Kind = Kind::Keyword(Keyword::Branch);
+
+const ELSE: Kind = Kind::Keyword(Keyword::Else);
+
+// A loop with so many rounds.
+fn loop_of<'s>(spot: Spot, count: Count, body: Vec<Item<'s>>) -> Item<'s>
+    ensures { item_view result ≡ loop_view spot (count_view count) (items_view body.entry.items) }
+{
+    match count {
+        Count::Fixed { number } => Item {
+            spot,
+            what: What::Repeat {
+                count: number,
+                body,
+            },
+        },
+        Count::Drawn { value, most } => Item {
+            spot,
+            what: What::Again {
+                count: value,
+                most,
+                body,
+            },
+        },
+    }
+}
+
+/// Reads a block.
+#[cycle(item)]
+pub fn read_block<'s>(
+    alloc: Global,
+    r: &mut Reader<'s>,
+    depth: u32,
+) -> Result<Vec<Item<'s>>, ParseFault>
+    requires { depth < 64 }
+    ensures text { IfOk result (λ b. Spelt block_text block_tree (items_view b.items) r.old r.new) }
+    ensures follows { FollowsIn depth (block []) result r.old r.new }
+{
+    expect(r, OPENS)?;
+    let body = read_statements(alloc, r, depth + 1)?;
+    expect(r, CLOSES)?;
+    Ok(body)
+}
+
+// What follows the first block of a choice.
+#[cycle(item)]
+fn read_else<'s>(alloc: Global, r: &mut Reader<'s>, depth: u32) -> Result<Vec<Item<'s>>, ParseFault>
+    requires { depth < 64 }
+    ensures text { IfOk result (λ b. Spelt else_text else_tree (items_view b.items) r.old r.new) }
+    ensures follows { FollowsIn depth (otherwise ∷ []) result r.old r.new }
+{
+    if !r.next_is(ELSE) {
+        return Ok(Vec::new(alloc));
+    }
+    expect(r, ELSE)?;
+    let body = read_block(alloc, r, depth)?;
+    Ok(body)
+}
+
+// A choice.
+#[cycle(item)]
+fn read_if<'s>(alloc: Global, r: &mut Reader<'s>, depth: u32) -> Result<Item<'s>, ParseFault>
+    requires { depth < 64 }
+    ensures text { IfOk result (λ i. Spelt stmt_text placed_tree (item_view i) r.old r.new) }
+    ensures follows { FollowsIn depth (stmt_syms If) result r.old r.new }
+{
+    let spot = expect(r, Kind::Keyword(Keyword::If))?;
+    let test = read_expr(alloc, r)?;
+    let taken = read_block(alloc, r, depth)?;
+    let other = read_else(alloc, r, depth)?;
+    let what = What::If {
+        test,
+        yes: taken,
+        no: other,
+    };
+    Ok(Item { spot, what })
+}
+
+// A loop.
+#[cycle(item)]
+fn read_repeat<'s>(alloc: Global, r: &mut Reader<'s>, depth: u32) -> Result<Item<'s>, ParseFault>
+    requires { depth < 64 }
+    ensures text { IfOk result (λ i. Spelt stmt_text placed_tree (item_view i) r.old r.new) }
+    ensures follows { FollowsIn depth (stmt_syms Repeat) result r.old r.new }
+{
+    let spot = expect(r, Kind::Keyword(Keyword::Repeat))?;
+    let count = read_count(alloc, r)?;
+    let body = read_block(alloc, r, depth)?;
+    Ok(loop_of(spot, count, body))
+}
+
+// A block under a deformation.
+#[cycle(item)]
+fn read_warp<'s>(alloc: Global, r: &mut Reader<'s>, depth: u32) -> Result<Item<'s>, ParseFault>
+    requires { depth < 64 }
+    ensures text { IfOk result (λ i. Spelt stmt_text placed_tree (item_view i) r.old r.new) }
+    ensures follows { FollowsIn depth (stmt_syms Warp) result r.old r.new }
+{
+    let spot = expect(r, Kind::Keyword(Keyword::Warp))?;
+    let name = read_name(r)?;
+    let body = read_block(alloc, r, depth)?;
+    let what = What::Warp { name, body };
+    Ok(Item { spot, what })
+}
+
+// The branches of a fork.
+#[cycle(item)]
+fn read_branches<'s>(
+    alloc: Global,
+    r: &mut Reader<'s>,
+    depth: u32,
+) -> Result<Vec<Vec<Item<'s>>>, ParseFault>
+    requires { depth < 64 }
+    ensures text { IfOk result (λ b. Spelt fork_text fork_tree (bodies_view b.items) r.old r.new) }
+    ensures follows { FollowsIn depth (one (Word Branch) ∷ block (further ∷ []))
+        result r.old r.new }
+{
+    let mut list = Vec::new(alloc);
+    expect(r, BRANCH)?;
+    let first = read_block(alloc, r, depth)?;
+    push(&mut list, first)?;
+    while r.next_is(BRANCH) {
+        expect(r, BRANCH)?;
+        let next = read_block(alloc, r, depth)?;
+        push(&mut list, next)?;
+    }
+    Ok(list)
+}
+
+// A fork.
+#[cycle(item)]
+fn read_par<'s>(alloc: Global, r: &mut Reader<'s>, depth: u32) -> Result<Item<'s>, ParseFault>
+    requires { depth + 2 ≤ 64 }
+    ensures text { IfOk result (λ i. Spelt stmt_text placed_tree (item_view i) r.old r.new) }
+    ensures follows { FollowsIn depth (stmt_syms Par) result r.old r.new }
+{
+    let spot = expect(r, Kind::Keyword(Keyword::Par))?;
+    expect(r, OPENS)?;
+    let branches = read_branches(alloc, r, depth + 1)?;
+    expect(r, CLOSES)?;
+    let what = What::Par { branches };
+    Ok(Item { spot, what })
+}
+
+// A block with a number.
+#[cycle(item)]
+fn read_scope<'s>(
+    alloc: Global,
+    r: &mut Reader<'s>,
+    scope: Scope,
+    depth: u32,
+) -> Result<Item<'s>, ParseFault>
+    requires { depth < 64 }
+    ensures text { IfOk result (λ i. Spelt stmt_text placed_tree (item_view i) r.old r.new) }
+    ensures follows { FollowsIn depth (stmt_syms (scoping_word (scoping scope)))
+        result r.old r.new }
+{
+    let spot = expect(r, Kind::Keyword(scope.word()))?;
+    let number = read_number(r)?;
+    let body = read_block(alloc, r, depth)?;
+    Ok(scope.item(spot, number, body))
+}
+
+// A block with a list of lengths.
+#[cycle(item)]
+fn read_rhythm<'s>(alloc: Global, r: &mut Reader<'s>, depth: u32) -> Result<Item<'s>, ParseFault>
+    requires { depth < 64 }
+    ensures text { IfOk result (λ i. Spelt stmt_text placed_tree (item_view i) r.old r.new) }
+    ensures follows { FollowsIn depth (stmt_syms Rhythm) result r.old r.new }
+{
+    let spot = expect(r, Kind::Keyword(Keyword::Rhythm))?;
+    expect(r, LIST_OPENS)?;
+    let list = read_lengths(alloc, r)?;
+    expect(r, LIST_CLOSES)?;
+    let body = read_block(alloc, r, depth)?;
+    let what = What::Rhythm { list, body };
+    Ok(Item { spot, what })
+}
+
+// A block with a list of numbers.
+#[cycle(item)]
+fn read_cycle<'s>(
+    alloc: Global,
+    r: &mut Reader<'s>,
+    cycle: Cycle,
+    depth: u32,
+) -> Result<Item<'s>, ParseFault>
+    requires { depth < 64 }
+    ensures text { IfOk result (λ i. Spelt stmt_text placed_tree (item_view i) r.old r.new) }
+    ensures follows { FollowsIn depth (stmt_syms (cycling_word (cycling cycle)))
+        result r.old r.new }
+{
+    let spot = expect(r, Kind::Keyword(cycle.word()))?;
+    expect(r, LIST_OPENS)?;
+    let list = read_numbers(alloc, r)?;
+    expect(r, LIST_CLOSES)?;
+    let body = read_block(alloc, r, depth)?;
+    Ok(cycle.item(spot, list, body))
+}
+
+// A statement with this word, where its braces may be opened.
+#[cycle(item)]
+fn read_worded<'s>(
+    alloc: Global,
+    r: &mut Reader<'s>,
+    word: Keyword,
+    depth: u32,
+) -> Result<Item<'s>, ParseFault>
+    requires begins { begins word ≡ true }
+    requires room { depth + braces_needed word ≤ 64 }
+    ensures text { IfOk result (λ i. Spelt stmt_text placed_tree (item_view i) r.old r.new) }
+    ensures follows { FollowsIn depth (stmt_syms word) result r.old r.new }
+{
+    match word {
+        Keyword::Note => read_note(alloc, r),
+        Keyword::Play => read_play(alloc, r),
+        Keyword::Rest => read_rest(alloc, r),
+        Keyword::Skip => read_skip(r),
+        Keyword::Control => read_control(alloc, r),
+        Keyword::Program => read_sent(alloc, r, Sent::Program),
+        Keyword::Bend => read_sent(alloc, r, Sent::Bend),
+        Keyword::Set => read_set(alloc, r),
+        Keyword::Do => read_do(r),
+        Keyword::If => read_if(alloc, r, depth),
+        Keyword::Repeat => read_repeat(alloc, r, depth),
+        Keyword::Warp => read_warp(alloc, r, depth),
+        Keyword::Par => read_par(alloc, r, depth),
+        Keyword::Channel => read_scope(alloc, r, Scope::Channel, depth),
+        Keyword::Volume => read_scope(alloc, r, Scope::Volume, depth),
+        Keyword::Gate => read_scope(alloc, r, Scope::Gate, depth),
+        Keyword::Rhythm => read_rhythm(alloc, r, depth),
+        Keyword::Artic => read_cycle(alloc, r, Cycle::Artic, depth),
+        Keyword::Loud => read_cycle(alloc, r, Cycle::Loud, depth),
+        _ => Err(ParseFault::Expected {
+            spot: r.peek().spot,
+        }),
+    }
+}
+
+/// Reads a statement with this word.
+#[cycle(item)]
+pub fn read_statement<'s>(
+    alloc: Global,
+    r: &mut Reader<'s>,
+    word: Keyword,
+    depth: u32,
+) -> Result<Item<'s>, ParseFault>
+    requires begins { begins word ≡ true }
+    requires first { first_kind r.old ≡ Word word }
+    requires room { depth ≤ 64 }
+    ensures text { IfOk result (λ i. Spelt stmt_text placed_tree (item_view i) r.old r.new) }
+    ensures follows { (whole : Option Fault) (used : ℕ) (s : Sym) (below : List Sym)
+        → IsMain s → opened below ≡ depth
+        → At whole used (s ∷ below) r.old → Leads whole 0 (s ∷ below) result r.new }
+{
+    check_limit(r, depth + braces_of(word), MAX_BRACES)?;
+    let item = read_worded(alloc, r, word, depth)?;
+    Ok(item)
+}
+
+/// Reads statements.
+#[cycle(item)]
+fn read_statements<'s>(
+    alloc: Global,
+    r: &mut Reader<'s>,
+    depth: u32,
+) -> Result<Vec<Item<'s>>, ParseFault>
+    requires { depth ≤ 64 }
+    ensures text { IfOk result (λ b. Spelt stmts_text stmts_tree (items_view b.items) r.old r.new) }
+    ensures follows { FollowsIn depth (statements ∷ []) result r.old r.new }
+{
+    let mut items = Vec::new(alloc);
+    while let Some(word) = starter_of(r.kind()) {
+        let item = read_statement(alloc, r, word, depth)?;
+        push(&mut items, item)?;
+    }
+    Ok(items)
+}

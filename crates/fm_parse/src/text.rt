@@ -1,0 +1,106 @@
+//! Reading a score.
+
+ghost use Rattle.std.specs.Prelude.{◌≡◌, ◌≤◌, ℕ, [], ◌∷◌, Option, length, IfOk, IfErr};
+ghost use Rattle.fm_lex.specs.declared.kind.Kind.TheVariants.{Keyword as Word, End};
+ghost use Rattle.fm_lex.specs.declared.keyword.Keyword.TheVariants.{Formula};
+ghost use Rattle.fm_lex.specs.Tokens.{tokens};
+ghost use Rattle.fm_grammar.specs.Score.{Score as Tree, Leaf};
+ghost use Rattle.fm_grammar.specs.Signs.{semicolon, tok};
+ghost use Rattle.fm_grammar.specs.View.{score_view};
+ghost use Rattle.fm_grammar.specs.Spelling.{seed_text, score_text};
+ghost use Rattle.fm_grammar.specs.Standing.{seed_tree, score_tree};
+ghost use Rattle.fm_grammar.specs.Reads.{Fault, Reads, TripsWith};
+ghost use Rattle.fm_grammar.specs.Within.{limits};
+ghost use Rattle.fm_grammar.specs.Rules.{one, any_number, seeded, whole as whole_text};
+ghost use Rattle.fm_parse.specs.Follow.{At, FollowsStack, Spelt};
+ghost use Rattle.fm_parse.specs.Whole.{Closes, head_text, head_tree, head_view, IsFault, Answers, Refuses, WholeRead};
+
+use crate::entries::read_entries;
+use crate::fault::ParseFault;
+use crate::head::Head;
+use crate::reader::Reader;
+use crate::token::{expect, read_number};
+use fm_grammar::{Number, Score};
+use fm_lex::{Keyword, Kind, MAX_TEXT};
+use std::alloc::Global;
+
+const FORMULA: Kind = Kind::Keyword(Keyword::Formula);
+
+const SEED: Kind = Kind::Keyword(Keyword::Seed);
+
+const SEMICOLON: Kind = Kind::Symbol(b';');
+
+// The seed, where there is one.
+fn read_seed(r: &mut Reader) -> Result<Option<Number>, ParseFault>
+    ensures text { IfOk result (λ n. Spelt seed_text seed_tree n r.old r.new) }
+    ensures follows { FollowsStack (seeded ∷ []) result r.old r.new }
+{
+    if !r.next_is(SEED) {
+        return Ok(None);
+    }
+    expect(r, SEED)?;
+    let seed = read_number(r)?;
+    expect(r, SEMICOLON)?;
+    Ok(Some(seed))
+}
+
+// The version and the seed.
+fn read_head(r: &mut Reader) -> Result<Head, ParseFault>
+    ensures text { IfOk result (λ h. Spelt head_text head_tree (head_view h) r.old r.new) }
+    ensures follows { FollowsStack
+        (one (Word Formula) ∷ one any_number ∷ one semicolon ∷ seeded ∷ []) result r.old r.new }
+{
+    expect(r, FORMULA)?;
+    let version = read_number(r)?;
+    expect(r, SEMICOLON)?;
+    let seed = read_seed(r)?;
+    Ok(Head { version, seed })
+}
+
+// The end.
+fn check_end(r: &Reader) -> Result<(), ParseFault>
+    ensures text { IfOk result (λ _. (l : Leaf) × (r.now ≡ tok End l ∷ [])) }
+    ensures follows { (fault : Option Fault) (used : ℕ) → At fault used (one End ∷ []) r.now
+        → Closes fault result }
+{
+    r.at_end();
+    if r.next_is(Kind::End) {
+        Ok(())
+    } else {
+        Err(ParseFault::Expected {
+            spot: r.peek().spot,
+        })
+    }
+}
+
+// A whole score.
+fn read_score<'s>(alloc: Global, r: &mut Reader<'s>) -> Result<Score<'s>, ParseFault>
+    ensures text { IfOk result (λ s. WholeRead (score_view s) r.old) }
+    ensures follows { (fault : Option Fault) → At fault 0 whole_text r.old → Closes fault result }
+{
+    let head = read_head(r)?;
+    let entries = read_entries(alloc, r)?;
+    check_end(r)?;
+    Ok(Score {
+        version: head.version,
+        seed: head.seed,
+        entries,
+    })
+}
+
+/// Reads a text of at most 1,048,576 bytes as a score. It answers the one score as which the text
+/// reads, or the fault with which it trips, or that there was no memory.
+pub fn parse<'s>(alloc: Global, source: &'s [u8]) -> Result<Score<'s>, ParseFault>
+    requires { length source.now ≤ MAX_TEXT }
+    ensures reads { IfOk result (λ s. Reads limits (tokens source.now) (score_view s)) }
+    ensures trips { IfErr result (λ e. IsFault e (tokens source.now)) }
+    ensures reading { (score : Tree) → Reads limits (tokens source.now) score
+        → Answers score result }
+    ensures tripping { (fault : Fault) → TripsWith (tokens source.now) fault
+        → Refuses fault result }
+{
+    match Reader::new(source) {
+        Ok(mut r) => read_score(alloc, &mut r),
+        Err(fault) => Err(fault),
+    }
+}

@@ -1,0 +1,44 @@
+-- What is told of a run that does not end with the file of its score: its exit status and its text on the console.
+use Rattle.std.specs.Prelude.{◌≡◌, ℕ, List, ◌++◌, codes, decimal, Option}
+use Rattle.fm_edge.specs.Runs.{Puts, Breaks}
+use Rattle.fm_top.specs.declared.status.TheConstants.{WORDS_REFUSED, READ_FAULT, SCORE_REFUSED, WRITE_FAULT, CONSOLE_FAULT, OUT_OF_MEMORY}
+use Rattle.fm_top.specs.declared.score_fault.ScoreFault.{ScoreFault}
+use Rattle.fm_top.specs.declared.score_fault.ScoreFault.TheVariants.{At, NotPlain}
+use Rattle.fm_top.specs.declared.run_fault.RunFault.{RunFault}
+use Rattle.fm_top.specs.declared.run_fault.RunFault.TheVariants.{Words, Read, Score, Write, Memory}
+
+-- the status of a fault
+abbrev pub fault_status : RunFault → ℕ
+fault_status Words = WORDS_REFUSED
+fault_status Read = READ_FAULT
+fault_status (Score why) = SCORE_REFUSED
+fault_status Write = WRITE_FAULT
+fault_status Memory = OUT_OF_MEMORY
+
+-- the text for a score that is refused at a place: line, column and number in decimal
+abbrev pub place_text : (line column number : ℕ) → List ℕ
+place_text line column number =
+    codes "formula: score refused: " ++ decimal line ++ codes ":" ++ decimal column
+    ++ codes " fault " ++ decimal number ++ codes "\n"
+
+-- the text for a refused score
+abbrev pub refusal_text : ScoreFault → List ℕ
+refusal_text (At spot number) = place_text spot.line spot.column number
+refusal_text NotPlain = codes "formula: score refused\n"
+
+-- the text for a fault
+unfoldable pub fault_text : RunFault → List ℕ
+fault_text Words = codes "formula: words refused\n"
+fault_text Read = codes "formula: read fault\n"
+fault_text (Score why) = refusal_text why
+fault_text Write = codes "formula: write fault\n"
+fault_text Memory = codes "formula: out of memory\n"
+
+-- the text is told and the status is the fault's; or the console failed, a front of the text is told, and the status
+-- says so
+pub data Tells {C : Type 0} (content : C → Option (List ℕ)) (sure : C → Option ℕ) (faults : C → ℕ)
+    (console console' : C) (fault : RunFault) (status : ℕ) : Type 0 where
+  told : status ≡ fault_status fault → Puts content sure faults console console' (fault_text fault)
+      → Tells content sure faults console console' fault status
+  untold : status ≡ CONSOLE_FAULT → Breaks content sure faults console console' (fault_text fault)
+      → Tells content sure faults console console' fault status
