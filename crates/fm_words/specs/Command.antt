@@ -17,12 +17,12 @@ abbrev pub flag_named : List ℕ → Rule
 flag_named id = record (new_rule id) { long = Some id; action = Some SetTrue }
 
 -- a command without words, which has no help and no version, and whose words begin after the program's name
-abbrev pub bare : App
-bare = on_top (λ s. record s { no_binary_name = true; disable_help_flag = true }) (new_app (codes "formula"))
+abbrev pub bare_command : App
+bare_command = on_top (λ s. record s { no_binary_name = true; disable_help_flag = true }) (new_app (codes "formula"))
 
 -- two texts, three options and a flag
 unfoldable pub command : App
-command = with_rule (with_rule (with_rule (with_rule (with_rule (with_rule bare
+command = with_rule (with_rule (with_rule (with_rule (with_rule (with_rule bare_command
     (text_named (codes "IN"))) (text_named (codes "OUT")))
     (option_named (codes "workers"))) (option_named (codes "lead"))) (option_named (codes "room")))
     (flag_named (codes "rounds"))

@@ -1,7 +1,7 @@
 //! The command of which the words are read.
 ghost use Rattle.std.specs.Prelude.{◌≡◌, IfOk, false};
 ghost use Rattle.clap.specs.Words.{app_of, rule_of};
-ghost use Rattle.fm_words.specs.Command.{command, flag_named, option_named, text_named};
+ghost use Rattle.fm_words.specs.Command.{bare_command, command, flag_named, option_named, text_named};
 
 use clap::{Arg, ArgAction, Command};
 use std::alloc::{AllocError, Global};
@@ -10,15 +10,22 @@ use std::alloc::{AllocError, Global};
 pub fn formula_command<'a>(alloc: Global) -> Result<Command<'a>, AllocError>
     ensures { IfOk result (λ c. app_of c ≡ command) }
 {
-    let bare = Command::new(alloc, "formula")
-        .no_binary_name(true)
-        .disable_help_flag(true);
-    bare.arg(text(alloc, "IN"))?
+    bare(alloc)
+        .arg(text(alloc, "IN"))?
         .arg(text(alloc, "OUT"))?
         .arg(option(alloc, "workers"))?
         .arg(option(alloc, "lead"))?
         .arg(option(alloc, "room"))?
         .arg(flag(alloc, "rounds"))
+}
+
+// The command without words, whose list of words begins after the program's name.
+fn bare<'a>(alloc: Global) -> Command<'a>
+    ensures { app_of result ≡ bare_command }
+{
+    Command::new(alloc, "formula")
+        .no_binary_name(true)
+        .disable_help_flag(true)
 }
 
 // A text that has to be there, by its place.

@@ -1,9 +1,9 @@
 //! The words of the command line: `IN OUT [--workers N] [--lead T] [--room K] [--rounds]`.
 //!
 //! `read_options` reads the words after the program's name, and gives [`Options`] whose numbers lie
-//! in their ranges; `names` gives the two file names alone. Both refuse the same words, which are a
-//! definition over the list of words (`settings_of` of `specs/Settings`): clap's statement of a
-//! simple command, and the ranges of the numbers. What the options mean is left to the crates above.
+//! in their ranges; `names` gives the two file names alone. Both refuse the same words, which are
+//! a definition over the list of words (`settings_of` of `specs/Settings`): clap's statement of a
+//! simple command, and the ranges of the numbers. What options mean is left to the crates above.
 #![tactic(auto)]
 
 mod chosen;

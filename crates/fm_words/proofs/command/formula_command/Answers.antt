@@ -2,15 +2,14 @@ use Rattle.std.proofs.Common.{rules, ap₂, ◌≡◌, ◌∙◌}
 use Rattle.std.proofs.lemmas.Result.{IfOk-weaker}
 use Rattle.clap.specs.Words.{app_of, with_rule}
 use Rattle.clap.specs.declared.builder.command.Command.{Command}
-use Rattle.fm_words.specs.Command.{bare, command}
+use Rattle.fm_words.specs.Command.{command}
 use Rattle.fm_words.proofs.command.formula_command.Goals as goal
 
 -- each call of `arg` adds one rule
 pub returns : goal.returns
 unfolding command
 returns c =
-    let bare_is : app_of c.disable_help_flag-bare.result ≡ bare = search rules in
-    let one = c.in_ok-arg.ensures.shape (search rules) ∙ ap₂ with_rule bare_is c.text.ensures.rule in
+    let one = c.in_ok-arg.ensures.shape (search rules) ∙ ap₂ with_rule c.bare.ensures c.text.ensures.rule in
     let two = c.in_ok-arg-2.ensures.shape (search rules) ∙ ap₂ with_rule one c.text-2.ensures.rule in
     let three = c.in_ok-arg-3.ensures.shape (search rules) ∙ ap₂ with_rule two c.option.ensures.rule in
     let four = c.in_ok-arg-4.ensures.shape (search rules) ∙ ap₂ with_rule three c.option-2.ensures.rule in
