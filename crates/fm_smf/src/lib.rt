@@ -2,7 +2,8 @@
 //! A `Writer` begins a file, takes its events in the order of their times and finishes it.
 //! `write_file` does all of it: after an Ok the sink holds exactly `file` of the events and the
 //! end, after a fault a front of that file with length 0, or the file with a part of its length.
-//! Running status, sysex, further tracks and divisions other than 480 are left out.
+//! `Writer::begin_as` begins a file of another division. Running status, sysex and further
+//! tracks are left out.
 #![tactic(auto)]
 
 mod fault;
@@ -15,7 +16,7 @@ mod whole;
 mod writer;
 
 pub use fault::SinkFault;
-pub use fm_msg::{Event, Msg};
+pub use fm_msg::{Event, Msg, Profile};
 pub use laws::{deltas_split, lengths_make_files, quantities_read_back, tracks_fit};
 pub use limits::{BEFORE_TRACK, LENGTH_PLACE, MAX_QUANTITY, MAX_TIME, MAX_TRACK, START_LENGTH};
 pub use whole::write_file;

@@ -2,7 +2,7 @@
 ghost use Rattle.std.specs.Prelude.{◌≡◌};
 ghost use Rattle.fm_edge.specs.Content.{IsNew};
 
-use crate::{Event, MAX_TIME, Msg, SinkFault, write_file};
+use crate::{Event, MAX_TIME, Msg, Profile, SinkFault, Writer, write_file};
 use fm_edge::{MemorySink, NullSink, Sink};
 use std::test::Fail;
 
@@ -42,6 +42,24 @@ fn write_note<K: Sink>(sink: &mut K) -> Result<u64, SinkFault>
     requires { IsNew (K.content sink.old) }
 {
     write_file(&[on(0), off(432)], 480, sink)
+}
+
+// 29 bytes, of which the 13th and the 14th are the division.
+#[test]
+fn a_profile_has_its_division(rt: HostRuntime) -> Result<(), Fail> {
+    let alloc = rt.alloc();
+    let profile = Profile {
+        running: false,
+        division: 0x03C0,
+    };
+    let mut sink = MemorySink::new(alloc, 100, Vec::new(alloc))?;
+    let begun = Writer::begin_as(&profile, &mut sink).is_ok();
+    assert!(rt; begun);
+    let mut start = BLANK;
+    start[12] = 0x03;
+    start[13] = 0xC0;
+    assert_eq!(rt; sink.content(), &start[..29]);
+    Ok(())
 }
 
 // The bytes behind the header, compared with those that the standard gives.
