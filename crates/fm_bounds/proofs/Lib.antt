@@ -1,0 +1,8 @@
+pub mod SaturationLemmas
+pub mod SumsLemmas
+pub mod WeightLemmas
+pub mod LongestLemmas
+pub mod RangeLemmas
+pub mod LimitLemmas
+pub mod StandsLemmas
+pub mod WalkLemmas

@@ -1,0 +1,177 @@
+-- Totals against their limits: a total up to the ceiling passes a limit exactly where the total itself does.
+use Rattle.std.proofs.Common.{◌≡◌, ℕ, ◌<◌, ◌≤◌, Bool, true, false, List, [], ◌∷◌, ◌++◌, Some, None, refl, sym, ◌∙◌, arith, ⊎_elim}
+use Rattle.std.proofs.lemmas.Bool.{cases_lt, lt-ltb, le-ltb, ltb-false}
+use Rattle.std.specs.Prelude.{nat_lt}
+use Rattle.fm_tick.specs.declared.tick.TheConstants.{MAX_TICK}
+use Rattle.fm_lex.specs.declared.spot.Spot.{Spot}
+use Rattle.fm_line.specs.Line.{most_events}
+use Rattle.fm_meaning.specs.Rules.{VersionRules, most_operations, most_steps}
+use Rattle.fm_meaning.specs.Fault.{NumberedFault, fault_if, too_many_processes, too_many_operations, too_long, too_many_events, too_many_steps}
+use Rattle.fm_meaning.specs.Faults.{first_found}
+use Rattle.fm_meaning.specs.Bounds.{Totals, limit_faults}
+use Rattle.fm_bounds.specs.declared.sums.TheConstants.{CEILING}
+use Rattle.fm_bounds.specs.declared.excess.Excess.TheVariants.{TooManyProcesses, TooManyOperations, TooLong, TooManyEvents, TooManySteps}
+use Rattle.fm_bounds.specs.Excess.{excess_at}
+use Rattle.fm_bounds.specs.Saturation.{capped}
+use Rattle.fm_bounds.specs.Reached.{AreWithin}
+use Rattle.fm_bounds.proofs.RangeLemmas.{none_first, none_second}
+
+-- a total up to the ceiling passes a limit where the total does
+pub capped_lt : (m n : ℕ) → m < CEILING → nat_lt m (capped n) ≡ nat_lt m n
+unfolding capped
+capped_lt m n low =
+    ⊎_elim (λ above. lt-ltb m (capped n) (omega arith) ∙ sym (lt-ltb m n above))
+    (λ within. le-ltb m (capped n) (omega arith) ∙ sym (le-ltb m n within)) (cases_lt m n)
+
+-- ---- the first of five faults
+
+-- the faults of five tests
+abbrev five : (p o l e s : Bool) → Spot → List NumberedFault
+five p o l e s spot =
+    fault_if p spot too_many_processes ++ fault_if o spot too_many_operations ++ fault_if l spot too_long
+    ++ fault_if e spot too_many_events ++ fault_if s spot too_many_steps
+
+first_of : (p o l e s : Bool) (spot : Spot) → p ≡ true
+    → first_found (five p o l e s spot) ≡ Some (excess_at spot TooManyProcesses)
+first_of true o l e s spot is = refl
+first_of false o l e s spot is = cc
+
+second_of : (p o l e s : Bool) (spot : Spot) → p ≡ false → o ≡ true
+    → first_found (five p o l e s spot) ≡ Some (excess_at spot TooManyOperations)
+second_of false true l e s spot not_p is = refl
+second_of true o l e s spot not_p is = cc
+second_of false false l e s spot not_p is = cc
+
+third_of : (p o l e s : Bool) (spot : Spot) → p ≡ false → o ≡ false → l ≡ true
+    → first_found (five p o l e s spot) ≡ Some (excess_at spot TooLong)
+third_of false false true e s spot not_p not_o is = refl
+third_of true o l e s spot not_p not_o is = cc
+third_of false true l e s spot not_p not_o is = cc
+third_of false false false e s spot not_p not_o is = cc
+
+fourth_of : (p o l e s : Bool) (spot : Spot) → p ≡ false → o ≡ false → l ≡ false → e ≡ true
+    → first_found (five p o l e s spot) ≡ Some (excess_at spot TooManyEvents)
+fourth_of false false false true s spot not_p not_o not_l is = refl
+fourth_of true o l e s spot not_p not_o not_l is = cc
+fourth_of false true l e s spot not_p not_o not_l is = cc
+fourth_of false false true e s spot not_p not_o not_l is = cc
+fourth_of false false false false s spot not_p not_o not_l is = cc
+
+last_of : (p o l e s : Bool) (spot : Spot) → p ≡ false → o ≡ false → l ≡ false → e ≡ false → s ≡ true
+    → first_found (five p o l e s spot) ≡ Some (excess_at spot TooManySteps)
+last_of false false false false true spot not_p not_o not_l not_e is = refl
+last_of true o l e s spot not_p not_o not_l not_e is = cc
+last_of false true l e s spot not_p not_o not_l not_e is = cc
+last_of false false true e s spot not_p not_o not_l not_e is = cc
+last_of false false false true s spot not_p not_o not_l not_e is = cc
+last_of false false false false false spot not_p not_o not_l not_e is = cc
+
+none_of : (p o l e s : Bool) (spot : Spot) → p ≡ false → o ≡ false → l ≡ false → e ≡ false → s ≡ false
+    → first_found (five p o l e s spot) ≡ None
+none_of false false false false false spot not_p not_o not_l not_e is = refl
+none_of true o l e s spot not_p not_o not_l not_e is = cc
+none_of false true l e s spot not_p not_o not_l not_e is = cc
+none_of false false true e s spot not_p not_o not_l not_e is = cc
+none_of false false false true s spot not_p not_o not_l not_e is = cc
+none_of false false false false true spot not_p not_o not_l not_e is = cc
+
+-- the tests of a score's totals
+abbrev over_processes : VersionRules → Totals → Bool
+over_processes rules a = nat_lt rules.most_processes a.processes
+
+abbrev over_operations : Totals → Bool
+over_operations a = nat_lt most_operations a.operations
+
+abbrev over_length : Totals → Bool
+over_length a = nat_lt MAX_TICK a.length
+
+abbrev over_events : Totals → Bool
+over_events a = nat_lt most_events a.events
+
+abbrev over_steps : Totals → Bool
+over_steps a = nat_lt most_steps a.steps
+
+pub too_many_processes_found : (rules : VersionRules) (spot : Spot) (a : Totals) → over_processes rules a ≡ true
+    → first_found (limit_faults rules spot a) ≡ Some (excess_at spot TooManyProcesses)
+too_many_processes_found rules spot a is =
+    first_of (over_processes rules a) (over_operations a) (over_length a) (over_events a) (over_steps a) spot is
+
+pub too_many_operations_found : (rules : VersionRules) (spot : Spot) (a : Totals) → over_processes rules a ≡ false
+    → over_operations a ≡ true → first_found (limit_faults rules spot a) ≡ Some (excess_at spot TooManyOperations)
+too_many_operations_found rules spot a p is =
+    second_of (over_processes rules a) (over_operations a) (over_length a) (over_events a) (over_steps a) spot p is
+
+pub too_long_found : (rules : VersionRules) (spot : Spot) (a : Totals) → over_processes rules a ≡ false
+    → over_operations a ≡ false → over_length a ≡ true
+    → first_found (limit_faults rules spot a) ≡ Some (excess_at spot TooLong)
+too_long_found rules spot a p o is =
+    third_of (over_processes rules a) (over_operations a) (over_length a) (over_events a) (over_steps a) spot p o is
+
+pub too_many_events_found : (rules : VersionRules) (spot : Spot) (a : Totals) → over_processes rules a ≡ false
+    → over_operations a ≡ false → over_length a ≡ false → over_events a ≡ true
+    → first_found (limit_faults rules spot a) ≡ Some (excess_at spot TooManyEvents)
+too_many_events_found rules spot a p o l is =
+    fourth_of (over_processes rules a) (over_operations a) (over_length a) (over_events a) (over_steps a) spot p o l is
+
+pub too_many_steps_found : (rules : VersionRules) (spot : Spot) (a : Totals) → over_processes rules a ≡ false
+    → over_operations a ≡ false → over_length a ≡ false → over_events a ≡ false → over_steps a ≡ true
+    → first_found (limit_faults rules spot a) ≡ Some (excess_at spot TooManySteps)
+too_many_steps_found rules spot a p o l e is =
+    last_of (over_processes rules a) (over_operations a) (over_length a) (over_events a) (over_steps a) spot p o l e is
+
+pub nothing_found : (rules : VersionRules) (spot : Spot) (a : Totals) → over_processes rules a ≡ false
+    → over_operations a ≡ false → over_length a ≡ false → over_events a ≡ false → over_steps a ≡ false
+    → first_found (limit_faults rules spot a) ≡ None
+nothing_found rules spot a p o l e is =
+    none_of (over_processes rules a) (over_operations a) (over_length a) (over_events a) (over_steps a) spot p o l e is
+
+-- for `grind`: the first fault of totals up to the ceiling
+pub ruleset limits = (
+  capped_lt,
+  too_many_processes_found,
+  too_many_operations_found,
+  too_long_found,
+  too_many_events_found,
+  too_many_steps_found,
+  nothing_found,
+)
+
+-- ---- totals without a fault
+
+-- a list with no first entry is empty
+pub empty_list : (fs : List NumberedFault) → first_found fs ≡ None → fs ≡ []
+empty_list [] none = refl
+empty_list (f ∷ fs) none = cc
+
+-- the first of two lists is the first of the first
+pub first_stays : (fs gs : List NumberedFault) (f : NumberedFault) → first_found fs ≡ Some f → first_found (fs ++ gs) ≡ Some f
+first_stays [] gs f is = cc
+first_stays (x ∷ fs) gs f is = is
+
+-- a test without a fault fails
+no_fault : (b : Bool) (spot : Spot) (number : ℕ) → fault_if b spot number ≡ [] → b ≡ false
+no_fault true spot number none = cc
+no_fault false spot number none = refl
+
+-- no total passes its limit where none is found
+pub are_within : (rules : VersionRules) (spot : Spot) (a : Totals) → limit_faults rules spot a ≡ []
+    → AreWithin rules.most_processes a
+are_within rules spot a none =
+    let p = fault_if (over_processes rules a) spot too_many_processes in
+    let o = fault_if (over_operations a) spot too_many_operations in
+    let l = fault_if (over_length a) spot too_long in
+    let e = fault_if (over_events a) spot too_many_events in
+    let s = fault_if (over_steps a) spot too_many_steps in
+    let four = none_first (p ++ o ++ l ++ e) s none in
+    let three = none_first (p ++ o ++ l) e four in
+    let two = none_first (p ++ o) l three in
+    record {
+      processes = ltb-false rules.most_processes a.processes
+          (no_fault (over_processes rules a) spot too_many_processes (none_first p o two));
+      operations = ltb-false most_operations a.operations
+          (no_fault (over_operations a) spot too_many_operations (none_second p o two));
+      length = ltb-false MAX_TICK a.length (no_fault (over_length a) spot too_long (none_second (p ++ o) l three));
+      events = ltb-false most_events a.events
+          (no_fault (over_events a) spot too_many_events (none_second (p ++ o ++ l) e four));
+      steps = ltb-false most_steps a.steps (no_fault (over_steps a) spot too_many_steps (none_second (p ++ o ++ l ++ e) s none));
+    }

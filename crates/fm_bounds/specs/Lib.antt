@@ -1,0 +1,5 @@
+pub mod Saturation
+pub mod Weight
+pub mod Stands
+pub mod Excess
+pub mod Reached

@@ -1,0 +1,24 @@
+//! What a score asks for at most, and where that is too much: `find_bounds` gives the static totals
+//! of a score, or the first statement with which one of them passes its limit.
+//!
+//! The totals are those of the definition, up to a ceiling above each limit (`specs/Saturation`).
+//! What a phrase adds is found once, where it is defined, so the walk takes a time that grows with
+//! the text, however long the score is that the text stands for. Ranges and names, and where
+//! statements may stand, are left to other walks.
+#![tactic(auto)]
+
+mod bounds;
+mod excess;
+mod fault;
+mod longest;
+mod shape;
+mod span;
+mod sums;
+mod tables;
+mod walk;
+mod weigh;
+
+pub use bounds::Bounds;
+pub use excess::{Excess, MAX_EVENTS, MAX_OPERATIONS, MAX_PROCESSES, MAX_STEPS};
+pub use fault::BoundsFault;
+pub use walk::find_bounds;
