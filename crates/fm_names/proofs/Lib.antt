@@ -1,1 +1,1 @@
-pub mod SameBytes
+pub mod NameLemmas

@@ -1,8 +1,9 @@
 //! The table.
 
 ghost use Rattle.std.specs.Prelude.{◌≡◌, ℕ, List, None, Some, OnOk, OnErr, cond, option_copied};
+ghost use Rattle.std.specs.List.{list_any};
 ghost use Rattle.std.specs.Str.{bytes_eq};
-ghost use Rattle.fm_names.specs.Named.{named};
+ghost use Rattle.fm_names.specs.Named.{named, names_in};
 
 use std::alloc::{AllocError, Global};
 use std::collections::BTreeMap;
@@ -25,8 +26,11 @@ impl<'s, V: Drop> Names<'s, V> {
 
     /// Lets the name stand for a value from here on. After an error the table is as it was.
     pub fn define(&mut self, name: &'s [u8], value: V) -> Result<(), AllocError>
-        ensures ok { OnOk result ((other : List ℕ) → named self.new other ≡ cond (bytes_eq other name.now) (Some value) (named self.old other)) }
-        ensures err { OnErr result ((other : List ℕ) → named self.new other ≡ named self.old other) }
+        ensures ok { OnOk result ((other : List ℕ)
+            → named self.new other
+            ≡ cond (bytes_eq other name.now) (Some value) (named self.old other)) }
+        ensures err { OnErr result ((other : List ℕ)
+            → named self.new other ≡ named self.old other) }
     {
         self.values.insert(name, value)?;
         Ok(())
@@ -37,5 +41,12 @@ impl<'s, V: Drop> Names<'s, V> {
         ensures { option_copied result ≡ named self.now name.now }
     {
         self.values.get(name)
+    }
+
+    /// Whether the name was defined.
+    pub fn contains(&self, name: &[u8]) -> bool
+        ensures { result ≡ list_any (bytes_eq name.now) (names_in self.now) }
+    {
+        self.values.contains_key(name)
     }
 }

@@ -1,7 +1,7 @@
 use Rattle.std.proofs.Common.{Some, cond, ap, ◌∙◌}
 use Rattle.std.proofs.lemmas.Map.Text.{btree_map_updates_str}
 use Rattle.fm_names.specs.Named.{named}
-use Rattle.fm_names.proofs.SameBytes.{bytes_eq_symmetric}
+use Rattle.fm_names.proofs.NameLemmas.{bytes_eq_symmetric}
 use Rattle.fm_names.proofs.names.Names.define.Goals as goal
 
 pub returns-clause-ok : goal.returns-clause-ok

@@ -1,0 +1,5 @@
+pub mod Views
+pub mod ListLemmas
+pub mod Congruence
+pub mod DefiningLemmas
+pub mod EntryLemmas

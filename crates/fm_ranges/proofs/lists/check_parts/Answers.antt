@@ -1,0 +1,20 @@
+use Rattle.std.proofs.Common.{◌≡◌, ◌∙◌, sym, ap, arith, Err}
+use Rattle.std.proofs.lemmas.Grind.{common_steps}
+use Rattle.fm_meaning.specs.Faults.{first_found}
+use Rattle.fm_ranges.specs.Found.{found, numbered}
+use Rattle.fm_ranges.proofs.ListLemmas.{first_of_both, first_of_second, each_more}
+use Rattle.fm_ranges.proofs.lists.check_parts.Goals as goal
+
+pub returns-in_err-check_part : goal.returns-in_err-check_part
+returns-in_err-check_part c =
+    let e = c.in_err-check_part.field-0.0 in
+    let is : c.from_residual.result ≡ Err e = grind (arith, common_steps) in
+    ap found is ∙ first_of_both _ _ (numbered e) c.in_err-check_part.ensures
+    ∙ sym (c.loop-i.invariant
+    ∙ ap first_found (each_more _ _ _ c.loop-i.i c.args.parts.now _ c.loop-i-test.true c.if-i-ge-MAX_PARTS.false))
+
+pub loop-i-preserved : goal.loop-i-preserved
+loop-i-preserved c =
+    c.loop-i.invariant
+    ∙ ap first_found (each_more _ _ _ c.loop-i.i c.args.parts.now _ c.loop-i-test.true c.if-i-ge-MAX_PARTS.false)
+    ∙ sym (first_of_second _ _ c.in_ok-check_part.ensures)

@@ -1,0 +1,39 @@
+//! The names that are defined before a place of the text.
+
+ghost use Rattle.std.specs.Prelude.{◌≡◌, [], OnOk};
+ghost use Rattle.fm_grammar.specs.View.{entry_view};
+ghost use Rattle.fm_ranges.specs.Found.{known_view};
+ghost use Rattle.fm_ranges.specs.declared.number.TheConstants.{WHOLE_NOTE};
+ghost use Rattle.fm_ranges.specs.Entries.{SameNames, behind};
+
+use fm_grammar::Entry;
+use fm_names::Names;
+use std::alloc::{AllocError, Global};
+
+/// The names of shapes and of phrases.
+#[derive(Drop)]
+pub(crate) struct Known<'s> {
+    pub(crate) shapes: Names<'s, ()>,
+    pub(crate) phrases: Names<'s, ()>,
+}
+
+/// Nothing is defined.
+pub(crate) fn nothing_known<'s>(alloc: Global) -> Known<'s>
+    ensures { SameNames (known_view result) (record { whole = WHOLE_NOTE; shapes = []; phrases = [] }) }
+{
+    Known {
+        shapes: Names::new(alloc),
+        phrases: Names::new(alloc),
+    }
+}
+
+/// Defines what the entry defines.
+pub(crate) fn define<'s>(known: &mut Known<'s>, entry: &Entry<'s>) -> Result<(), AllocError>
+    ensures { OnOk result (SameNames (known_view known.new) (behind (entry_view entry.now) (known_view known.old))) }
+{
+    match entry {
+        Entry::Shape { name, .. } => known.shapes.define(name.text, ()),
+        Entry::Phrase { name, .. } => known.phrases.define(name.text, ()),
+        Entry::Play { .. } => Ok(()),
+    }
+}

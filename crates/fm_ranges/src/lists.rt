@@ -1,0 +1,159 @@
+//! Lists, of which each entry behind the most is one too many.
+
+ghost use Rattle.std.specs.Prelude.{◌≡◌, ◌++◌, map, nat_eq};
+ghost use Rattle.fm_grammar.specs.View.{pitch_view};
+ghost use Rattle.fm_meaning.specs.Faults.{first_found};
+ghost use Rattle.fm_meaning.specs.Ranges.{
+  pitches_faults,
+  each_faults,
+  length_faults,
+  length_spot,
+  numbers_faults,
+  part_faults,
+  part_length,
+  pitch_spot,
+  empty_faults,
+};
+ghost use Rattle.fm_meaning.specs.Resolve.{length_ticks};
+ghost use Rattle.fm_ranges.specs.Found.{found};
+
+use crate::fault::{RangeFault, out_of_range};
+use crate::number::{WHOLE_NOTE, check_length, check_number};
+use crate::value::check_pitch;
+use fm_grammar::{Length, Number, PartText, Pitch};
+use fm_lex::Spot;
+use fm_pattern::MAX_ENTRIES;
+use fm_tick::MAX_STRETCH;
+use fm_warp::MAX_PARTS;
+
+/// How many pitches one statement has at most.
+pub const MAX_PITCHES: usize = 16;
+
+/// The first spot of a pitch.
+fn spot_of_pitch(pitch: &Pitch) -> Spot
+    ensures { result ≡ pitch_spot (pitch_view pitch.now) }
+{
+    match pitch {
+        Pitch::Named { spot, .. } | Pitch::Key { spot, .. } => *spot,
+    }
+}
+
+/// The pitches of a note.
+pub(crate) fn check_pitches(pitches: &[Pitch]) -> Result<(), RangeFault>
+    ensures { found result ≡ first_found (pitches_faults (map pitch_view pitches.now)) }
+{
+    for (i, pitch) in pitches.iter().enumerate() {
+        if i >= MAX_PITCHES {
+            return Err(out_of_range(spot_of_pitch(pitch)));
+        }
+        check_pitch(pitch)?;
+    }
+    Ok(())
+}
+
+/// The spot of a length's first number.
+fn spot_of_length(length: Length) -> Spot
+    ensures { result ≡ length_spot length }
+{
+    match length {
+        Length::Share { over, .. } => over.spot,
+        Length::Ticks { count } => count.spot,
+    }
+}
+
+/// The entries of a rhythm.
+pub(crate) fn check_lengths(lengths: &[Length]) -> Result<(), RangeFault>
+    ensures { found result
+        ≡ first_found (each_faults (length_faults WHOLE_NOTE) length_spot MAX_ENTRIES lengths.now) }
+{
+    for (i, length) in lengths.iter().enumerate() {
+        if i >= MAX_ENTRIES {
+            return Err(out_of_range(spot_of_length(*length)));
+        }
+        check_length(*length)?;
+    }
+    Ok(())
+}
+
+/// The entries of a list of numbers from `least` to `most`.
+pub(crate) fn check_numbers(numbers: &[Number], least: u32, most: u32) -> Result<(), RangeFault>
+    ensures { found result ≡ first_found (numbers_faults least most numbers.now) }
+{
+    for (i, number) in numbers.iter().enumerate() {
+        if i >= MAX_ENTRIES {
+            return Err(out_of_range(number.spot));
+        }
+        check_number(*number, least, most)?;
+    }
+    Ok(())
+}
+
+/// The length of a part, and whether it may be 0.
+fn length_of_part(part: PartText) -> Length
+    ensures { result ≡ part_length part }
+{
+    match part {
+        PartText::Flat { length, .. }
+        | PartText::Slope { length, .. }
+        | PartText::Pause { length }
+        | PartText::Breath { length } => length,
+    }
+}
+
+/// Whether a length has no ticks, or none that can be said.
+fn is_empty(length: Length) -> bool
+    ensures { result ≡ nat_eq (length_ticks WHOLE_NOTE length) 0 }
+{
+    match length {
+        Length::Share { over, under } => {
+            let ticks = u64::from(WHOLE_NOTE) * u64::from(over.value);
+            under.value == 0 || ticks / u64::from(under.value) == 0
+        }
+        Length::Ticks { count } => count.value == 0,
+    }
+}
+
+/// A length of at least one tick.
+fn check_stretched(length: Length) -> Result<(), RangeFault>
+    ensures { found result
+        ≡ first_found (length_faults WHOLE_NOTE length ++ empty_faults WHOLE_NOTE length) }
+{
+    check_length(length)?;
+    if is_empty(length) {
+        return Err(out_of_range(spot_of_length(length)));
+    }
+    Ok(())
+}
+
+/// A part of a shape.
+fn check_part(part: PartText) -> Result<(), RangeFault>
+    ensures { found result ≡ first_found (part_faults WHOLE_NOTE part) }
+{
+    match part {
+        PartText::Flat { length, by } => {
+            check_stretched(length)?;
+            check_number(by, 1, MAX_STRETCH)
+        }
+        PartText::Slope { length, by, to } => {
+            check_stretched(length)?;
+            check_number(by, 1, MAX_STRETCH)?;
+            check_number(to, 1, MAX_STRETCH)
+        }
+        PartText::Pause { length } | PartText::Breath { length } => check_length(length),
+    }
+}
+
+/// The parts of a shape.
+pub(crate) fn check_parts(parts: &[PartText]) -> Result<(), RangeFault>
+    ensures { found result
+        ≡ first_found (each_faults (part_faults WHOLE_NOTE) (λ p. length_spot (part_length p))
+        MAX_PARTS parts.now) }
+{
+    for (i, part) in parts.iter().enumerate() {
+        if i >= MAX_PARTS {
+            return Err(out_of_range(spot_of_length(length_of_part(*part))));
+        }
+        check_part(*part)?;
+    }
+    Ok(())
+}

@@ -1,0 +1,66 @@
+//! Numbers and lengths.
+
+ghost use Rattle.std.specs.Prelude.{◌≡◌};
+ghost use Rattle.fm_meaning.specs.Faults.{first_found};
+ghost use Rattle.fm_meaning.specs.Ranges.{number_faults, share_faults, length_faults, literal_faults};
+ghost use Rattle.fm_ranges.specs.Found.{found};
+
+use crate::fault::{RangeFault, RangeWhy, out_of_range};
+use fm_grammar::{Length, Number};
+use fm_lex::Spot;
+
+/// How many ticks a whole note has.
+pub const WHOLE_NOTE: u32 = 1_920;
+
+/// The longest length that is written as one, in ticks.
+pub const MAX_TICKS: u32 = 1_000_000;
+
+/// A number from `least` to `most`.
+pub(crate) fn check_number(number: Number, least: u32, most: u32) -> Result<(), RangeFault>
+    ensures { found result ≡ first_found (number_faults least most number) }
+{
+    if number.value < least || most < number.value {
+        return Err(out_of_range(number.spot));
+    }
+    Ok(())
+}
+
+/// A literal from `least` to `most`.
+pub(crate) fn check_literal(value: i64, spot: Spot, least: i64, most: i64) -> Result<(), RangeFault>
+    ensures { found result ≡ first_found (literal_faults least most value spot) }
+{
+    if value < least || most < value {
+        return Err(out_of_range(spot));
+    }
+    Ok(())
+}
+
+/// A share of a whole note.
+fn check_share(over: Number, under: Number) -> Result<(), RangeFault>
+    ensures { found result ≡ first_found (share_faults WHOLE_NOTE over under) }
+{
+    if under.value == 0 {
+        return Err(out_of_range(over.spot));
+    }
+    let ticks = u64::from(WHOLE_NOTE) * u64::from(over.value);
+    if ticks % u64::from(under.value) != 0 {
+        return Err(RangeFault {
+            why: RangeWhy::NotTicks,
+            spot: over.spot,
+        });
+    }
+    if u64::from(MAX_TICKS) < ticks / u64::from(under.value) {
+        return Err(out_of_range(over.spot));
+    }
+    Ok(())
+}
+
+/// A length.
+pub(crate) fn check_length(length: Length) -> Result<(), RangeFault>
+    ensures { found result ≡ first_found (length_faults WHOLE_NOTE length) }
+{
+    match length {
+        Length::Share { over, under } => check_share(over, under),
+        Length::Ticks { count } => check_number(count, 0, MAX_TICKS),
+    }
+}
