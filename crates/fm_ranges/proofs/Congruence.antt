@@ -8,7 +8,9 @@ use Rattle.fm_pattern.specs.declared.cursor.TheConstants.{MAX_ENTRIES}
 use Rattle.fm_grammar.specs.Score as text
 use Rattle.fm_meaning.specs.Rules.{most_rounds, most_channel, most_data, most_gate}
 use Rattle.fm_meaning.specs.Fault.{fault_if, unknown_name, double_name}
-use Rattle.fm_meaning.specs.Ranges.{Names, stmt_faults, body_faults, branches_faults, entries_faults, unknown_faults, double_faults, duration_faults, pitches_faults, expr_faults, number_faults, numbers_faults, each_faults, length_faults, length_spot, part_faults, part_length}
+use Rattle.fm_meaning.specs.Ranges.{Names, stmt_faults, body_faults, branches_faults, entries_faults, unknown_faults, double_faults}
+use Rattle.fm_meaning.specs.Ranges.{duration_faults, pitches_faults, expr_faults, number_faults, numbers_faults, each_faults, length_faults}
+use Rattle.fm_meaning.specs.Ranges.{length_spot, part_faults, part_length}
 use Rattle.fm_ranges.specs.Entries.{SameNames, behind, entry_faults}
 
 -- a list of names for another

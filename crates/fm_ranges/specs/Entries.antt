@@ -5,7 +5,8 @@ use Rattle.std.specs.Str.{bytes_eq}
 use Rattle.fm_warp.specs.declared.warp.TheConstants.{MAX_PARTS}
 use Rattle.fm_grammar.specs.Score as text
 use Rattle.fm_meaning.specs.Fault.{NumberedFault}
-use Rattle.fm_meaning.specs.Ranges.{Names, double_faults, each_faults, part_faults, length_spot, part_length, body_faults, stmt_faults}
+use Rattle.fm_meaning.specs.Ranges.{Names, double_faults, each_faults, part_faults, length_spot, part_length}
+use Rattle.fm_meaning.specs.Ranges.{body_faults, stmt_faults}
 
 -- the faults of an entry
 abbrev pub entry_faults : Names → text.Entry → List NumberedFault

@@ -8,7 +8,8 @@ use Rattle.fm_grammar.specs.View.{items_view, branches_of}
 use Rattle.fm_grammar.specs.declared.item.Item.{Item}
 use Rattle.fm_meaning.specs.Rules.{most_rounds, most_data, most_channel, most_gate, bend_centre, most_bend}
 use Rattle.fm_meaning.specs.Fault.{NumberedFault}
-use Rattle.fm_meaning.specs.Ranges.{Names, pitches_faults, duration_faults, number_faults, amount_faults, expr_faults, unknown_faults, each_faults, length_faults, length_spot, numbers_faults}
+use Rattle.fm_meaning.specs.Ranges.{Names, pitches_faults, duration_faults, number_faults, amount_faults, expr_faults}
+use Rattle.fm_meaning.specs.Ranges.{unknown_faults, each_faults, length_faults, length_spot, numbers_faults}
 
 -- the branches of a fork
 abbrev pub branches_view : List (Vec Item Global) → text.Branches

@@ -19,7 +19,8 @@ pub(crate) struct Known<'s> {
 
 /// Nothing is defined.
 pub(crate) fn nothing_known<'s>(alloc: Global) -> Known<'s>
-    ensures { SameNames (known_view result) (record { whole = WHOLE_NOTE; shapes = []; phrases = [] }) }
+    ensures { SameNames (known_view result)
+        (record { whole = WHOLE_NOTE; shapes = []; phrases = [] }) }
 {
     Known {
         shapes: Names::new(alloc),
@@ -29,7 +30,8 @@ pub(crate) fn nothing_known<'s>(alloc: Global) -> Known<'s>
 
 /// Defines what the entry defines.
 pub(crate) fn define<'s>(known: &mut Known<'s>, entry: &Entry<'s>) -> Result<(), AllocError>
-    ensures { OnOk result (SameNames (known_view known.new) (behind (entry_view entry.now) (known_view known.old))) }
+    ensures { OnOk result (SameNames (known_view known.new)
+        (behind (entry_view entry.now) (known_view known.old))) }
 {
     match entry {
         Entry::Shape { name, .. } => known.shapes.define(name.text, ()),

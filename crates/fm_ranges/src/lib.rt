@@ -1,4 +1,10 @@
-//! The second walk of the checker: names and numbers.
+//! Names and numbers of a score: `first_range_fault` gives the first name that was defined before
+//! or not at all, number outside its range, or length of no whole number of ticks, in the order
+//! of the text.
+//!
+//! The main clause says that it is the first fault of the second walk, as the meaning of a score
+//! lists them (`second_walk`). Where statements may stand and how much a score asks for are left
+//! to the crates beside this one.
 #![tactic(auto)]
 
 mod fault;
@@ -12,3 +18,6 @@ mod walk;
 
 pub use fault::{RangeFault, RangeWhy};
 pub use walk::first_range_fault;
+
+#[cfg(test)]
+mod tests;

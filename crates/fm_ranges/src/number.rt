@@ -2,7 +2,8 @@
 
 ghost use Rattle.std.specs.Prelude.{◌≡◌};
 ghost use Rattle.fm_meaning.specs.Faults.{first_found};
-ghost use Rattle.fm_meaning.specs.Ranges.{number_faults, share_faults, length_faults, literal_faults};
+ghost use Rattle.fm_meaning.specs.Ranges.{number_faults, share_faults, length_faults};
+ghost use Rattle.fm_meaning.specs.Ranges.{literal_faults};
 ghost use Rattle.fm_ranges.specs.Found.{found};
 
 use crate::fault::{RangeFault, RangeWhy, out_of_range};

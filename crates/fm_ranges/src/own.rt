@@ -33,7 +33,8 @@ pub const MAX_BEND: i64 = 8_191;
 
 /// A name that was defined.
 fn check_name(name: &Name, names: &Names<()>) -> Result<(), RangeFault>
-    ensures { found result ≡ first_found (unknown_faults (name_view name.now) (names_in names.now)) }
+    ensures { found result
+        ≡ first_found (unknown_faults (name_view name.now) (names_in names.now)) }
 {
     if names.contains(name.text) {
         return Ok(());

@@ -14,7 +14,8 @@ use fm_grammar::{Item, What};
 
 #[cycle(statement)]
 pub(crate) fn check_item(item: &Item, known: &Known) -> Result<(), RangeFault>
-    ensures { found result ≡ first_found (stmt_faults (known_view known.now) (item_view item.now).what) }
+    ensures { found result
+        ≡ first_found (stmt_faults (known_view known.now) (item_view item.now).what) }
 {
     check_own(item, known)?;
     match &item.what {
@@ -52,7 +53,8 @@ pub(crate) fn check_item(item: &Item, known: &Known) -> Result<(), RangeFault>
 /// The first fault of the statements of a block.
 #[cycle(statement)]
 pub(crate) fn check_items(items: &[Item], known: &Known) -> Result<(), RangeFault>
-    ensures { found result ≡ first_found (body_faults (known_view known.now) (items_view items.now)) }
+    ensures { found result
+        ≡ first_found (body_faults (known_view known.now) (items_view items.now)) }
 {
     for item in items {
         check_item(item, known)?;

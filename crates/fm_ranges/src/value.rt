@@ -4,7 +4,8 @@ ghost use Rattle.std.specs.Prelude.{◌≡◌, ◌∷◌, [], pos};
 ghost use Rattle.fm_grammar.specs.View.{expr_view, amount_view, duration_view, pitch_view};
 ghost use Rattle.fm_meaning.specs.Faults.{first_found};
 ghost use Rattle.fm_meaning.specs.Rules.{most_data};
-ghost use Rattle.fm_meaning.specs.Ranges.{node_faults, expr_faults, amount_faults, duration_faults, pitch_faults};
+ghost use Rattle.fm_meaning.specs.Ranges.{node_faults, expr_faults, amount_faults, duration_faults};
+ghost use Rattle.fm_meaning.specs.Ranges.{pitch_faults};
 ghost use Rattle.fm_ranges.specs.Found.{found};
 
 use crate::fault::{RangeFault, out_of_range};
@@ -78,7 +79,8 @@ pub(crate) fn check_amount(amount: &Amount, least: i64, most: i64) -> Result<(),
 
 /// A duration.
 pub(crate) fn check_duration(duration: &Duration) -> Result<(), RangeFault>
-    ensures { found result ≡ first_found (duration_faults WHOLE_NOTE (duration_view duration.now)) }
+    ensures { found result
+        ≡ first_found (duration_faults WHOLE_NOTE (duration_view duration.now)) }
 {
     match duration {
         Duration::Fixed { length } => check_length(*length),

@@ -21,7 +21,8 @@ pub const VERSION: u32 = 1;
 
 /// A name that may be defined.
 fn check_new(name: &Name, known: &Known) -> Result<(), RangeFault>
-    ensures { found result ≡ first_found (double_faults (name_view name.now) (known_view known.now)) }
+    ensures { found result
+        ≡ first_found (double_faults (name_view name.now) (known_view known.now)) }
 {
     if known.shapes.contains(name.text) || known.phrases.contains(name.text) {
         return Err(RangeFault {
@@ -34,7 +35,8 @@ fn check_new(name: &Name, known: &Known) -> Result<(), RangeFault>
 
 /// An entry.
 fn check_entry(entry: &Entry, known: &Known) -> Result<(), RangeFault>
-    ensures { found result ≡ first_found (entry_faults (known_view known.now) (entry_view entry.now)) }
+    ensures { found result
+        ≡ first_found (entry_faults (known_view known.now) (entry_view entry.now)) }
 {
     match entry {
         Entry::Shape { name, parts } => {
