@@ -1,0 +1,8 @@
+pub mod BothLemmas
+pub mod LoopLemmas
+pub mod FirstLemmas
+pub mod TextNeeds
+pub mod TellsLemmas
+pub mod BlockTells
+pub mod PlayTells
+pub mod FirstPlaces

@@ -1,0 +1,64 @@
+//! The faults of a statement itself.
+
+ghost use Rattle.std.specs.Prelude.{◌≡◌, ◌≤◌, OnOk, IfOk};
+ghost use Rattle.fm_grammar.specs.View.{item_view};
+ghost use Rattle.fm_meaning.specs.Faults.{first_found};
+ghost use Rattle.fm_places.specs.Needs.{missing, is_too_deep as too_deep_in};
+ghost use Rattle.fm_places.specs.Found.{found, depths_view, needs_at};
+ghost use Rattle.fm_places.specs.Statements.{own_places, inside as inside_of, IsWithin};
+
+use crate::depths::{Depths, MAX_BLOCKS, MAX_FRAMES, MAX_WARPS};
+use crate::fault::{PlaceFault, PlaceWhy};
+use crate::needs::{Needs, both};
+use crate::own::{brought_in, inside, own_needs};
+use fm_grammar::Item;
+use fm_lex::Spot;
+use fm_names::Names;
+
+/// Whether more blocks lie inside one another than may.
+fn is_too_deep(needs: Needs, inner: Depths) -> bool
+    ensures { result ≡ too_deep_in needs (depths_view inner) }
+{
+    MAX_WARPS < inner.warps.saturating_add(needs.warps)
+        || MAX_FRAMES < inner.frames.saturating_add(needs.frames)
+        || MAX_BLOCKS < inner.blocks.saturating_add(needs.blocks)
+}
+
+/// A statement that asks for this, between the blocks round it and those inside it.
+fn check_needs(spot: Spot, needs: Needs, round: Depths, inner: Depths) -> Result<(), PlaceFault>
+    ensures { found result
+        ≡ first_found (missing spot needs (depths_view round) (depths_view inner)) }
+{
+    let why = if needs.fork_in_choice || (needs.forks && round.in_choice) {
+        PlaceWhy::ForkInChoice
+    } else if needs.rhythm && !round.in_rhythm {
+        PlaceWhy::PlayOutsideRhythm
+    } else if round.loops < needs.loops {
+        PlaceWhy::IndexOutsideLoop
+    } else if is_too_deep(needs, inner) {
+        PlaceWhy::TooDeep
+    } else {
+        return Ok(());
+    };
+    Err(PlaceFault { why, spot })
+}
+
+/// A statement between the blocks round it, and the blocks inside it.
+pub(crate) fn check_own(
+    item: &Item,
+    depths: Depths,
+    phrases: &Names<Needs>,
+) -> Result<Depths, PlaceFault>
+    requires { IsWithin (depths_view depths) }
+    ensures first { found result
+        ≡ first_found (own_places (needs_at phrases.now) (item_view item.now).spot
+        (item_view item.now).what (depths_view depths)) }
+    ensures inside { IfOk result (λ inner. depths_view inner
+        ≡ inside_of (item_view item.now).what (depths_view depths)) }
+    ensures within { IfOk result (λ inner. IsWithin (depths_view inner)) }
+{
+    let asked = both(own_needs(item), brought_in(item, phrases));
+    let inner = inside(item, depths);
+    check_needs(item.spot, asked, depths, inner)?;
+    Ok(inner)
+}
