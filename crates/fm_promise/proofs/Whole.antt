@@ -220,6 +220,24 @@ whole_heard b births ms end w p =
     (λ _ k inside. events_heard p ms w.heard k (process_end p ms) inside)
     (λ k inside. absurd (omega (arith, inside)))
 
+-- where the last line ends
+last_line : (b : Totals) (births : List (List ℕ)) (ms : List Mark) (end : ℕ) (w : IsWhole b births ms end)
+    → (line (lines_of births ms) (length (lines_of births ms) - 1)).end ≡ process_end w.last ms
+last_line b births ms end w =
+    ap (λ k. (line (lines_of births ms) k).end) (omega (arith, lines_count births 0 ms, w.is_last))
+    ∙ ap (λ l. l.end) (line_at births w.last ms (omega (arith, w.is_last)))
+
+-- the last line ends with the score
+pub whole_last : (b : Totals) (births : List (List ℕ)) (ms : List Mark) (end : ℕ) → IsWhole b births ms end
+    → (line (lines_of births ms) (length (lines_of births ms) - 1)).end ≡ end
+whole_last b births ms end w =
+    omega (
+      arith,
+      whole_ends b births ms end w (length (lines_of births ms) - 1),
+      w.ends_last,
+      last_line b births ms end w,
+    )
+
 -- the lines of a whole score that is not too great are valid
 pub whole_valid : (b : Totals) (births : List (List ℕ)) (ms : List Mark) (end : ℕ) → IsWhole b births ms end
     → length births ≤ most_lines → end ≤ last_tick → b.events ≤ most_events → ValidLines (lines_of births ms)
@@ -245,15 +263,10 @@ whole_valid b births ms end w few soon many = record {
       let e = numbers p first_pen ms (at_first p) (omega arith) w.numbered k (process_end p ms) inside in
       (e.process, omega (arith, e.index)))
       (λ k inside. absurd (omega (arith, inside)));
-  ends = λ p. (omega (arith, whole_ends b births ms end w p, soon), omega (arith, whole_ends b births ms end w p, w.ends_last, last_end));
+  ends = λ p. (omega (arith, whole_ends b births ms end w p, soon), omega (arith, whole_ends b births ms end w p, w.ends_last, last_line b births ms end w));
   events = omega (arith, whole_total b births ms end w, many);
 }
   where
     at_first : (p : ℕ) → (first_pen.process < p) ⊎ ((first_pen.process ≡ p) × (first_pen.index ≡ 0)) ⊎ (p < first_pen.process)
     at_first zero = inr (inl (refl, refl))
     at_first (suc p) = inl (omega arith)
-
-    last_end : (line (lines_of births ms) (length (lines_of births ms) - 1)).end ≡ process_end w.last ms
-    last_end =
-        ap (λ k. (line (lines_of births ms) k).end) (omega (arith, lines_count births 0 ms, w.is_last))
-        ∙ ap (λ l. l.end) (line_at births w.last ms (omega (arith, w.is_last)))

@@ -12,5 +12,5 @@ mod tests;
 
 pub use laws::{
     accepted_lines_are_valid, accepted_pieces_can_be_written, every_level_is_in_time,
-    totals_are_kept,
+    scores_end_with_their_last_line, totals_are_kept,
 };
