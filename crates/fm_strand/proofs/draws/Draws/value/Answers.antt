@@ -1,0 +1,58 @@
+use Rattle.std.proofs.Common.{◌≡◌, ◌<◌, List, length, map, arith, sym, ◌∙◌, refl, ap, subst, true, w64, SFits, vec_items, Vec, Global, [], IsTrue}
+use Rattle.std.proofs.lemmas.List.{length-map}
+use Rattle.std.proofs.Math.Facts.{to_z-of_z}
+use Rattle.fm_value.specs.declared.node.Node.{Node}
+use Rattle.fm_value.specs.Value.{is_expr}
+use Rattle.fm_program.specs.declared.op.Slot.{Slot}
+use Rattle.fm_program.specs.Parts.{stock_parts, expr_nodes}
+use Rattle.fm_program.specs.State.{Standing, slot_index}
+use Rattle.fm_program.specs.Action.{expr_at, scope_at}
+use Rattle.fm_program.specs.Fit.{scope_fits}
+use Rattle.fm_strand.specs.Drawing.{DrawsStand}
+use Rattle.fm_strand.proofs.StockLemmas.{looked_up, scope-fits, value-draws, expr-fits}
+use Rattle.fm_strand.proofs.draws.Draws.value.Goals as goal
+
+pub indices-indices-requires-clause-slots : goal.indices-indices-requires-clause-slots
+indices-indices-requires-clause-slots c =
+    let t = stock_parts c.args.stock.now in
+    let there : c.args.scope < length c.args.stock.now.scopes.items =
+    omega (arith, c.requires.scope, length-map c.args.stock.now.scopes.items (vec_items {X = Slot} {Z = Global})) in
+    let read : c.as_slice.result.now ≡ scope_at t c.args.scope =
+    c.as_slice.ensures.value ∙ looked_up vec_items _ c.args.scope _ [] c.index.ensures there in
+    subst (λ (slots : List Slot). scope_fits slots ≡ true) (sym read) (scope-fits t c.args.scope c.requires.stock c.requires.scope)
+
+pub value-requires-clause-expr : goal.value-requires-clause-expr
+value-requires-clause-expr c =
+    let t = stock_parts c.args.stock.now in
+    let there : c.args.scope < length c.args.stock.now.scopes.items =
+    omega (arith, c.requires.scope, length-map c.args.stock.now.scopes.items (vec_items {X = Slot} {Z = Global})) in
+    let read : c.as_slice.result.now ≡ scope_at t c.args.scope =
+    c.as_slice.ensures.value ∙ looked_up vec_items _ c.args.scope _ [] c.index.ensures there in
+    let counted : length c.as_slice-2.result.now ≡ length (scope_at t c.args.scope) =
+    ap length c.as_slice-2.ensures.value ∙ c.indices-indices.ensures.count ∙ ap length read in
+    let known = expr-fits t (length (scope_at t c.args.scope)) c.args.expr (expr_at t c.args.expr) c.requires.expr refl in
+    let held : c.args.expr < length c.args.stock.now.exprs.items =
+    omega (arith, known.0, length-map c.args.stock.now.exprs.items expr_nodes) in
+    let nodes : c.index-2.result.now.nodes.items ≡ expr_at t c.args.expr =
+    looked_up expr_nodes _ c.args.expr _ [] c.index-2.ensures held in
+    let P : List Node → Type 0 = λ ns. is_expr (length c.as_slice-2.result.now) ns ≡ true in
+    subst P (sym nodes) (rw counted known.1)
+
+pub returns-clause-draws : goal.returns-clause-draws
+returns-clause-draws c =
+    let t = stock_parts c.args.stock.now in
+    let fits : SFits w64 c.value.result = record { sfits = c.value.type_inv } in
+    let there : c.args.scope < length c.args.stock.now.scopes.items =
+    omega (arith, c.requires.scope, length-map c.args.stock.now.scopes.items (vec_items {X = Slot} {Z = Global})) in
+    let read : c.as_slice.result.now ≡ scope_at t c.args.scope =
+    c.as_slice.ensures.value ∙ looked_up vec_items _ c.args.scope _ [] c.index.ensures there in
+    let known = expr-fits t (length (scope_at t c.args.scope)) c.args.expr (expr_at t c.args.expr) c.requires.expr refl in
+    let held : c.args.expr < length c.args.stock.now.exprs.items =
+    omega (arith, known.0, length-map c.args.stock.now.exprs.items expr_nodes) in
+    let nodes : c.index-2.result.now.nodes.items ≡ expr_at t c.args.expr =
+    looked_up expr_nodes _ c.args.expr _ [] c.index-2.ensures held in
+    let reads : (s : Standing) → DrawsStand t c.args.self.now s
+    → c.as_slice-2.result.now ≡ map (slot_index s.frames) (scope_at t c.args.scope) =
+    λ s stands. c.as_slice-2.ensures.value ∙ c.indices-indices.ensures.indices s stands ∙ ap (map (slot_index s.frames)) read in
+    value-draws t c.args.self.now _ _ c.args.expr c.args.scope c.as_slice-2.result.now c.index-2.result.now.nodes.items refl refl nodes
+    reads (to_z-of_z fits ∙ c.value.ensures.value) c.value.ensures.dice

@@ -1,0 +1,15 @@
+use Rattle.std.proofs.Common.{◌≡◌, refl, sym, ◌∙◌, ap, subst, arith, List}
+use Rattle.fm_strand.proofs.OperationLemmas.{frames-same, loop-does}
+use Rattle.fm_strand.proofs.strand.Strand.open_loop.Goals as goal
+
+pub open_loop-requires-clause-frames : goal.open_loop-requires-clause-frames
+open_loop-requires-clause-frames g c =
+    frames-same c.args.plan.now c.args.self.now c.count-rounds.new.self _ c.requires.0.ready c.count-rounds.ensures.frames
+    c.stock-else-rounds-eq0.ensures.value
+
+pub returns-else-rounds-eq0 : goal.returns-else-rounds-eq0
+returns-else-rounds-eq0 g c = record {
+  does = loop-does c.args.plan.now c.args.self.now g.state c.args.count c.args.scope c.args.past _ _ c.count-rounds.new.self c.open_loop.new.self
+      c.count-rounds.result c.requires.0 c.stock.ensures.value c.stock-else-rounds-eq0.ensures.value c.count-rounds.ensures.draws
+      c.if-rounds-eq0.false c.open_loop.ensures.stands c.open_loop.ensures.frames;
+}

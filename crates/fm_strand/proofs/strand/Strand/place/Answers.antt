@@ -1,0 +1,5 @@
+use Rattle.fm_strand.proofs.ReadLemmas.{place-is}
+use Rattle.fm_strand.proofs.strand.Strand.place.Goals as goal
+
+pub returns : goal.returns
+returns c = λ p course. place-is p c.args.self.now c.place.result course c.place.ensures.depth c.place.ensures.origins c.place.ensures.position

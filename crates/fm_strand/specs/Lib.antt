@@ -1,0 +1,5 @@
+pub mod Course
+pub mod Drawing
+pub mod Timing
+pub mod Sounding
+pub mod Strand
