@@ -4,5 +4,4 @@ pub mod Desks
 pub mod Finishing
 pub mod Halls
 pub mod Least
-pub mod Settled
 pub mod Waiting

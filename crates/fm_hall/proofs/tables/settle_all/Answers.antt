@@ -1,7 +1,7 @@
 -- What a sort leaves are the events in their order.
 use Rattle.std.proofs.Common.{refl}
 use Rattle.std.proofs.lemmas.List.Sorted.{length_permutation}
-use Rattle.fm_hall.proofs.Settled.{settled}
+use Rattle.fm_buffer.proofs.Settled.{settled}
 use Rattle.fm_hall.proofs.tables.settle_all.Goals as goal
 
 pub returns-clause-order : goal.returns-clause-order
