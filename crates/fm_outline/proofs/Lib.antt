@@ -1,0 +1,6 @@
+pub mod RangeLemmas
+pub mod InsideLemmas
+pub mod SeenLemmas
+pub mod GrowingLemmas
+pub mod KeyLemmas
+pub mod WalkLemmas

@@ -1,0 +1,46 @@
+-- What steps of the code stand for, one level at a time.
+use Rattle.std.proofs.Common.{◌≡◌, ℕ, List, [], ◌∷◌, map, refl, ap, rules, Vec, Global}
+use Rattle.fm_program.specs.declared.op.Count.{Count}
+use Rattle.fm_expansion.specs.Outline as plain
+use Rattle.fm_outline.specs.declared.quality.Quality.{Quality}
+use Rattle.fm_outline.specs.declared.step.Step.{Step, the_lemmas}
+use Rattle.fm_outline.specs.declared.step.Instruction.TheViews as code
+use Rattle.fm_outline.specs.View.{Look, instruction_view, step_view, block_view, arms_of_blocks, quality_view}
+
+-- lists that are mapped twice
+pub map_twice : {A B C : Type 0} (f : B → C) (g : A → B) (xs : List A) → map f (map g xs) ≡ map (λ x. f (g x)) xs
+map_twice f g [] = refl
+map_twice f g (x ∷ xs) = ap (λ l. f (g x) ∷ l) (map_twice f g xs)
+
+pub choice_seen : (look : Look) (expr : ℕ) (a b : Vec Step Global)
+    → instruction_view look (code.Choice expr a b) ≡ plain.choice expr (block_view look a.items) (block_view look b.items)
+choice_seen look expr a b = search (rules, the_lemmas)
+
+pub loop_seen : (look : Look) (count : Count) (b : Vec Step Global)
+    → instruction_view look (code.Loop count b) ≡ plain.loop count (block_view look b.items)
+loop_seen look count b = search (rules, the_lemmas)
+
+pub par_seen : (look : Look) (bs : Vec (Vec Step Global) Global)
+    → instruction_view look (code.Par bs) ≡ plain.par (arms_of_blocks (map (λ b. block_view look b.items) bs.items))
+par_seen look bs = search (rules, the_lemmas, map_twice)
+
+pub warp_seen : (look : Look) (number : ℕ) (b : Vec Step Global)
+    → instruction_view look (code.Warp number b) ≡ plain.warp number (block_view look b.items)
+warp_seen look number b = search (rules, the_lemmas)
+
+pub channel_seen : (look : Look) (number : ℕ) (b : Vec Step Global)
+    → instruction_view look (code.Channel number b) ≡ plain.channel number (block_view look b.items)
+channel_seen look number b = search (rules, the_lemmas)
+
+pub steady_seen : (look : Look) (q : Quality) (entry : ℕ) (b : Vec Step Global)
+    → instruction_view look (code.Steady q entry b) ≡ plain.steady (quality_view q) entry (block_view look b.items)
+steady_seen look q entry b = search (rules, the_lemmas)
+
+pub under_seen : (look : Look) (q : Quality) (list : ℕ) (b : Vec Step Global)
+    → instruction_view look (code.Under q list b) ≡ plain.under (quality_view q) list (block_view look b.items)
+under_seen look q list b = search (rules, the_lemmas)
+
+-- a step with its spot
+pub step_seen : (look : Look) (s : Step)
+    → step_view look s ≡ record { spot = s.spot; what = instruction_view look s.what }
+step_seen look s = search (rules, the_lemmas)

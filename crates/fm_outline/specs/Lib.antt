@@ -1,0 +1,6 @@
+pub mod View
+pub mod Phrases
+pub mod InRange
+pub mod Knows
+pub mod Growing
+pub mod Walked

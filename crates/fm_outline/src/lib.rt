@@ -1,0 +1,29 @@
+//! The outline of a score: its expressions, lists, chords and deformations in tables, and its
+//! statements with the places of what they name. A phrase is written down once and named by its
+//! number.
+//!
+//! A contract sees an [`Outline`] through `specs/View`, where each phrase stands in the place of
+//! its number.
+#![tactic(auto)]
+
+mod known;
+mod lasting;
+mod number;
+mod outline;
+mod quality;
+mod shape;
+mod statement;
+mod step;
+mod tables;
+mod value;
+mod walk;
+
+pub use lasting::Lasting;
+pub use outline::Outline;
+pub use quality::Quality;
+pub use step::{Instruction, Step};
+pub use tables::Tables;
+pub use walk::outline_of;
+
+#[cfg(test)]
+mod tests;

@@ -1,0 +1,51 @@
+//! Lengths and the numbers of lists.
+
+ghost use Rattle.std.specs.Prelude.{◌≡◌, ◌≤◌, [], map, IfOk};
+ghost use Rattle.fm_pattern.specs.declared.cursor.TheConstants.{MAX_ENTRIES};
+ghost use Rattle.fm_grammar.specs.declared.number.Number.{Number};
+ghost use Rattle.fm_meaning.specs.Resolve.{length_ticks};
+ghost use Rattle.fm_meaning.specs.Ranges.{each_faults, length_faults, length_spot};
+
+use fm_grammar::{Length, Number};
+use std::alloc::{AllocError, Global};
+
+/// The ticks of a whole note.
+pub(crate) const WHOLE_NOTE: u64 = 1_920;
+
+/// A length that has no fault, in ticks.
+pub(crate) fn ticks(length: &Length) -> u32
+    requires { length_faults 1920 length.now ≡ [] }
+    ensures value { result ≡ length_ticks 1920 length.now }
+    ensures small { result ≤ 1000000 }
+{
+    match length {
+        Length::Share { over, under } => {
+            let ticks = WHOLE_NOTE * u64::from(over.value);
+            (ticks / u64::from(under.value)) as u32
+        }
+        Length::Ticks { count } => count.value,
+    }
+}
+
+/// The entries of a rhythm, which have no fault.
+pub(crate) fn lengths(alloc: Global, list: &[Length]) -> Result<Vec<u32>, AllocError>
+    requires { each_faults (length_faults 1920) length_spot MAX_ENTRIES list.now ≡ [] }
+    ensures { IfOk result (λ l. l.items ≡ map (length_ticks 1920) list.now) }
+{
+    let mut entries = Vec::new(alloc);
+    for length in list {
+        entries.push(ticks(length))?;
+    }
+    Ok(entries)
+}
+
+/// The numbers of a list.
+pub(crate) fn numbers(alloc: Global, list: &[Number]) -> Result<Vec<u32>, AllocError>
+    ensures { IfOk result (λ l. l.items ≡ map Number.value list.now) }
+{
+    let mut entries = Vec::new(alloc);
+    for number in list {
+        entries.push(number.value)?;
+    }
+    Ok(entries)
+}

@@ -1,0 +1,72 @@
+//! A statement.
+
+use crate::lasting::Lasting;
+use crate::quality::Quality;
+use fm_lex::Spot;
+use fm_program::{Count, Draw, Point};
+
+/// A statement with the spot of its keyword.
+#[derive(Debug, Drop)]
+#[cycle(step)]
+pub struct Step {
+    pub spot: Spot,
+    pub what: Instruction,
+}
+
+/// What a statement says. Expressions, lists, chords and deformations are given by their places in
+/// the tables, phrases by their numbers, all from 0.
+#[derive(Debug, Drop)]
+#[cycle(step)]
+pub enum Instruction {
+    Note {
+        chord: u32,
+        lasting: Lasting,
+    },
+    Rest {
+        lasting: Lasting,
+    },
+    Send {
+        point: Point,
+        draw: Draw,
+    },
+    Set {
+        register: u8,
+        expr: u32,
+    },
+    /// A missing `else` is an empty list.
+    Choice {
+        expr: u32,
+        yes: Vec<Step>,
+        no: Vec<Step>,
+    },
+    Loop {
+        count: Count,
+        body: Vec<Step>,
+    },
+    /// No number: a phrase without statements.
+    Phrase {
+        number: Option<u32>,
+    },
+    Par {
+        branches: Vec<Vec<Step>>,
+    },
+    Warp {
+        number: u32,
+        body: Vec<Step>,
+    },
+    Channel {
+        number: u8,
+        body: Vec<Step>,
+    },
+    /// One entry for all notes inside.
+    Steady {
+        quality: Quality,
+        entry: u32,
+        body: Vec<Step>,
+    },
+    Under {
+        quality: Quality,
+        list: u32,
+        body: Vec<Step>,
+    },
+}

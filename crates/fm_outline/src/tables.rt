@@ -1,0 +1,100 @@
+//! The tables that statements name.
+
+ghost use Rattle.std.specs.Prelude.{◌≡◌, ◌∷◌, ◌++◌, length, IfOk, OnOk};
+ghost use Rattle.fm_program.specs.Parts.{expr_nodes};
+ghost use Rattle.fm_expansion.specs.Numbering.{no_tables, expr_added, list_added, chord_added, warp_added};
+ghost use Rattle.fm_outline.specs.View.{tables_view};
+
+use fm_program::Draw;
+use fm_value::Expr;
+use fm_warp::Warp;
+use std::alloc::{AllocError, Global};
+
+/// What a text names, each entry by its place, in the order of the text.
+#[derive(Drop)]
+pub struct Tables {
+    /// Expressions, without the places of their nodes in the text.
+    pub exprs: Vec<Expr>,
+    /// Lists of durations in ticks, of articulations in percent, or of velocities.
+    pub lists: Vec<Vec<u32>>,
+    /// The pitches of notes.
+    pub chords: Vec<Vec<Draw>>,
+    /// Deformations.
+    pub warps: Vec<Warp>,
+}
+
+/// The place of the next entry of a table with so many entries. A table that outgrows `u32` counts
+/// as want of memory.
+pub(crate) fn place(entries: usize) -> Result<u32, AllocError>
+    ensures { IfOk result (λ p. p ≡ entries) }
+{
+    match u32::try_from(entries) {
+        Ok(place) => Ok(place),
+        Err(_) => Err(AllocError),
+    }
+}
+
+/// A copy of an expression without the places of its nodes in the text.
+fn nodes_alone(alloc: Global, expr: &Expr) -> Result<Expr, AllocError>
+    ensures { IfOk result (λ e. expr_nodes e ≡ expr_nodes expr.now) }
+{
+    let nodes = expr.nodes.clone()?;
+    Ok(Expr {
+        nodes,
+        spots: Vec::new(alloc),
+    })
+}
+
+impl Tables {
+    /// Tables without entries.
+    pub(crate) fn new(alloc: Global) -> Tables
+        ensures { tables_view result ≡ no_tables }
+    {
+        Tables {
+            exprs: Vec::new(alloc),
+            lists: Vec::new(alloc),
+            chords: Vec::new(alloc),
+            warps: Vec::new(alloc),
+        }
+    }
+
+    /// Appends a copy of an expression and gives its place.
+    pub(crate) fn add_expr(&mut self, alloc: Global, expr: &Expr) -> Result<u32, AllocError>
+        ensures at { IfOk result (λ p. p ≡ length (tables_view self.old).exprs) }
+        ensures added { OnOk result (tables_view self.new ≡ expr_added (expr_nodes expr.now) (tables_view self.old)) }
+    {
+        let place = place(self.exprs.len())?;
+        self.exprs.push(nodes_alone(alloc, expr)?)?;
+        Ok(place)
+    }
+
+    /// Appends a list and gives its place.
+    pub(crate) fn add_list(&mut self, list: Vec<u32>) -> Result<u32, AllocError>
+        ensures at { IfOk result (λ p. p ≡ length (tables_view self.old).lists) }
+        ensures added { OnOk result (tables_view self.new ≡ list_added list.items (tables_view self.old)) }
+    {
+        let place = place(self.lists.len())?;
+        self.lists.push(list)?;
+        Ok(place)
+    }
+
+    /// Appends a chord and gives its place.
+    pub(crate) fn add_chord(&mut self, chord: Vec<Draw>) -> Result<u32, AllocError>
+        ensures at { IfOk result (λ p. p ≡ length (tables_view self.old).chords) }
+        ensures added { OnOk result (tables_view self.new ≡ chord_added chord.items (tables_view self.old)) }
+    {
+        let place = place(self.chords.len())?;
+        self.chords.push(chord)?;
+        Ok(place)
+    }
+
+    /// Appends a deformation and gives its place.
+    pub(crate) fn add_warp(&mut self, warp: Warp) -> Result<u32, AllocError>
+        ensures at { IfOk result (λ p. p ≡ length (tables_view self.old).warps) }
+        ensures added { OnOk result (tables_view self.new ≡ warp_added warp (tables_view self.old)) }
+    {
+        let place = place(self.warps.len())?;
+        self.warps.push(warp)?;
+        Ok(place)
+    }
+}

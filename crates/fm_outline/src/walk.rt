@@ -1,0 +1,135 @@
+//! The walk over the entries of a score.
+
+ghost use Rattle.std.specs.Prelude.{◌≡◌, ◌∷◌, [], List, map, IfOk, OnOk};
+ghost use Rattle.fm_pattern.specs.declared.cursor.TheConstants.{MAX_ENTRIES};
+ghost use Rattle.fm_warp.specs.declared.warp.TheConstants.{MAX_PARTS};
+ghost use Rattle.fm_grammar.specs.Score as tree;
+ghost use Rattle.fm_grammar.specs.View.{entry_view, item_view, items_view, name_view, score_view};
+ghost use Rattle.fm_meaning.specs.Resolve.{seed_of};
+ghost use Rattle.fm_meaning.specs.Ranges.{each_faults, part_faults, part_length, length_spot, second_walk};
+ghost use Rattle.fm_expansion.specs.Numbering.{outline};
+ghost use Rattle.fm_outline.specs.InRange.{StmtInRange, BodyInRange};
+ghost use Rattle.fm_outline.specs.View.{outline_view};
+ghost use Rattle.fm_outline.specs.Phrases.{PhrasesStand};
+ghost use Rattle.fm_outline.specs.Walked.{Walked, played};
+
+use crate::known::Known;
+use crate::outline::Outline;
+use crate::shape::warp_of;
+use crate::statement::{outline_item, outline_items};
+use crate::step::Step;
+use crate::tables::{Tables, place};
+use fm_grammar::{Entry, Item, Name, PartText, Score};
+use fm_names::Names;
+use std::alloc::{AllocError, Global};
+
+/// What stands before a place of the text, and what is known there.
+#[derive(Drop)]
+pub(crate) struct Walk<'s> {
+    pub(crate) known: Known<'s>,
+    pub(crate) tables: Tables,
+    pub(crate) phrases: Vec<Vec<Step>>,
+    pub(crate) block: Vec<Step>,
+}
+
+impl<'s> Walk<'s> {
+    /// Appends a statement that is played.
+    fn play(&mut self, alloc: Global, item: &Item) -> Result<(), AllocError>
+        requires { StmtInRange (item_view item.now).what }
+        ensures { OnOk result ((score : tree.Score) (rest : List tree.Entry) →
+            Walked score self.old (played item.now ∷ rest) → Walked score self.new rest) }
+    {
+        let what = outline_item(alloc, item, &self.known, &mut self.tables)?;
+        self.block.push(Step {
+            spot: item.spot,
+            what,
+        })?;
+        Ok(())
+    }
+
+    /// Lets a name stand for a phrase from here on.
+    fn add_phrase(
+        &mut self,
+        alloc: Global,
+        name: &Name<'s>,
+        body: &[Item],
+    ) -> Result<(), AllocError>
+        requires { BodyInRange (items_view body.now) }
+        ensures { OnOk result ((score : tree.Score) (rest : List tree.Entry) →
+            Walked score self.old (tree.phrase (name_view name.now) (items_view body.now) ∷ rest) →
+            Walked score self.new rest) }
+    {
+        let steps = outline_items(alloc, body, &self.known, &mut self.tables)?;
+        let number = place(self.phrases.len())?;
+        self.phrases.push(steps)?;
+        self.known.phrases.define(name.text, number)
+    }
+
+    /// Lets a name stand for a shape from here on.
+    fn add_shape(
+        &mut self,
+        alloc: Global,
+        name: &Name<'s>,
+        parts: &[PartText],
+    ) -> Result<(), AllocError>
+        requires { each_faults (part_faults 1920) (λ p. length_spot (part_length p)) MAX_PARTS parts.now ≡ [] }
+        ensures { OnOk result ((score : tree.Score) (rest : List tree.Entry) →
+            Walked score self.old (tree.shape (name_view name.now) parts.now ∷ rest) → Walked score self.new rest) }
+    {
+        let number = self.tables.add_warp(warp_of(alloc, parts)?)?;
+        self.known.shapes.define(name.text, number)
+    }
+
+    /// Goes over one entry.
+    fn enter(&mut self, alloc: Global, entry: &Entry<'s>) -> Result<(), AllocError>
+        requires { (score : tree.Score) × (rest : List tree.Entry)
+            × Walked score self.old (entry_view entry.now ∷ rest) }
+        ensures { OnOk result ((score : tree.Score) (rest : List tree.Entry) →
+            Walked score self.old (entry_view entry.now ∷ rest) → Walked score self.new rest) }
+    {
+        match entry {
+            Entry::Shape { name, parts } => self.add_shape(alloc, name, parts),
+            Entry::Phrase { name, body } => self.add_phrase(alloc, name, body),
+            Entry::Play { item } => self.play(alloc, item),
+        }
+    }
+}
+
+/// The seed of a score's draws, 0 where the text has none.
+fn seed(score: &Score) -> u32
+    ensures { result ≡ seed_of (score_view score.now).seed }
+{
+    match score.seed {
+        Some(number) => number.value,
+        None => 0,
+    }
+}
+
+/// The outline of a score whose names and numbers have no fault: its tables in the order of the
+/// text, and its statements with the places of what they name. It fails only for want of memory.
+pub fn outline_of(alloc: Global, score: &Score) -> Result<Outline, AllocError>
+    requires { second_walk (score_view score.now) ≡ [] }
+    ensures outline { IfOk result (λ o. outline_view o ≡ outline (score_view score.now)) }
+    ensures phrases { IfOk result PhrasesStand }
+    ensures seed { IfOk result (λ o. o.seed ≡ seed_of (score_view score.now).seed) }
+{
+    let mut walk = Walk {
+        known: Known {
+            shapes: Names::new(alloc),
+            phrases: Names::new(alloc),
+        },
+        tables: Tables::new(alloc),
+        phrases: Vec::new(alloc),
+        block: Vec::new(alloc),
+    };
+    for entry in &score.entries {
+        walk.enter(alloc, entry)?;
+    }
+    let seed = seed(score);
+    Ok(Outline {
+        tables: walk.tables,
+        phrases: walk.phrases,
+        block: walk.block,
+        seed,
+    })
+}
