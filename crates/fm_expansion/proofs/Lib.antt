@@ -15,12 +15,12 @@ mod Sounding
 mod Steps
 mod Settings
 mod Atoms
-mod Lengths
+pub mod Lengths
 mod Rounds
 mod Straight
-mod Programs
+pub mod Programs
 mod Making
-mod Growing
+pub mod Growing
 mod Forking
 mod Whole
 mod Static

@@ -1,0 +1,5 @@
+pub mod MadeLemmas
+pub mod AgreesLemmas
+pub mod Weights
+pub mod PhraseLemmas
+pub mod ExpandLemmas

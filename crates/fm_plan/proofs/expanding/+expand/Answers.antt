@@ -1,0 +1,289 @@
+use Rattle.std.proofs.Common.{◌≡◌, ◌∙◌, ◌+◌, ◌-◌, ◌*◌, ◌<◌, ◌≤◌, suc, true, false, [], ◌∷◌, ◌++◌, drop, take, length, rules, refl, ap}
+use Rattle.std.proofs.Common.{ap₂, sym, subst, arith}
+use Rattle.std.specs.Prelude.{IfOk, map, vec_items, slice_index_or, ◌&&◌}
+use Rattle.std.proofs.lemmas.List.{length-map}
+use Rattle.fm_expansion.specs.Outline as plain
+use Rattle.fm_expansion.specs.Outline.{Arms, arm}
+use Rattle.fm_expansion.specs.Homes as homes
+use Rattle.fm_expansion.specs.Homes.{loop_round, list_of_one, slots_of, at_home, in_scope}
+use Rattle.fm_expansion.specs.Emission.{forks_in}
+use Rattle.fm_expansion.specs.Expansion.{Joined, whole, with_scopes, straight, unrolled, written_rounds, expand, expand_in, expand_arms}
+use Rattle.fm_outline.specs.View.{arms_of_blocks, block_view, phrases_view, step_view, quality_view}
+use Rattle.fm_outline.specs.declared.step.Step.{the_lemmas}
+use Rattle.fm_plan.specs.Made.{made, made_in}
+use Rattle.fm_plan.specs.Seen.{emitting_of, look_at, Agrees, Makes}
+use Rattle.fm_plan.proofs.MadeLemmas.{drop_at, map_twice, made_phrase, made_channel, made_steady}
+use Rattle.fm_plan.proofs.AgreesLemmas.{agrees_channel, agrees_steady}
+use Rattle.fm_plan.proofs.Weights.{total, step_weight, steps_weight, phrases_weight, element_weight, phrase_weight}
+use Rattle.fm_plan.proofs.PhraseLemmas.{phrase_stands, phrases_length, phrase_past, map_at, map_take, forks_take, forks_known}
+use Rattle.fm_plan.proofs.ExpandLemmas.{nothing, loop_written, loop_framed, choice_made, loop_made, list_made, warp_made, steps_on}
+use Rattle.fm_plan.proofs.ExpandLemmas.{rounds_on, fork_on}
+use Rattle.fm_plan.proofs.expanding.+expand.Goals as goal
+use Rattle.fm_plan.proofs.expanding.+expand.Goals.{expand_phrase-else-number-earlier-via-then-number-earlier+else-number-forks}
+use Rattle.fm_plan.proofs.expanding.+expand.Goals.{expand_phrase-else-number-earlier-via-else-number-earlier}
+
+pub expand_choice-returns : goal.expand_choice-returns
+expand_choice-returns t c = λ i a.
+    choice_made _ _ _ _ _ _ _ _ i _ _ _ _ _ _ _ a c.in_ok-push.ensures c.in_ok-expand_steps.ensures c.in_ok-push-2.ensures
+    c.in_ok-expand_steps-2.ensures c.set.ensures c.set-2.ensures c.size-test.ensures c.size-jump.ensures c.in_ok-middle.ensures
+    c.in_ok-target.ensures
+
+pub expand_loop-returns : goal.expand_loop-returns
+expand_loop-returns t c = λ i a.
+    loop_made _ _ _ _ _ _ _ _ i _ _ _ _ _ _ a c.in_ok-push.ensures c.in_ok-back.ensures c.in_ok-scope.ensures.number
+    c.in_ok-scope.ensures.programs c.in_ok-deeper.ensures c.in_ok-expand_steps.ensures c.in_ok-push-2.ensures c.in_ok-past.ensures
+    c.set.ensures c.size-start.ensures
+
+-- ---- lists and deformations
+
+pub expand_list-returns : goal.expand_list-returns
+expand_list-returns t c = λ i a.
+    let many = c.expand_steps.new.m.cycles in
+    let last : c.pop.new.self.items ≡ take (length many.items - 1) many.items =
+    c.pop.ensures.rest ∙ ap (λ n. take (n - 1) many.items) (search rules) in
+    let body = block_view (look_at (map vec_items c.args.earlier.now)) c.args.body.now in
+    list_made _ _ _ _ _ _ _ _ i c.args.forking _ _ body a c.in_ok-deeper.ensures c.in_ok-push.ensures
+    c.in_ok-expand_steps.ensures c.in_ok-push-3.ensures
+    refl c.in_ok-push-2.ensures.items refl refl last refl
+
+pub expand_warp-returns : goal.expand_warp-returns
+expand_warp-returns t c = λ i a.
+    let many = c.expand_steps.new.m.levels in
+    let last : c.pop.new.self.items ≡ take (length many.items - 1) many.items =
+    c.pop.ensures.rest ∙ ap (λ n. take (n - 1) many.items) (search rules) in
+    let body = block_view (look_at (map vec_items c.args.earlier.now)) c.args.body.now in
+    warp_made _ _ _ _ _ _ _ i c.args.forking _ body a c.in_ok-push.ensures
+    c.in_ok-expand_steps.ensures c.in_ok-push-3.ensures
+    refl refl c.in_ok-push-2.ensures.items refl refl last
+
+-- ---- turns of loops
+
+pub expand_steps-loop-step-preserved : goal.expand_steps-loop-step-preserved
+expand_steps-loop-step-preserved t c = λ i a.
+    let h = c.loop-step.invariant i a in
+    let look = look_at (map vec_items c.args.earlier.now) in
+    let at = drop_at c.args.steps.now c.loop-step.step-index c.step-item.result c.loop-step-test.true c.step-item.is in
+    let x = step_view look c.step-item.result in
+    steps_on c.args.m.now c.loop-step.m c.expand_step.new.m c.args.inside i c.args.forking _ x.spot x.what
+    (block_view look (drop (c.loop-step.step-index + 1) c.args.steps.now))
+    (h.0, h.1, h.2, h.3 ∙ ap (λ l. made_in c.args.forking (block_view look l) i (emitting_of c.loop-step.m)) at)
+    (c.in_ok-expand_step.ensures i h.0)
+
+pub expand_rounds-loop-round-preserved : goal.expand_rounds-loop-round-preserved
+expand_rounds-loop-round-preserved t c = λ i a.
+    let h = c.loop-round.invariant i a in
+    let body = block_view (look_at (map vec_items c.args.earlier.now)) c.args.body.now in
+    let end = c.written_rounds-round-end.result in
+    let round = c.loop-round.round in
+    let count : end - round ≡ suc (end - (round + 1)) = omega (arith, c.loop-round-test.true) in
+    rounds_on c.args.m.now c.loop-round.m c.add_scope.new.self c.expand_steps.new.m c.args.inside c.in_round.result i _ body
+    (end - (round + 1)) round c.in_ok-scope.scope (
+      h.0,
+      h.1,
+      h.2,
+      h.3 ∙ ap (λ k. unrolled (λ j f. expand_in body (in_scope (loop_round j) (length f.scopes) i)
+          (with_scopes (slots_of (loop_round j ∷ i.homes) ∷ []) f)) k round (emitting_of c.loop-round.m)) count,
+    )
+    c.in_ok-scope.ensures.number c.in_ok-scope.ensures.programs c.in_round.ensures c.in_ok-expand_steps.ensures
+
+pub expand_fork-loop-branch-preserved : goal.expand_fork-loop-branch-preserved
+expand_fork-loop-branch-preserved t c = λ i a.
+    let h = c.loop-branch.invariant i a in
+    let look = look_at (map vec_items c.args.earlier.now) in
+    let at = drop_at c.args.branches.now c.loop-branch.branch-index c.branch-item.result c.loop-branch-test.true c.branch-item.is in
+    let e = emitting_of c.loop-branch.m in
+    let forked = c.in_ok-forked.forked in
+    let lasts = c.loop-branch.lasts.items in
+    let others = arms_of_blocks (map (λ b. block_view look b.items) (drop (c.loop-branch.branch-index + 1) c.args.branches.now)) in
+    let number : c.in_ok-place.field-0 ≡ length c.expand_steps.new.m.finished.items = search rules in
+    let joined_by : Arms → Joined = λ arms.
+    (let j = expand_arms arms i forked (whole e) e.scopes in
+    record { programs = j.programs; lasts = lasts ++ j.lasts; scopes = j.scopes }) in
+    fork_on c.args.m.now c.loop-branch.m c.next_program.new.self c.expand_steps.new.m c.args.inside i
+    (block_view look c.deref.result.now) others forked c.in_ok-place.field-0 _ lasts _ _ (
+      h.0,
+      h.1,
+      h.2,
+      h.3,
+      h.4
+          ∙ ap (λ l. joined_by (arms_of_blocks (map (λ b. block_view look b.items) l))) at
+          ∙ ap (λ b. joined_by (arm (block_view look b) others)) (sym c.deref.ensures.value),
+    )
+    (c.in_ok-push.ensures.items ∙ ap (λ l. l ++ forked ∷ []) c.new-parent.ensures.items) c.in_ok-next_program.ensures
+    c.in_ok-expand_steps.ensures number c.in_ok-push-2.ensures.items
+
+-- ---- less is left
+
+pub expand_steps-expand_step-requires : goal.expand_steps-expand_step-requires
+expand_steps-expand_step-requires t c =
+    let all = steps_weight c.args.steps.now in
+    let part : step_weight c.step-item.result ≤ all =
+    subst (λ x. step_weight x ≤ all) (sym c.step-item.is)
+    (element_weight step_weight c.args.steps.now c.loop-step.step-index c.step-item.result c.loop-step-test.true) in
+    let less : 4 * (phrases_weight (map vec_items c.args.earlier.now) + step_weight c.step-item.result) < t =
+    omega (arith, c.decreases, part) in
+    (less, c.requires.known)
+
+pub expand_fork-expand_steps-requires : goal.expand_fork-expand_steps-requires
+expand_fork-expand_steps-requires t c =
+    let all = total (map (λ b. steps_weight b.items) c.args.branches.now) in
+    let part : steps_weight c.branch-item.result.items ≤ all =
+    subst (λ b. steps_weight b.items ≤ all) (sym c.branch-item.is)
+    (element_weight (λ b. steps_weight b.items) c.args.branches.now c.loop-branch.branch-index c.branch-item.result
+    c.loop-branch-test.true) in
+    let less : 4 * (phrases_weight (map vec_items c.args.earlier.now) + steps_weight c.deref.result.now) + 1 < t =
+    omega (arith, c.decreases, part, ap steps_weight c.deref.ensures.value) in
+    (less, c.requires.known)
+
+pub expand_step-expand_fork-requires : goal.expand_step-expand_fork-requires
+expand_step-expand_fork-requires t c =
+    let own : step_weight c.args.step.now ≡ 1 + total (map (λ b. steps_weight b.items) c.in-Par.branches.items)
+    = search (rules, the_lemmas, map_twice) in
+    let less : 4 * (phrases_weight (map vec_items c.args.earlier.now)
+    + total (map (λ b. steps_weight b.items) c.deref-then-forking.result.now)) + 2 < t =
+    omega (arith, c.decreases, own, ap (λ l. total (map (λ b. steps_weight b.items) l)) c.deref-then-forking.ensures.value) in
+    (less, c.requires.known)
+
+pub expand_phrase-expand_steps-requires : goal.expand_phrase-expand_steps-requires
+expand_phrase-expand_steps-requires t c =
+    let ps = map vec_items c.args.earlier.now in
+    let n = c.args.number in
+    let p = c.index-earlier-number.result in
+    let within : n < length c.args.earlier.now = omega (arith, c.if-number-earlier.true) in
+    let inside : n < length ps = omega (arith, within, length-map c.args.earlier.now vec_items) in
+    let body : slice_index_or ps n (vec_items p) ≡ vec_items p =
+    map_at vec_items c.args.earlier.now n p (vec_items p) within c.index-earlier-number.is in
+    let less : 4 * (phrases_weight (map vec_items (take n c.args.earlier.now)) + steps_weight c.as_slice-body.result.now) + 1 < t =
+    omega (
+      arith,
+      c.decreases,
+      phrase_weight ps n (vec_items p) inside,
+      ap steps_weight body,
+      ap phrases_weight (map_take vec_items c.args.earlier.now n),
+      ap steps_weight c.as_slice-body.ensures.value,
+    ) in (
+      less,
+      forks_take c.args.forks.now ps n c.requires.known
+          ∙ ap (λ l. map forks_in (phrases_view l)) (map_take vec_items c.args.earlier.now n),
+    )
+
+-- ---- phrases
+
+pub expand_phrase-returns-then-number-forks : goal.expand_phrase-returns-then-number-forks
+expand_phrase-returns-then-number-forks t c = λ i a.
+    let ps = map vec_items c.args.earlier.now in
+    let n = c.args.number in
+    let p = c.index-earlier-number.result in
+    let within : n < length c.args.earlier.now = omega (arith, c.if-number-earlier.true) in
+    let inside : n < length ps = omega (arith, within, length-map c.args.earlier.now vec_items) in
+    let stands : look_at ps n ≡ block_view (look_at (map vec_items (take n c.args.earlier.now))) c.as_slice-body.result.now =
+    phrase_stands ps n inside
+    ∙ ap₂ (λ l b. block_view (look_at l) b) (map_take vec_items c.args.earlier.now n)
+    (map_at vec_items c.args.earlier.now n p [] within c.index-earlier-number.is ∙ sym c.as_slice-body.ensures.value) in
+    subst (λ b. IfOk c.expand_steps.result (λ _. Makes c.args.m.now c.expand_steps.new.m
+    (made_in c.args.forking b i (emitting_of c.args.m.now)))) (sym stands) (c.expand_steps.ensures i a)
+
+pub expand_phrase-returns-else-number-earlier : goal.expand_phrase-returns-else-number-earlier
+expand_phrase-returns-else-number-earlier t c = λ i a.
+    let ps = map vec_items c.args.earlier.now in
+    let n = c.args.number in
+    let as_many : length c.args.forks.now ≡ length c.args.earlier.now =
+    ap length c.requires.known ∙ length-map (phrases_view ps) forks_in ∙ phrases_length ps
+    ∙ length-map c.args.earlier.now vec_items in
+    let past : length ps ≤ n = elim c.else-number-earlier.branch [
+      | expand_phrase-else-number-earlier-via-then-number-earlier+else-number-forks w ↦
+          omega (arith, w.if-number-forks.false, as_many, length-map c.args.earlier.now vec_items)
+      | expand_phrase-else-number-earlier-via-else-number-earlier w ↦
+          omega (arith, w.if-number-earlier.false, length-map c.args.earlier.now vec_items)
+    ] in
+    nothing c.args.forking c.args.m.now _ i (phrase_past ps n past)
+
+-- ---- statements
+
+pub expand_step-returns-in-Some : goal.expand_step-returns-in-Some
+expand_step-returns-in-Some t c = λ i a.
+    let f = c.args.forking in
+    let e = emitting_of c.args.m.now in
+    let look = look_at (map vec_items c.args.earlier.now) in
+    let seen : (step_view look c.args.step.now).what ≡ plain.phrase (look c.in-Some.n) = search (rules, the_lemmas) in
+    subst (λ x. IfOk c.expand_phrase.result (λ _. Makes c.args.m.now c.expand_phrase.new.m x))
+    (sym (ap (λ w. made f w i e) seen ∙ made_phrase f (look c.in-Some.n) i e)) (c.expand_phrase.ensures i a)
+
+pub expand_step-returns-in-Channel : goal.expand_step-returns-in-Channel
+expand_step-returns-in-Channel t c = λ i a.
+    let f = c.args.forking in
+    let e = emitting_of c.args.m.now in
+    let look = look_at (map vec_items c.args.earlier.now) in
+    let n = c.in-Channel.number in
+    let inside : homes.Inside = record i { channel = n } in
+    let seen : (step_view look c.args.step.now).what ≡ plain.channel n (block_view look c.in-Channel.body.items)
+    = search (rules, the_lemmas) in
+    subst (λ x. IfOk c.expand_steps.result (λ _. Makes c.args.m.now c.expand_steps.new.m x))
+    (sym (ap (λ w. made f w i e) seen ∙ made_channel f n (block_view look c.in-Channel.body.items) i e
+    ∙ ap (λ b. made_in f (block_view look b) inside e) (sym c.deref-in-Channel.ensures.value)))
+    (c.expand_steps.ensures inside
+    (subst (λ x. Agrees c.args.m.now x inside) (sym c.on_channel.ensures) (agrees_channel c.args.m.now c.args.inside i n a)))
+
+pub expand_step-returns-in-Steady : goal.expand_step-returns-in-Steady
+expand_step-returns-in-Steady t c = λ i a.
+    let f = c.args.forking in
+    let e = emitting_of c.args.m.now in
+    let look = look_at (map vec_items c.args.earlier.now) in
+    let q = c.in-Steady.quality in
+    let v = c.in-Steady.entry in
+    let inside = at_home (list_of_one (quality_view q) v) i in
+    let seen : (step_view look c.args.step.now).what
+    ≡ plain.steady (quality_view q) v (block_view look c.in-Steady.body.items) = search (rules, the_lemmas) in
+    subst (λ x. IfOk c.expand_steps-in-Steady.result (λ _. Makes c.args.m.now c.expand_steps-in-Steady.new.m x))
+    (sym (ap (λ w. made f w i e) seen ∙ made_steady f (quality_view q) v (block_view look c.in-Steady.body.items) i e
+    ∙ ap (λ b. made_in f (block_view look b) inside e) (sym c.deref-in-Steady.ensures.value)))
+    (c.expand_steps-in-Steady.ensures inside
+    (subst (λ x. Agrees c.args.m.now x inside) (sym c.steady.ensures) (agrees_steady c.args.m.now c.args.inside i q v a)))
+
+pub expand_step-returns-then-forking : goal.expand_step-returns-then-forking
+expand_step-returns-then-forking t c = λ i a.
+    let e = emitting_of c.args.m.now in
+    let look = look_at (map vec_items c.args.earlier.now) in
+    let seen : (step_view look c.args.step.now).what
+    ≡ plain.par (arms_of_blocks (map (λ b. block_view look b.items) c.in-Par.branches.items))
+    = search (rules, the_lemmas, map_twice) in
+    subst (λ x. IfOk c.expand_fork.result (λ _. Makes c.args.m.now c.expand_fork.new.m x))
+    (sym (ap₂ (λ f w. made f w i e) c.if-forking.true seen
+    ∙ ap (λ l. expand (plain.par (arms_of_blocks (map (λ b. block_view look b.items) l))) i e) (sym c.deref-then-forking.ensures.value)))
+    (c.expand_fork.ensures i a)
+
+pub expand_step-returns-then-is_written_out : goal.expand_step-returns-then-is_written_out
+expand_step-returns-then-is_written_out t c = λ i a.
+    let f = c.args.forking in
+    let e = emitting_of c.args.m.now in
+    let ps = map vec_items c.args.earlier.now in
+    let look = look_at ps in
+    let count = c.in-Loop.count in
+    let own = c.in-Loop.body.items in
+    let seen : (step_view look c.args.step.now).what ≡ plain.loop count (block_view look own) = search (rules, the_lemmas) in
+    let out : (f && forks_in (block_view look own)) ≡ true =
+    ap (λ b. f && forks_in (block_view look b)) (sym c.deref-in-Loop.ensures.value)
+    ∙ sym (c.is_written_out.ensures look (forks_known c.args.forks.now ps c.requires.known)) ∙ c.if-is_written_out.true in
+    subst (λ x. IfOk c.expand_rounds.result (λ _. Makes c.args.m.now c.expand_rounds.new.m x))
+    (sym (ap (λ w. made f w i e) seen ∙ loop_written f count (block_view look own) i e out
+    ∙ ap (λ b. unrolled (λ j g. expand_in (block_view look b) (in_scope (loop_round j) (length g.scopes) i)
+    (with_scopes (slots_of (loop_round j ∷ i.homes) ∷ []) g)) (written_rounds count) 0 e)
+    (sym c.deref-then-is_written_out.ensures.value)))
+    (c.expand_rounds.ensures i a)
+
+pub expand_step-returns-else-is_written_out : goal.expand_step-returns-else-is_written_out
+expand_step-returns-else-is_written_out t c = λ i a.
+    let f = c.args.forking in
+    let e = emitting_of c.args.m.now in
+    let ps = map vec_items c.args.earlier.now in
+    let look = look_at ps in
+    let count = c.in-Loop.count in
+    let own = c.in-Loop.body.items in
+    let seen : (step_view look c.args.step.now).what ≡ plain.loop count (block_view look own) = search (rules, the_lemmas) in
+    let framed : (f && forks_in (block_view look own)) ≡ false =
+    ap (λ b. f && forks_in (block_view look b)) (sym c.deref-in-Loop.ensures.value)
+    ∙ sym (c.is_written_out.ensures look (forks_known c.args.forks.now ps c.requires.known)) ∙ c.if-is_written_out.false in
+    subst (λ x. IfOk c.expand_loop.result (λ _. Makes c.args.m.now c.expand_loop.new.m x))
+    (sym (ap (λ w. made f w i e) seen ∙ loop_framed f count (block_view look own) i e framed
+    ∙ ap (λ b. straight (plain.loop count (block_view look b)) i e) (sym c.deref-else-is_written_out.ensures.value)))
+    (c.expand_loop.ensures i a)

@@ -1,0 +1,397 @@
+//! The programs of an outline.
+ghost use Rattle.std.specs.Prelude.{◌≡◌, ℕ, ◌+◌, ◌∷◌, [], ◌&&◌, false, length, map, slice_index_or};
+ghost use Rattle.std.specs.Prelude.{vec_items, IfOk};
+ghost use Rattle.fm_expansion.specs.Outline as plain;
+ghost use Rattle.fm_expansion.specs.Homes.{Inside as Open, loop_round, slots_of, in_scope};
+ghost use Rattle.fm_expansion.specs.Emission as emission;
+ghost use Rattle.fm_expansion.specs.Expansion as expansion;
+ghost use Rattle.fm_expansion.specs.Expansion.{straight, unrolled, with_scopes};
+ghost use Rattle.fm_program.specs.Parts.{program_parts};
+ghost use Rattle.fm_outline.specs.View.{Look, arms_of_blocks, block_view, outline_view};
+ghost use Rattle.fm_outline.specs.View.{phrases_view, quality_view, step_view};
+ghost use Rattle.fm_plan.specs.Made.{made, made_in};
+ghost use Rattle.fm_plan.specs.Seen.{emitting_of, look_at, Agrees, Makes};
+
+use crate::emitter::Emitter;
+use crate::forks::{phrases_fork, steps_fork};
+use crate::inside::{Inside, place};
+use fm_outline::{Instruction, Outline, Quality, Step};
+use fm_program::{Count, Op, Program, Slot};
+use std::alloc::{AllocError, Global};
+
+/// The programs of all processes, and the scopes of their operations.
+#[derive(Drop)]
+pub struct Expanded {
+    pub programs: Vec<Program>,
+    pub scopes: Vec<Vec<Slot>>,
+}
+
+/// How often a loop goes round that is written out.
+fn written_rounds(count: Count) -> u32
+    ensures { result ≡ expansion.written_rounds count }
+{
+    match count {
+        Count::Fixed { count } => count,
+        Count::Drawn { most, .. } => most,
+    }
+}
+
+/// Whether a loop is written out: it forks, and stands where statements may.
+fn is_written_out(body: &[Step], forks: &[bool], forking: bool) -> bool
+    ensures { (look : Look) → ((n : ℕ) → slice_index_or forks.now n false ≡ emission.forks_in (look n)) →
+        result ≡ (forking && emission.forks_in (block_view look body.now)) }
+{
+    if forking {
+        steps_fork(body, forks)
+    } else {
+        false
+    }
+}
+
+/// A statement. It names phrases of `earlier`, of which `forks` says which fork; it is written out
+/// where `forking` says that it may fork.
+#[cycle(expand)]
+fn expand_step(
+    m: &mut Emitter,
+    earlier: &[Vec<Step>],
+    forks: &[bool],
+    step: &Step,
+    inside: Inside,
+    forking: bool,
+) -> Result<(), AllocError>
+    requires known { forks.now ≡ map emission.forks_in (phrases_view (map vec_items earlier.now)) }
+    ensures { (i : Open) → Agrees m.old inside i → IfOk result (λ _. Makes m.old m.new
+        (made forking (step_view (look_at (map vec_items earlier.now)) step.now).what i (emitting_of m.old))) }
+{
+    match &step.what {
+        Instruction::Note { chord, lasting } => m.push(Op::Note {
+            chord: *chord,
+            span: inside.span(*lasting),
+            channel: inside.channel,
+            gate: inside.gate,
+            loud: inside.loud,
+            scope: inside.scope,
+        }),
+        Instruction::Rest { lasting } => m.push(Op::Rest {
+            span: inside.span(*lasting),
+            scope: inside.scope,
+        }),
+        Instruction::Send { point, draw } => m.push(Op::Send {
+            point: *point,
+            channel: inside.channel,
+            draw: *draw,
+            scope: inside.scope,
+        }),
+        Instruction::Set { register, expr } => m.push(Op::Set {
+            register: *register,
+            expr: *expr,
+            scope: inside.scope,
+        }),
+        Instruction::Choice { expr, yes, no } => {
+            expand_choice(m, earlier, forks, *expr, yes, no, inside)
+        }
+        Instruction::Loop { count, body } => {
+            if is_written_out(body, forks, forking) {
+                expand_rounds(m, earlier, forks, *count, body, inside)
+            } else {
+                expand_loop(m, earlier, forks, *count, body, inside)
+            }
+        }
+        Instruction::Phrase { number } => match *number {
+            Some(n) => expand_phrase(m, earlier, forks, n as usize, inside, forking),
+            None => Ok(()),
+        },
+        Instruction::Par { branches } => {
+            if forking {
+                expand_fork(m, earlier, forks, branches, inside)
+            } else {
+                Ok(())
+            }
+        }
+        Instruction::Warp { number, body } => {
+            expand_warp(m, earlier, forks, *number, body, inside, forking)
+        }
+        Instruction::Channel { number, body } => {
+            expand_steps(m, earlier, forks, body, inside.on_channel(*number), forking)
+        }
+        Instruction::Steady {
+            quality,
+            entry,
+            body,
+        } => expand_steps(
+            m,
+            earlier,
+            forks,
+            body,
+            inside.steady(*quality, *entry),
+            forking,
+        ),
+        Instruction::Under {
+            quality,
+            list,
+            body,
+        } => expand_list(m, earlier, forks, *quality, *list, body, inside, forking),
+    }
+}
+
+/// Statements in turn.
+#[cycle(expand)]
+fn expand_steps(
+    m: &mut Emitter,
+    earlier: &[Vec<Step>],
+    forks: &[bool],
+    steps: &[Step],
+    inside: Inside,
+    forking: bool,
+) -> Result<(), AllocError>
+    requires known { forks.now ≡ map emission.forks_in (phrases_view (map vec_items earlier.now)) }
+    ensures { (i : Open) → Agrees m.old inside i → IfOk result (λ _. Makes m.old m.new
+        (made_in forking (block_view (look_at (map vec_items earlier.now)) steps.now) i (emitting_of m.old))) }
+{
+    for step in steps {
+        expand_step(m, earlier, forks, step, inside, forking)?;
+    }
+    Ok(())
+}
+
+/// A phrase: of the phrases before it, it may name each.
+#[cycle(expand)]
+fn expand_phrase(
+    m: &mut Emitter,
+    earlier: &[Vec<Step>],
+    forks: &[bool],
+    number: usize,
+    inside: Inside,
+    forking: bool,
+) -> Result<(), AllocError>
+    requires known { forks.now ≡ map emission.forks_in (phrases_view (map vec_items earlier.now)) }
+    ensures { (i : Open) → Agrees m.old inside i → IfOk result (λ _. Makes m.old m.new
+        (made_in forking (look_at (map vec_items earlier.now) number) i (emitting_of m.old))) }
+{
+    if number < earlier.len() && number < forks.len() {
+        let body = earlier[number].as_slice();
+        expand_steps(
+            m,
+            &earlier[..number],
+            &forks[..number],
+            body,
+            inside,
+            forking,
+        )
+    } else {
+        Ok(())
+    }
+}
+
+/// A choice: where the value is not above 0, its first block is passed over, else its second.
+#[cycle(expand)]
+fn expand_choice(
+    m: &mut Emitter,
+    earlier: &[Vec<Step>],
+    forks: &[bool],
+    expr: u32,
+    yes: &[Step],
+    no: &[Step],
+    inside: Inside,
+) -> Result<(), AllocError>
+    requires known { forks.now ≡ map emission.forks_in (phrases_view (map vec_items earlier.now)) }
+    ensures { (i : Open) → Agrees m.old inside i → IfOk result (λ _. Makes m.old m.new
+        (straight (plain.choice expr (block_view (look_at (map vec_items earlier.now)) yes.now)
+        (block_view (look_at (map vec_items earlier.now)) no.now)) i (emitting_of m.old))) }
+{
+    let test = m.size();
+    let scope = inside.scope;
+    m.push(Op::Test {
+        expr,
+        scope,
+        past: 0,
+    })?;
+    expand_steps(m, earlier, forks, yes, inside, false)?;
+    let jump = m.size();
+    m.push(Op::Jump { target: 0 })?;
+    let middle = m.next()?;
+    expand_steps(m, earlier, forks, no, inside, false)?;
+    let target = m.next()?;
+    m.set(jump, Op::Jump { target });
+    m.set(
+        test,
+        Op::Test {
+            expr,
+            scope,
+            past: middle,
+        },
+    );
+    Ok(())
+}
+
+/// A loop in a frame.
+#[cycle(expand)]
+fn expand_loop(
+    m: &mut Emitter,
+    earlier: &[Vec<Step>],
+    forks: &[bool],
+    count: Count,
+    body: &[Step],
+    inside: Inside,
+) -> Result<(), AllocError>
+    requires known { forks.now ≡ map emission.forks_in (phrases_view (map vec_items earlier.now)) }
+    ensures { (i : Open) → Agrees m.old inside i → IfOk result (λ _. Makes m.old m.new
+        (straight (plain.loop count (block_view (look_at (map vec_items earlier.now)) body.now)) i (emitting_of m.old))) }
+{
+    let start = m.size();
+    let outer = inside.scope;
+    m.push(Op::Loop {
+        count,
+        scope: outer,
+        past: 0,
+    })?;
+    let back = m.next()?;
+    let scope = m.add_scope(
+        outer,
+        Slot::Frame {
+            frame: inside.frames,
+        },
+    )?;
+    let deeper = inside.in_loop(scope)?;
+    expand_steps(m, earlier, forks, body, deeper, false)?;
+    m.push(Op::Again { back })?;
+    let past = m.next()?;
+    m.set(
+        start,
+        Op::Loop {
+            count,
+            scope: outer,
+            past,
+        },
+    );
+    Ok(())
+}
+
+/// A loop that is written out round by round.
+#[cycle(expand)]
+fn expand_rounds(
+    m: &mut Emitter,
+    earlier: &[Vec<Step>],
+    forks: &[bool],
+    count: Count,
+    body: &[Step],
+    inside: Inside,
+) -> Result<(), AllocError>
+    requires known { forks.now ≡ map emission.forks_in (phrases_view (map vec_items earlier.now)) }
+    ensures { (i : Open) → Agrees m.old inside i → IfOk result (λ _. Makes m.old m.new
+        (unrolled (λ j f. expansion.expand_in (block_view (look_at (map vec_items earlier.now)) body.now)
+        (in_scope (loop_round j) (length f.scopes) i) (with_scopes (slots_of (loop_round j ∷ i.homes) ∷ []) f))
+        (expansion.written_rounds count) 0 (emitting_of m.old))) }
+{
+    for round in 0..written_rounds(count) {
+        let scope = m.add_scope(inside.scope, Slot::Fixed { value: round })?;
+        expand_steps(m, earlier, forks, body, inside.in_round(scope), true)?;
+    }
+    Ok(())
+}
+
+/// A fork: a program for each branch, and one for what follows.
+#[cycle(expand)]
+fn expand_fork(
+    m: &mut Emitter,
+    earlier: &[Vec<Step>],
+    forks: &[bool],
+    branches: &[Vec<Step>],
+    inside: Inside,
+) -> Result<(), AllocError>
+    requires known { forks.now ≡ map emission.forks_in (phrases_view (map vec_items earlier.now)) }
+    ensures { (i : Open) → Agrees m.old inside i → IfOk result (λ _. Makes m.old m.new
+        (expansion.expand (plain.par (arms_of_blocks
+        (map (λ b. block_view (look_at (map vec_items earlier.now)) b.items) branches.now))) i (emitting_of m.old))) }
+{
+    let forked = place(m.finished.len())?;
+    let mut lasts = Vec::new(m.alloc);
+    for branch in branches {
+        let mut parent = Vec::new(m.alloc);
+        parent.push(forked)?;
+        m.next_program(parent)?;
+        expand_steps(m, earlier, forks, branch, inside, true)?;
+        lasts.push(place(m.finished.len())?)?;
+    }
+    m.next_program(lasts)?;
+    Ok(())
+}
+
+/// A deformation.
+#[cycle(expand)]
+fn expand_warp(
+    m: &mut Emitter,
+    earlier: &[Vec<Step>],
+    forks: &[bool],
+    number: u32,
+    body: &[Step],
+    inside: Inside,
+    forking: bool,
+) -> Result<(), AllocError>
+    requires known { forks.now ≡ map emission.forks_in (phrases_view (map vec_items earlier.now)) }
+    ensures { (i : Open) → Agrees m.old inside i → IfOk result (λ _. Makes m.old m.new
+        (made forking (plain.warp number (block_view (look_at (map vec_items earlier.now)) body.now)) i (emitting_of m.old))) }
+{
+    m.push(Op::Enter { warp: number })?;
+    m.levels.push(number)?;
+    expand_steps(m, earlier, forks, body, inside, forking)?;
+    m.levels.pop();
+    m.push(Op::Leave)?;
+    Ok(())
+}
+
+/// A list in a frame.
+#[cycle(expand)]
+fn expand_list(
+    m: &mut Emitter,
+    earlier: &[Vec<Step>],
+    forks: &[bool],
+    quality: Quality,
+    list: u32,
+    body: &[Step],
+    inside: Inside,
+    forking: bool,
+) -> Result<(), AllocError>
+    requires known { forks.now ≡ map emission.forks_in (phrases_view (map vec_items earlier.now)) }
+    ensures { (i : Open) → Agrees m.old inside i → IfOk result (λ _. Makes m.old m.new
+        (made forking (plain.under (quality_view quality) list
+        (block_view (look_at (map vec_items earlier.now)) body.now)) i (emitting_of m.old))) }
+{
+    let deeper = inside.in_list(quality)?;
+    m.push(Op::Begin { list })?;
+    m.cycles.push(list)?;
+    expand_steps(m, earlier, forks, body, deeper, forking)?;
+    m.cycles.pop();
+    m.push(Op::Close)?;
+    Ok(())
+}
+
+/// The programs of an outline.
+pub fn expand(alloc: Global, outline: &Outline) -> Result<Expanded, AllocError>
+    ensures programs { IfOk result (λ x.
+        map program_parts x.programs.items ≡ expansion.whole (expansion.expanded (outline_view outline.now).value)) }
+    ensures scopes { IfOk result (λ x.
+        map vec_items x.scopes.items ≡ (expansion.expanded (outline_view outline.now).value).scopes) }
+{
+    let forks = phrases_fork(alloc, &outline.phrases)?;
+    let mut m = Emitter::new(alloc)?;
+    expand_steps(
+        &mut m,
+        &outline.phrases,
+        &forks,
+        &outline.block,
+        Inside::outermost(),
+        true,
+    )?;
+    let Emitter {
+        mut finished,
+        current,
+        scopes,
+        ..
+    } = m;
+    finished.push(current)?;
+    Ok(Expanded {
+        programs: finished,
+        scopes,
+    })
+}

@@ -1,0 +1,71 @@
+//! Which statements fork.
+
+ghost use Rattle.std.specs.Prelude.{◌≡◌, ℕ, false, IfOk, map, slice_index_or, vec_items};
+ghost use Rattle.fm_expansion.specs.Emission as emission;
+ghost use Rattle.fm_outline.specs.View.{Look, block_view, step_view, phrase_at, phrases_view};
+
+use fm_outline::{Instruction, Step};
+use std::alloc::{AllocError, Global};
+
+/// Whether a statement forks, where it is known of phrases.
+#[cycle(forks)]
+fn step_forks(step: &Step, phrases: &[bool]) -> bool
+    ensures { (look : Look) → ((n : ℕ) → slice_index_or phrases.now n false ≡ emission.forks_in (look n)) →
+        result ≡ emission.forks (step_view look step.now).what }
+{
+    match &step.what {
+        Instruction::Note { .. } => false,
+        Instruction::Rest { .. } => false,
+        Instruction::Send { .. } => false,
+        Instruction::Set { .. } => false,
+        Instruction::Choice { yes, no, .. } => steps_fork(yes, phrases) || steps_fork(no, phrases),
+        Instruction::Loop { body, .. } => steps_fork(body, phrases),
+        Instruction::Phrase { number } => phrase_forks(*number, phrases),
+        Instruction::Par { .. } => true,
+        Instruction::Warp { body, .. } => steps_fork(body, phrases),
+        Instruction::Channel { body, .. } => steps_fork(body, phrases),
+        Instruction::Steady { body, .. } => steps_fork(body, phrases),
+        Instruction::Under { body, .. } => steps_fork(body, phrases),
+    }
+}
+
+/// Whether one of the statements does.
+#[cycle(forks)]
+pub(crate) fn steps_fork(steps: &[Step], phrases: &[bool]) -> bool
+    ensures { (look : Look) → ((n : ℕ) → slice_index_or phrases.now n false ≡ emission.forks_in (look n)) →
+        result ≡ emission.forks_in (block_view look steps.now) }
+{
+    for step in steps {
+        if step_forks(step, phrases) {
+            return true;
+        }
+    }
+    false
+}
+
+/// Whether a phrase does.
+fn phrase_forks(number: Option<u32>, phrases: &[bool]) -> bool
+    ensures { (look : Look) → ((n : ℕ) → slice_index_or phrases.now n false ≡ emission.forks_in (look n)) →
+        result ≡ emission.forks_in (phrase_at look number) }
+{
+    match number {
+        Some(n) => match phrases.get(n as usize) {
+            Some(forks) => *forks,
+            None => false,
+        },
+        None => false,
+    }
+}
+
+/// Which phrases fork.
+pub(crate) fn phrases_fork(alloc: Global, phrases: &[Vec<Step>]) -> Result<Vec<bool>, AllocError>
+    ensures { IfOk result (λ forks.
+        forks.items ≡ map emission.forks_in (phrases_view (map vec_items phrases.now))) }
+{
+    let mut forks = Vec::new(alloc);
+    for phrase in phrases {
+        let own = steps_fork(phrase, forks.as_slice());
+        forks.push(own)?;
+    }
+    Ok(forks)
+}

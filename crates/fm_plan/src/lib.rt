@@ -1,0 +1,17 @@
+//! From a score to its plan.
+//!
+//! [`expand`] writes the programs of all processes from the outline of a score: operations are
+//! appended to the program that grows, and the places of jumps are filled in behind. Contracts see
+//! the programs as `fm_expansion` says them.
+#![tactic(auto)]
+
+mod emitter;
+mod expanding;
+mod forks;
+mod inside;
+mod planning;
+#[cfg(test)]
+mod tests;
+
+pub use expanding::{Expanded, expand};
+pub use planning::{outline_plan, plan};

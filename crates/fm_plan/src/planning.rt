@@ -1,0 +1,57 @@
+//! Plans.
+ghost use Rattle.std.specs.Prelude.{◌≡◌, ◌≤◌, ℕ, List, IfOk};
+ghost use Rattle.fm_grammar.specs.View.{score_view};
+ghost use Rattle.fm_meaning.specs.Bounds.{score_bounds};
+ghost use Rattle.fm_meaning.specs.Lines.{played_lines};
+ghost use Rattle.fm_meaning.specs.Resolve.{resolved};
+ghost use Rattle.fm_meaning.specs.Verdict.{Means};
+ghost use Rattle.fm_program.specs.Fit.{PartsFit, all_steps};
+ghost use Rattle.fm_program.specs.Process.{plan_lines, plan_played};
+ghost use Rattle.fm_expansion.specs.Numbering.{score_plan};
+ghost use Rattle.fm_plan.specs.Seen.{outline_plan};
+
+use crate::expanding::{Expanded, expand};
+use fm_expansion::{plans_fit, plans_play_the_score};
+use fm_grammar::Score;
+use fm_msg::Profile;
+use fm_outline::{Outline, Tables, outline_of};
+use fm_program::{Plan, Stock};
+use std::alloc::{AllocError, Global};
+
+/// The plan of an outline whose parts fit.
+pub fn outline_plan(alloc: Global, outline: Outline) -> Result<Plan, AllocError>
+    requires { PartsFit (outline_plan outline) }
+    ensures { IfOk result (λ p. p ≡ outline_plan outline) }
+{
+    let Expanded { programs, scopes } = expand(alloc, &outline)?;
+    let Outline { tables, seed, .. } = outline;
+    let Tables {
+        exprs,
+        lists,
+        chords,
+        warps,
+    } = tables;
+    let stock = Stock {
+        exprs,
+        lists,
+        chords,
+        scopes,
+        warps,
+    };
+    Ok(Plan::of(stock, programs, u64::from(seed), Profile::first()))
+}
+
+/// The plan of a score that is accepted: its processes have the lines that the score means, and take
+/// no more steps together than its static totals say.
+pub fn plan(alloc: Global, score: &Score) -> Result<Plan, AllocError>
+    requires accepted { (text : List ℕ) × Means text (score_view score.now) }
+    ensures parts { IfOk result (λ p. p ≡ score_plan (score_view score.now)) }
+    ensures lines { IfOk result (λ p. plan_lines p ≡ played_lines (resolved (score_view score.now))) }
+    ensures steps { IfOk result (λ p.
+        all_steps (plan_played p) ≤ (score_bounds (resolved (score_view score.now))).steps) }
+{
+    plans_fit();
+    plans_play_the_score();
+    let outline = outline_of(alloc, score)?;
+    outline_plan(alloc, outline)
+}
