@@ -1,0 +1,16 @@
+pub mod StrandFacts
+pub mod Parting
+pub mod InTime
+pub mod Order
+pub mod Births
+pub mod Releasing
+pub mod Ending
+pub mod Opening
+pub mod Running
+pub mod Quanta
+pub mod Between
+pub mod Starting
+pub mod Gathering
+pub mod Finding
+pub mod Whole
+pub mod Freshness

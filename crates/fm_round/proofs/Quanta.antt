@@ -1,0 +1,141 @@
+-- What one quantum makes of one slot.
+use Rattle.std.proofs.Common.{◌≡◌, ◌⊎◌, ℕ, ◌+◌, ◌-◌, ◌<◌, ◌≤◌, List, [], ◌∷◌, ◌++◌, length, Bool, true, false, Option, Some, None, refl, sym, ap, ap₂, ◌∙◌, subst, inl, inr, arith, length-append}
+use Rattle.std.proofs.lemmas.Bool.{cases_eq}
+use Rattle.std.proofs.lemmas.List.Elements.{All-append, All-weaker}
+use Rattle.std.specs.List.{All}
+use Rattle.fm_msg.specs.Event.{TimedMessage}
+use Rattle.fm_buffer.specs.Outbox.{EventQueue}
+use Rattle.fm_program.specs.Parts.{PlanParts}
+use Rattle.fm_strand.specs.declared.strand.Strand.{Strand}
+use Rattle.fm_strand.specs.declared.answers.Quantum.{Quantum}
+use Rattle.fm_strand.specs.declared.answers.Quantum.TheVariants as quantum
+use Rattle.fm_strand.specs.Course.{steps_of, standing, tick_of, to_come}
+use Rattle.fm_strand.specs.Strand.{InCourse, MakesQuantum, QuantumIs, clock_of, rest, steps_left}
+use Rattle.fm_round.specs.declared.slot.Slot.{Slot}
+use Rattle.fm_round.specs.Slots.{CanRun, IsSlotOf, IsStrandOf, IsRun, Runs, has_ended, left, live_clock, load, run_clock, run_load}
+use Rattle.fm_round.proofs.StrandFacts.{clock_at_event, put_early}
+
+-- ---- no step, no change
+
+same_steps : (p : PlanParts) (s t : Strand) → InCourse p s → InCourse p t → t.process ≡ s.process
+    → steps_left p s ≡ steps_left p t → t.made ≡ s.made
+unfolding steps_left
+same_steps p s t at_s at_t process steps =
+    let of_t : steps_of p t.process ≡ steps_of p s.process = ap (steps_of p) process in
+    let within_s = at_s.within in
+    let within_t = at_t.within in omega arith
+
+same_clock : (p : PlanParts) (s t : Strand) → t.process ≡ s.process → t.made ≡ s.made → clock_of p t ≡ clock_of p s
+unfolding clock_of
+same_clock p s t process made = ap₂ (λ (j n : ℕ). tick_of (standing p j n)) process made
+
+same_rest : (p : PlanParts) (s t : Strand) → t.process ≡ s.process → t.made ≡ s.made → rest p t ≡ rest p s
+unfolding rest
+same_rest p s t process made = ap₂ (λ (j n : ℕ). to_come p j n) process made
+
+-- ---- one quantum
+
+module _ (p : PlanParts) (j limit : ℕ) (old new : Slot) (s t : Strand) (answer : Quantum)
+    (was : old.strand ≡ Some s) (live : old.ended ≡ false) (run : IsStrandOf p j false old.outbox.events s)
+    (makes : MakesQuantum p limit s old.outbox answer t new.outbox)
+    (now : new.strand ≡ Some t) (ended : new.ended ≡ has_ended answer) where
+  -- a quantum without a step leaves the clock and the queue as they were
+  still_clock : makes.made ≡ 0 → clock_of p t ≡ clock_of p s
+  still_clock none =
+      let steps = makes.steps in
+      same_clock p s t makes.process (same_steps p s t run.course makes.course makes.process (omega arith))
+
+  still_queue : makes.made ≡ 0 → length new.outbox.events ≡ length old.outbox.events
+  still_queue none =
+      let steps = makes.steps in
+      let same = same_rest p s t makes.process (same_steps p s t run.course makes.course makes.process (omega arith)) in
+      omega (
+        arith,
+        ap length makes.events,
+        length-append old.outbox.events makes.put,
+        ap length makes.follows,
+        ap length same,
+        length-append makes.put (rest p t),
+      )
+
+  -- a strand that could run made a step, or came to its end
+  moved : CanRun p limit old → (a : Quantum) → answer ≡ a → QuantumIs p limit makes.made a t new.outbox
+      → run_load p j (has_ended a) (Some t) < steps_left p s + 1
+  moved can quantum.Ended is_answer is = omega arith
+  moved can quantum.Spent is_answer is = let steps = makes.steps in let made = is.1 in omega arith
+  moved can quantum.Full is_answer is =
+      let steps = makes.steps in
+      let step : 0 < makes.made = by_made (cases_eq makes.made 0) in omega arith
+    where
+      by_made : (makes.made ≡ 0) ⊎ (makes.made ≡ 0 → ⊥) → 0 < makes.made
+      by_made (inl none) =
+          let full = is.1 in
+          let room = makes.room in
+          let queue = still_queue none in
+          let free = can.room in absurd (omega arith)
+      by_made (inr some) = omega arith
+  moved can quantum.Limit is_answer is =
+      let steps = makes.steps in
+      let step : 0 < makes.made = by_made (cases_eq makes.made 0) in omega arith
+    where
+      clock_is : clock_of p s ≡ can.clock
+      clock_is =
+          let same : Some (clock_of p s) ≡ Some can.clock = sym (rw (live, was) refl) ∙ can.live in cc
+
+      by_made : (makes.made ≡ 0) ⊎ (makes.made ≡ 0 → ⊥) → 0 < makes.made
+      by_made (inl none) =
+          let past = is.2 in
+          let at = clock_at_event p t past.0 makes.course past.1 in
+          let far = past.2 in
+          let clock = still_clock none in
+          let here = clock_is in
+          let near = can.in_time in absurd (omega arith)
+      by_made (inr some) = omega arith
+
+  at_end : (a : Quantum) → QuantumIs p limit makes.made a t new.outbox → has_ended a ≡ true → steps_left p t ≡ 0
+  at_end quantum.Ended is true_is = is
+  at_end quantum.Spent is true_is = cc
+  at_end quantum.Full is true_is = cc
+  at_end quantum.Limit is true_is = cc
+
+  run_after : IsStrandOf p j (has_ended answer) new.outbox.events t
+  run_after = record {
+    course = makes.course;
+    process = makes.process ∙ run.process;
+    early =
+        subst (All (λ (e : TimedMessage). e.time ≤ clock_of p t)) (sym makes.events)
+        (All-append (λ (e : TimedMessage). e.time ≤ clock_of p t) old.outbox.events makes.put
+        (All-weaker (λ (e : TimedMessage). e.time ≤ clock_of p s) (λ (e : TimedMessage). e.time ≤ clock_of p t)
+        (λ e below. let later = makes.clock in omega arith) old.outbox.events run.early)
+        (put_early p limit s old.outbox answer t new.outbox makes));
+    at_end = at_end answer makes.is;
+  }
+
+  load_before : load p j old ≡ steps_left p s + 1
+  load_before = rw (live, was) refl
+
+  load_after : load p j new ≡ run_load p j (has_ended answer) (Some t)
+  load_after = rw (now, ended) refl
+
+  load_within : (b : Bool) → run_load p j b (Some t) ≤ steps_left p s + 1
+  load_within true = omega arith
+  load_within false = let steps = makes.steps in omega arith
+
+  pub ran : Runs p j limit old new
+  ran = record {
+    same = λ events. rw (now, was) makes.stays;
+    fits = rw (now, ended) run_after;
+    room = makes.room;
+    less = rw (load_before, load_after) (load_within (has_ended answer));
+    moves = λ can. rw (load_before, load_after) (moved can answer refl makes.is);
+  }
+
+-- a slot that is left as it was, since it has not started or has ended
+pub rests : (p : PlanParts) (j limit : ℕ) (s : Slot) → IsSlotOf p j s → live_clock p s ≡ None → Runs p j limit s s
+rests p j limit s fits idle = record {
+  same = λ events. refl;
+  fits = fits;
+  room = refl;
+  less = omega arith;
+  moves = λ can. let never : Some can.clock ≡ None = sym can.live ∙ idle in cc;
+}

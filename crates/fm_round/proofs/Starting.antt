@@ -1,0 +1,219 @@
+-- What it changes to start a process.
+use Rattle.std.proofs.Common.{◌≡◌, ◌≢◌, ◌⊎◌, ℕ, zero, suc, ◌+◌, ◌<◌, ◌≤◌, List, [], ◌∷◌, ◌++◌, length, map, take, get_or, set, Bool, true, false, Option, Some, None, IfSome, refl, sym, ap, ap₂, ◌∙◌, subst, inl, inr, ⊎_elim, arith, get_or-set_same, get_or-set_other}
+use Rattle.std.specs.Prelude.{nat_lt, if◌then◌else◌}
+use Rattle.std.proofs.lemmas.Bool.{cases_eq}
+use Rattle.std.proofs.lemmas.List.Elements.{All-nil}
+use Rattle.std.proofs.Math.ListN.{length-set}
+use Rattle.fm_msg.specs.Event.{TimedMessage}
+use Rattle.fm_line.specs.declared.line.Line.{Line}
+use Rattle.fm_line.specs.Line.{line}
+use Rattle.fm_nest.specs.declared.place.Place.{Place}
+use Rattle.fm_program.specs.Parts.{PlanParts}
+use Rattle.fm_program.specs.Process.{plan_lines}
+use Rattle.fm_strand.specs.declared.strand.Strand.{Strand}
+use Rattle.fm_strand.specs.Course.{latest_place, later_place, meeting_place, first_place, steps_of}
+use Rattle.fm_strand.specs.Strand.{InCourse, clock_of, rest, steps_left}
+use Rattle.fm_round.specs.declared.slot.Slot.{Slot}
+use Rattle.fm_round.specs.Slots.{AllEnded, AllSlots, AllStarted, IsRun, IsSlotOf, IsStrandOf, IsWaiting, left, lefts, load, loads, no_slot, predecessors, room_of, run_load, slot, yet}
+use Rattle.fm_round.specs.Starts.{HasLevelsOf, latest_of, met_place}
+use Rattle.fm_round.specs.Slots.{PlanHolds}
+use Rattle.fm_round.proofs.Births.{predecessor_below}
+use Rattle.fm_round.proofs.Running.{any_default, rooms_same}
+use Rattle.fm_round.proofs.StrandFacts.{plan_valid}
+
+-- ---- slot by slot
+
+-- equal at each place, for the line that is there
+lefts_each : (p : PlanParts) (ls : List Line) (old new : List Slot) → length new ≡ length old
+    → ((k : ℕ) → k < length old → left p (line ls k).events (slot new k) ≡ left p (line ls k).events (slot old k))
+    → lefts p ls new ≡ lefts p ls old
+lefts_each p [] old new same each = refl
+lefts_each p (l ∷ ls) [] [] same each = refl
+lefts_each p (l ∷ ls) [] (t ∷ new) same each = absurd (omega arith)
+lefts_each p (l ∷ ls) (s ∷ old) [] same each = absurd (omega arith)
+lefts_each p (l ∷ ls) (s ∷ old) (t ∷ new) same each =
+    ap₂ (λ (xs : List TimedMessage) (xss : List (List TimedMessage)). xs ∷ xss) (each 0 (omega arith))
+    (lefts_each p ls old new (omega arith) (λ k within. each (suc k) (omega arith)))
+
+loads_same : (p : PlanParts) (first : ℕ) (old new : List Slot) → length new ≡ length old
+    → ((k : ℕ) → k < length old → load p (first + k) (slot new k) ≡ load p (first + k) (slot old k))
+    → loads p first new ≡ loads p first old
+loads_same p first [] [] same each = refl
+loads_same p first [] (t ∷ new) same each = absurd (omega arith)
+loads_same p first (s ∷ old) [] same each = absurd (omega arith)
+loads_same p first (s ∷ old) (t ∷ new) same each =
+    ap₂ (λ (a b : ℕ). a + b) (subst (λ (n : ℕ). load p n t ≡ load p n s) at (each 0 (omega arith)))
+    (loads_same p (suc first) old new (omega arith) (λ k within.
+    subst (λ (n : ℕ). load p n (slot new k) ≡ load p n (slot old k)) (next k) (each (suc k) (omega arith))))
+  where
+    at : first + 0 ≡ first
+    at = omega arith
+
+    next : (k : ℕ) → first + suc k ≡ suc first + k
+    next k = omega arith
+
+-- ---- one process is started
+
+module _ (p : PlanParts) (ss : List Slot) (j : ℕ) (there : j < length ss) (t : Strand) (y : Slot)
+    (slots : AllSlots p ss) (unborn : (slot ss j).strand ≡ None)
+    (course : InCourse p t) (process : t.process ≡ j) (whole : rest p t ≡ (line (plan_lines p) j).events)
+    (steps : steps_left p t ≡ steps_of p j)
+    (strand : y.strand ≡ Some t) (ended : y.ended ≡ (slot ss j).ended) (outbox : y.outbox ≡ (slot ss j).outbox) where
+  here : slot (set ss j y) j ≡ y
+  here = get_or-set_same ss j y no_slot there
+
+  other : (i : ℕ) → (i ≡ j → ⊥) → slot (set ss j y) i ≡ slot ss i
+  other i apart = get_or-set_other ss j i y no_slot apart
+
+  -- nothing was computed
+  idle : ((slot ss j).outbox.events ≡ []) × ((slot ss j).ended ≡ false)
+  idle = subst (IsRun p j (slot ss j).ended (slot ss j).outbox.events) unborn (slots j there)
+
+  is_slot : IsSlotOf p j y
+  is_slot =
+      let events : y.outbox.events ≡ [] = ap (λ o. o.events) outbox ∙ idle.0 in
+      let live : y.ended ≡ false = ended ∙ idle.1 in
+      rw (strand, events, live) (record {
+        course = course;
+        process = process;
+        early = All-nil (λ (e : TimedMessage). e.time ≤ clock_of p t);
+        at_end = λ is. cc;
+      })
+
+  pub started_slots : AllSlots p (set ss j y)
+  started_slots i within = by_place (cases_eq i j)
+    where
+      inside : i < length ss
+      inside = simp length-set at within
+
+      by_place : (i ≡ j) ⊎ (i ≡ j → ⊥) → IsSlotOf p i (slot (set ss j y) i)
+      by_place (inl same) =
+          subst (λ (k : ℕ). IsSlotOf p k (slot (set ss j y) k)) (sym same) (subst (IsSlotOf p j) (sym here) is_slot)
+      by_place (inr apart) = subst (IsSlotOf p i) (sym (other i apart)) (slots i inside)
+
+  left_here : left p (line (plan_lines p) j).events y ≡ left p (line (plan_lines p) j).events (slot ss j)
+  left_here =
+      ap₂ (λ (es fs : List TimedMessage). es ++ fs) (ap (λ o. o.events) outbox)
+      (ap (yet p (line (plan_lines p) j).events) strand ∙ whole ∙ sym (ap (yet p (line (plan_lines p) j).events) unborn))
+
+  pub started_lefts : lefts p (plan_lines p) (set ss j y) ≡ lefts p (plan_lines p) ss
+  started_lefts = lefts_each p (plan_lines p) ss (set ss j y) (length-set ss j y) (λ k within. by_place k (cases_eq k j))
+    where
+      by_place : (k : ℕ) → (k ≡ j) ⊎ (k ≡ j → ⊥)
+          → left p (line (plan_lines p) k).events (slot (set ss j y) k) ≡ left p (line (plan_lines p) k).events (slot ss k)
+      by_place k (inl same) =
+          subst (λ (i : ℕ). left p (line (plan_lines p) i).events (slot (set ss j y) i) ≡ left p (line (plan_lines p) i).events (slot ss i))
+          (sym same) (ap (left p (line (plan_lines p) j).events) here ∙ left_here)
+      by_place k (inr apart) = ap (left p (line (plan_lines p) k).events) (other k apart)
+
+  pub started_rooms : map room_of (set ss j y) ≡ map room_of ss
+  started_rooms = rooms_same ss (set ss j y) (length-set ss j y) (λ k within. by_place k (cases_eq k j))
+    where
+      by_place : (k : ℕ) → (k ≡ j) ⊎ (k ≡ j → ⊥) → room_of (slot (set ss j y) k) ≡ room_of (slot ss k)
+      by_place k (inl same) =
+          subst (λ (i : ℕ). room_of (slot (set ss j y) i) ≡ room_of (slot ss i)) (sym same)
+          (ap room_of here ∙ ap (λ o. o.room) outbox)
+      by_place k (inr apart) = ap room_of (other k apart)
+
+  load_here : load p j y ≡ load p j (slot ss j)
+  load_here =
+      ap₂ (run_load p j) (ended ∙ idle.1) strand ∙ ap (λ n. n + 1) steps ∙ sym (ap₂ (run_load p j) idle.1 unborn)
+
+  pub started_loads : loads p 0 (set ss j y) ≡ loads p 0 ss
+  started_loads = loads_same p 0 ss (set ss j y) (length-set ss j y) (λ k within. by_place k (cases_eq k j))
+    where
+      zero_add : 0 + j ≡ j
+      zero_add = omega arith
+
+      by_place : (k : ℕ) → (k ≡ j) ⊎ (k ≡ j → ⊥) → load p (0 + k) (slot (set ss j y) k) ≡ load p (0 + k) (slot ss k)
+      by_place k (inl same) =
+          subst (λ (i : ℕ). load p (0 + i) (slot (set ss j y) i) ≡ load p (0 + i) (slot ss i)) (sym same)
+          (ap (load p (0 + j)) here ∙ subst (λ (i : ℕ). load p i y ≡ load p i (slot ss j)) (sym zero_add) load_here)
+      by_place k (inr apart) = ap (load p (0 + k)) (other k apart)
+
+  -- no process has ended by that
+  ended_kept : (i : ℕ) → (slot (set ss j y) i).ended ≡ (slot ss i).ended
+  ended_kept i = by_place (cases_eq i j)
+    where
+      by_place : (i ≡ j) ⊎ (i ≡ j → ⊥) → (slot (set ss j y) i).ended ≡ (slot ss i).ended
+      by_place (inl same) =
+          subst (λ (k : ℕ). (slot (set ss j y) k).ended ≡ (slot ss k).ended) (sym same) (ap (λ (s : Slot). s.ended) here ∙ ended)
+      by_place (inr apart) = ap (λ (s : Slot). s.ended) (other i apart)
+
+  -- who waits among the processes below j waits on
+  pub started_below : AllStarted p ss j → AllStarted p (set ss j y) (j + 1)
+  started_below before i below none = by_place (cases_eq i j)
+    where
+      by_place : (i ≡ j) ⊎ (i ≡ j → ⊥) → IsWaiting p (set ss j y) i
+      by_place (inl same) =
+          let never : None ≡ Some t =
+          sym none ∙ ap (λ (k : ℕ). (slot (set ss j y) k).strand) same ∙ ap (λ (s : Slot). s.strand) here ∙ strand in cc
+      by_place (inr apart) =
+          let waits = before i (omega arith) (sym (ap (λ (s : Slot). s.strand) (other i apart)) ∙ none) in record {
+            at = waits.at;
+            there = waits.there;
+            live = ended_kept (get_or (predecessors p i) waits.at 0) ∙ waits.live;
+          }
+
+-- a process that is not started waits, and so do those below it
+pub waiting_below : (p : PlanParts) (ss : List Slot) (j : ℕ) → AllStarted p ss j
+    → ((slot ss j).strand ≡ None → IsWaiting p ss j) → AllStarted p ss (j + 1)
+waiting_below p ss j before own i below none = by_place (cases_eq i j)
+  where
+    by_place : (i ≡ j) ⊎ (i ≡ j → ⊥) → IsWaiting p ss i
+    by_place (inl same) =
+        subst (IsWaiting p ss) (sym same) (own (sym (ap (λ (k : ℕ). (slot ss k).strand) same) ∙ none))
+    by_place (inr apart) = before i (omega arith) none
+
+-- ---- predecessors
+
+-- the slot of a predecessor is there
+pub predecessor_there : (p : PlanParts) (ss : List Slot) (qs : List ℕ) (j i : ℕ) → PlanHolds p → length ss ≡ length p.programs
+    → j < length p.programs → qs ≡ predecessors p j → i < length qs → get_or qs i 0 < length ss
+predecessor_there p ss qs j i fits count process are within =
+    let inside : i < length (predecessors p j) = rw (← are) within in
+    let below = predecessor_below p (plan_valid p fits) j i inside in rw are (omega arith)
+
+-- whether it has ended
+pub ended_at : (p : PlanParts) (ss : List Slot) (qs : List ℕ) (j i : ℕ) (d : Slot) (b : Bool) → get_or qs i 0 < length ss
+    → qs ≡ predecessors p j → (get_or ss (get_or qs i 0) d).ended ≡ b → (slot ss (get_or (predecessors p j) i 0)).ended ≡ b
+ended_at p ss qs j i d b there are is =
+    sym (ap (λ (xs : List ℕ). (slot ss (get_or xs i 0)).ended) are)
+    ∙ ap (λ (s : Slot). s.ended) (any_default ss (get_or qs i 0) no_slot d there) ∙ is
+
+-- ---- places
+
+latest-append : (a : Place) (bs : List Place) (e : Place) → latest_place a (bs ++ e ∷ []) ≡ later_place (latest_place a bs) e
+latest-append a [] e = refl
+latest-append a (b ∷ bs) e = latest-append (later_place a b) bs e
+
+-- the latest of one place more
+pub latest_of-append : (xs : List Place) (e : Place) → latest_of (xs ++ e ∷ []) ≡ Some (met_place (latest_of xs) e)
+latest_of-append [] e = refl
+latest_of-append (a ∷ bs) e = ap (λ x. Some x) (latest-append a bs e)
+
+-- where the latest of some places is, they meet
+pub latest_meets : (xs : List Place) (a : Place) → latest_of xs ≡ Some a → meeting_place xs ≡ a
+latest_meets [] a is = cc
+latest_meets (x ∷ xs) a is = cc
+
+-- where there is none, they are none
+pub none_meets : (xs : List Place) → latest_of xs ≡ None → meeting_place xs ≡ first_place
+none_meets [] is = refl
+none_meets (x ∷ xs) is = cc
+
+-- the later one of two places in the same levels lies in them
+pub later_levels : (latest : Option Place) (end start : Place) → IfSome latest (λ a. HasLevelsOf a start) → HasLevelsOf end start
+    → HasLevelsOf (met_place latest end) start
+later_levels None end start before at = at
+later_levels (Some a) end start before at = by_test (nat_lt a.position end.position)
+  where
+    by_test : (b : Bool) → HasLevelsOf (if b then end else a) start
+    by_test true = at
+    by_test false = before
+
+-- places in the levels of the start lie in the same levels
+pub levels_of_end : (latest : Option Place) (end start : Place) → IfSome latest (λ a. HasLevelsOf a start) → HasLevelsOf end start
+    → IfSome latest (λ a. HasLevelsOf a end)
+levels_of_end None end start before at = tt
+levels_of_end (Some a) end start before at = record { depth = before.depth ∙ sym at.depth; origins = before.origins ∙ sym at.origins }

@@ -1,0 +1,32 @@
+//! The process from which the next events come.
+ghost use Rattle.std.specs.Prelude.{◌≡◌, ◌^◌, ◌<◌, length};
+ghost use Rattle.fm_round.specs.Slots.{AllSlots, LeastOf, lesser_of};
+
+use crate::slot::{Slot, clock};
+use fm_strand::Plan;
+
+/// The least pair of clock and process of those that have started and not ended: no event that is
+/// still to be computed lies before it.
+pub fn least(plan: &Plan, slots: &[Slot]) -> Option<(u64, u32)>
+    requires few { length slots.now < 2 ^ 32 }
+    requires slots { AllSlots plan.now slots.now }
+    ensures { LeastOf plan.now slots.now (length slots.now) result }
+{
+    let mut best = None;
+    for (j, slot) in slots.iter().enumerate() {
+        let process = j as u32;
+        best = lesser(best, clock(plan, process, slot), process);
+    }
+    best
+}
+
+// The lesser of a pair and that of a clock and a later process.
+fn lesser(best: Option<(u64, u32)>, clock: Option<u64>, process: u32) -> Option<(u64, u32)>
+    ensures { result ≡ lesser_of best clock process }
+{
+    match (best, clock) {
+        (_, None) => best,
+        (Some((time, first)), Some(clock)) if time <= clock => Some((time, first)),
+        (_, Some(clock)) => Some((clock, process)),
+    }
+}

@@ -1,0 +1,94 @@
+//! Takes what is due out of the outboxes, and writes it.
+ghost use Rattle.std.specs.Prelude.{◌≡◌, ◌+◌, ◌≤◌, ◌++◌, [], length, map, OnOk, OnErr, IfOk, IfSome};
+ghost use Rattle.fm_edge.specs.Runs.{Breaks};
+ghost use Rattle.fm_line.specs.Piece.{sorted};
+ghost use Rattle.fm_line.proofs.Sorting.{Ordered};
+ghost use Rattle.fm_smf.specs.Track.{events_bytes};
+ghost use Rattle.fm_smf.specs.Writing.{Writes};
+ghost use Rattle.fm_round.specs.Ends.{CanFollow};
+ghost use Rattle.fm_round.specs.Lefts.{OwnFrom, joined};
+ghost use Rattle.fm_round.specs.Slots.{due, room_of, room_sum, without_due};
+
+use crate::slot::Slot;
+use fm_buffer::Gather;
+use fm_edge::Sink;
+use fm_smf::{Event, SinkFault, Writer};
+
+/// Takes the events up to the key, a pair of tick and process, out of all outboxes, or all events
+/// where there is no key, and writes them in their order. Says how many these are.
+pub fn release<K: Sink>(
+    key: Option<(u64, u32)>,
+    slots: &mut [Slot],
+    gather: &mut Gather,
+    writer: &mut Writer,
+    sink: &mut K,
+) -> Result<u64, SinkFault>
+    requires empty { gather.old.events ≡ [] }
+    requires space { room_sum (map room_of slots.old) ≤ gather.old.capacity }
+    requires own { OwnFrom 0 (map (due key) slots.old) }
+    requires follow { CanFollow writer.old (sorted (joined (map (due key) slots.old))) }
+    requires at_end { IfSome (K.content sink.old) (λ c. length c ≡ writer.old.put) }
+    ensures slots { slots.new ≡ map (without_due key) slots.old }
+    ensures gather { OnOk result (gather.new ≡ gather.old) }
+    ensures count { IfOk result (λ n. n ≡ length (joined (map (due key) slots.old))) }
+    ensures ok { OnOk result (Writes K.content K.sure K.faults
+        sink.old sink.new (sorted (joined (map (due key) slots.old))) writer.old writer.new) }
+    ensures err { OnErr result (Breaks K.content K.sure K.faults sink.old sink.new
+        (events_bytes writer.old.last (sorted (joined (map (due key) slots.old))))) }
+{
+    gather_due(key, slots, gather);
+    settle(gather);
+    write_all(gather.events(), writer, sink)?;
+    let count = gather.events().len() as u64;
+    gather.clear();
+    Ok(count)
+}
+
+// Takes what is due out of all outboxes.
+fn gather_due(key: Option<(u64, u32)>, slots: &mut [Slot], gather: &mut Gather)
+    requires empty { gather.old.events ≡ [] }
+    requires space { room_sum (map room_of slots.old) ≤ gather.old.capacity }
+    ensures slots { slots.new ≡ map (without_due key) slots.old }
+    ensures gather { gather.new
+        ≡ record gather.old { events = joined (map (due key) slots.old) } }
+{
+    for slot in slots.iter_mut() {
+        take_due(key, slot, gather);
+    }
+}
+
+// Takes what is due out of one outbox.
+fn take_due(key: Option<(u64, u32)>, slot: &mut Slot, gather: &mut Gather)
+    requires { length gather.old.events + slot.old.outbox.room ≤ gather.old.capacity }
+    ensures slot { slot.new ≡ without_due key slot.old }
+    ensures gather { gather.new
+        ≡ record gather.old { events = gather.old.events ++ due key slot.old } }
+    ensures few { length (due key slot.old) ≤ slot.old.outbox.room }
+{
+    if slot.outbox.len() > 0 {
+        slot.outbox.take_through(key, gather);
+    }
+}
+
+// Puts the events into their order.
+fn settle(gather: &mut Gather)
+    requires { Ordered gather.old.events }
+    ensures { gather.new ≡ record gather.old { events = sorted gather.old.events } }
+{
+    gather.settle();
+}
+
+// Writes the events one by one.
+fn write_all<K: Sink>(events: &[Event], writer: &mut Writer, sink: &mut K) -> Result<(), SinkFault>
+    requires follow { CanFollow writer.old events.now }
+    requires at_end { IfSome (K.content sink.old) (λ c. length c ≡ writer.old.put) }
+    ensures ok { OnOk result (Writes K.content K.sure K.faults
+        sink.old sink.new events.now writer.old writer.new) }
+    ensures err { OnErr result (Breaks K.content K.sure K.faults sink.old sink.new
+        (events_bytes writer.old.last events.now)) }
+{
+    for event in events {
+        writer.event(event, sink)?;
+    }
+    Ok(())
+}
