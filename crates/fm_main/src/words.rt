@@ -1,5 +1,6 @@
 //! The words of the command line, and the files that they name.
-ghost use Rattle.std.specs.Prelude.{◌≡◌, ◌∷◌, [], length, IfOk, string_bytes};
+ghost use Rattle.std.specs.Prelude.{◌≡◌, [], None, map, IfOk, string_bytes};
+ghost use Rattle.fm_words.specs.Settings.{settings_of};
 
 use fm_top::{NameFault, names};
 use std::alloc::{AllocError, Global};
@@ -23,7 +24,7 @@ pub fn words_of(rt: &(impl Env + AllocGlobal)) -> Result<Vec<String>, AllocError
 
 /// The names of the two files, empty where the words are refused.
 pub fn file_names(alloc: Global, words: &[String]) -> Result<(String, String), AllocError>
-    ensures refused { (length words.now ≡ 2 → ⊥)
+    ensures refused { settings_of (map string_bytes words.now) ≡ None
         → IfOk result (λ n. (string_bytes n.0 ≡ []) × (string_bytes n.1 ≡ [])) }
 {
     match names(alloc, words) {

@@ -1,86 +1,105 @@
--- What follows from how a run ends: the cause of its status, and which status comes of a text that the source tells.
+-- What follows from how a run ends: which status comes of a text that the source tells.
 use Rattle.std.proofs.Common.{◌≡◌, ◌⊎◌, ℕ, List, length, Option, Some, ap, subst, inl, inr}
 use Rattle.fm_edge.specs.Causes.{Rose}
 use Rattle.fm_edge.specs.Content.{HasRoom}
 use Rattle.fm_edge.specs.Runs.{Puts}
+use Rattle.fm_grammar.specs.Score as tree
+use Rattle.fm_meaning.specs.Verdict.{HasFault, Means, Accepted}
 use Rattle.fm_top.specs.declared.status.TheConstants.{WORDS_REFUSED, SCORE_REFUSED, OUT_OF_MEMORY}
-use Rattle.fm_top.specs.declared.plain_item.PlainItem.{PlainItem}
-use Rattle.fm_top.specs.declared.score_fault.ScoreFault.{ScoreFault}
 use Rattle.fm_top.specs.declared.run_fault.RunFault.{RunFault}
 use Rattle.fm_top.specs.declared.run_fault.RunFault.TheVariants.{Words, Read, Score, Write, Memory}
-use Rattle.fm_top.specs.Meaning.{score_file}
-use Rattle.fm_top.specs.Judging.{ReadsPlain, IsRefused}
-use Rattle.fm_top.specs.Telling.{fault_status, refusal_text, fault_text, told, untold}
-use Rattle.fm_top.specs.Outcome.{WritesScore, BreaksScore, Holds, RunEnds, plays, stops, Completes}
-use Rattle.fm_top.proofs.Judged.{one_plain, plain_accepted, one_refusal, refused_told, plain_told}
+use Rattle.fm_top.specs.Telling.{fault_status, place_text, fault_text, told, untold}
+use Rattle.fm_top.specs.Outcome.{score_file, WritesScore, BreaksScore, Holds, RunEnds, plays, stops, Completes}
+use Rattle.fm_top.proofs.Judged.{fault_told, means_told}
+
+-- what is known of the verdict of a text: it is one
+pub record OneVerdict : Type 0 where
+  pub fault : (text : List ℕ) (line column number k c n : ℕ) → HasFault text line column number → HasFault text k c n
+      → (line ≡ k) × (column ≡ c) × (number ≡ n)
+  pub apart : (text : List ℕ) (line column number : ℕ) → Accepted text → HasFault text line column number → ⊥
+  pub score : (text : List ℕ) (s t : tree.Score) → Means text s → Means text t → s ≡ t
+
+-- an accepted text has no fault
+no_fault : OneVerdict → (text : List ℕ) (s : tree.Score) (line column number : ℕ) → Means text s → HasFault text line column number → ⊥
+no_fault one text s line column number means fault = one.apart text line column number (record { score = s; means = means }) fault
 
 module _ {S K : Type 0} (left : S → Option (List ℕ)) (source_faults : S → ℕ)
     (content : K → Option (List ℕ)) (sure : K → Option ℕ) (faults : K → ℕ)
-    (accepted : Type 0) (source source' : S) (sink sink' : K) where
+    (accepted : Type 0) (source source' : S) (sink sink' : K) (one : OneVerdict) where
   -- the sink counts no fault where it is sure of the file's length
-  sure_written : (text : List ℕ) (items : List PlainItem)
+  sure_written : (text : List ℕ) (score : tree.Score)
       → WritesScore left source_faults content sure faults accepted source source' sink sink'
-      → left source ≡ Some text → ReadsPlain text items
-      → HasRoom (content sink) (sure sink) (length (score_file items)) → faults sink' ≡ faults sink
+      → left source ≡ Some text → Means text score
+      → HasRoom (content sink) (sure sink) (length (score_file score)) → faults sink' ≡ faults sink
   unfolding score_file
-  sure_written text items w tells plain room =
-      w.file.quiet (rw (one_plain text w.items items (plain_told _ _ text w.items w.score tells) plain) room)
+  sure_written text score w tells plain room =
+      w.file.quiet (rw (one.score text w.score score (means_told _ _ text w.score w.taken tells) plain) room)
 
-  sure_broken : (text : List ℕ) (items : List PlainItem)
+  sure_broken : (text : List ℕ) (score : tree.Score)
       → BreaksScore left source_faults content sure faults accepted source source' sink sink'
-      → left source ≡ Some text → ReadsPlain text items
-      → HasRoom (content sink) (sure sink) (length (score_file items)) → faults sink' ≡ faults sink
+      → left source ≡ Some text → Means text score
+      → HasRoom (content sink) (sure sink) (length (score_file score)) → faults sink' ≡ faults sink
   unfolding score_file
-  sure_broken text items b tells plain room =
-      b.broken.quiet (rw (one_plain text b.items items (plain_told _ _ text b.items b.score tells) plain) room)
+  sure_broken text score b tells plain room =
+      b.broken.quiet (rw (one.score text b.score score (means_told _ _ text b.score b.taken tells) plain) room)
 
   sure_stopped : (fault : RunFault) → Holds left source_faults content sure faults accepted source source' sink sink' fault
-      → (text : List ℕ) (items : List PlainItem) → left source ≡ Some text → ReadsPlain text items
-      → HasRoom (content sink) (sure sink) (length (score_file items)) → faults sink' ≡ faults sink
-  sure_stopped Words h text items tells plain room = ap faults h.2
-  sure_stopped Read h text items tells plain room = ap faults h.2
-  sure_stopped (Score why) h text items tells plain room = ap faults h.2
-  sure_stopped Write h text items tells plain room = sure_broken text items h tells plain room
-  sure_stopped Memory h text items tells plain room = ap faults h.1
+      → (text : List ℕ) (score : tree.Score) → left source ≡ Some text → Means text score
+      → HasRoom (content sink) (sure sink) (length (score_file score)) → faults sink' ≡ faults sink
+  sure_stopped Words h text score tells plain room = ap faults h.2
+  sure_stopped Read h text score tells plain room = ap faults h.2
+  sure_stopped (Score spot number) h text score tells plain room = ap faults h.2
+  sure_stopped Write h text score tells plain room = sure_broken text score h tells plain room
+  sure_stopped Memory h text score tells plain room = ap faults h
 
   module _ {C : Type 0} (said : C → Option (List ℕ)) (room : C → Option ℕ) (console_faults : C → ℕ)
       (console console' : C) where
     -- of refused words
     words_end : (status : ℕ) (fault : RunFault) → Holds left source_faults content sure faults accepted source source' sink sink' fault
-        → (accepted → ⊥) → status ≡ fault_status fault → status ≡ WORDS_REFUSED
-    words_end status Words h none is = is
+        → (accepted → ⊥) → status ≡ fault_status fault → (status ≡ WORDS_REFUSED) ⊎ (status ≡ OUT_OF_MEMORY)
+    words_end status Words h none is = inl is
     words_end status Read h none is = absurd (none h.0)
-    words_end status (Score why) h none is = absurd (none h.0)
+    words_end status (Score spot number) h none is = absurd (none h.0)
     words_end status Write h none is = absurd (none h.words)
-    words_end status Memory h none is = absurd (none h.0)
+    words_end status Memory h none is = inr is
 
-    -- of a plain text
-    plain_end : (status : ℕ) (fault : RunFault) → Holds left source_faults content sure faults accepted source source' sink sink' fault
-        → (text : List ℕ) (items : List PlainItem) → accepted → left source ≡ Some text → ReadsPlain text items
+    -- of an accepted text
+    played_end : (status : ℕ) (fault : RunFault) → Holds left source_faults content sure faults accepted source source' sink sink' fault
+        → (text : List ℕ) (score : tree.Score) → accepted → left source ≡ Some text → Means text score
         → (Rose (source_faults source) (source_faults source') → ⊥) → (Rose (faults sink) (faults sink') → ⊥)
         → status ≡ fault_status fault → status ≡ OUT_OF_MEMORY
-    plain_end status Words h text items given tells plain still quiet is = absurd (h.0 given)
-    plain_end status Read h text items given tells plain still quiet is = absurd (still h.1)
-    plain_end status (Score why) h text items given tells plain still quiet is =
-        absurd (plain_accepted text items why plain (refused_told _ _ text why h.1 tells))
-    plain_end status Write h text items given tells plain still quiet is = absurd (quiet h.broken.rose)
-    plain_end status Memory h text items given tells plain still quiet is = is
+    played_end status Words h text score given tells means still quiet is = absurd (h.0 given)
+    played_end status Read h text score given tells means still quiet is = absurd (still h.1)
+    played_end status (Score spot number) h text score given tells means still quiet is =
+        absurd (no_fault one text score _ _ _ means (fault_told _ _ text spot number h.1 tells))
+    played_end status Write h text score given tells means still quiet is = absurd (quiet h.broken.rose)
+    played_end status Memory h text score given tells means still quiet is = is
+
+    -- the text for a fault at a place, which is that of a text
+    same_text : (text : List ℕ) (line column number k c n : ℕ) → HasFault text k c n → HasFault text line column number
+        → Puts said room console_faults console console' (place_text k c n)
+        → Puts said room console_faults console console' (place_text line column number)
+    same_text text line column number k c n found wanted puts =
+        let same = one.fault text k c n line column number found wanted in
+        subst (λ z. Puts said room console_faults console console' (place_text line column z)) same.2
+        (subst (λ z. Puts said room console_faults console console' (place_text line z n)) same.1
+        (subst (λ z. Puts said room console_faults console console' (place_text z c n)) same.0 puts))
 
     -- of a text that is refused
     refused_end : (status : ℕ) (fault : RunFault) → Holds left source_faults content sure faults accepted source source' sink sink' fault
-        → (text : List ℕ) (why : ScoreFault) → accepted → left source ≡ Some text → IsRefused text why
+        → (text : List ℕ) (line column number : ℕ) → accepted → left source ≡ Some text → HasFault text line column number
         → (Rose (source_faults source) (source_faults source') → ⊥)
         → status ≡ fault_status fault → Puts said room console_faults console console' (fault_text fault)
-        → ((status ≡ SCORE_REFUSED) × Puts said room console_faults console console' (refusal_text why)) ⊎ (status ≡ OUT_OF_MEMORY)
+        → ((status ≡ SCORE_REFUSED) × Puts said room console_faults console console' (place_text line column number))
+        ⊎ (status ≡ OUT_OF_MEMORY)
     unfolding fault_text
-    refused_end status Words h text why given tells refused still is puts = absurd (h.0 given)
-    refused_end status Read h text why given tells refused still is puts = absurd (still h.1)
-    refused_end status (Score f) h text why given tells refused still is puts =
-        let same : f ≡ why = one_refusal text f why (refused_told _ _ text f h.1 tells) refused in
-        inl (is, subst (λ z. Puts said room console_faults console console' (refusal_text z)) same puts)
-    refused_end status Write h text why given tells refused still is puts =
-        absurd (plain_accepted text h.items why (plain_told _ _ text h.items h.score tells) refused)
-    refused_end status Memory h text why given tells refused still is puts = inr is
+    refused_end status Words h text line column number given tells fault still is puts = absurd (h.0 given)
+    refused_end status Read h text line column number given tells fault still is puts = absurd (still h.1)
+    refused_end status (Score spot n) h text line column number given tells fault still is puts =
+        inl (is, same_text text line column number spot.line spot.column n (fault_told _ _ text spot n h.1 tells) fault puts)
+    refused_end status Write h text line column number given tells fault still is puts =
+        absurd (no_fault one text h.score line column number (means_told _ _ text h.score h.taken tells) fault)
+    refused_end status Memory h text line column number given tells fault still is puts = inr is
 
     -- of every text
     pub completes_of : (status : ℕ)
@@ -89,21 +108,22 @@ module _ {S K : Type 0} (left : S → Option (List ℕ)) (source_faults : S → 
         console console' status
     completes_of status (plays done w same) = record {
       unaccepted = λ none quiet. absurd (none w.words);
-      played = λ text items given tells plain still quiet silent. inl done;
-      refused = λ text why given tells refused still silent.
-          absurd (plain_accepted text w.items why (plain_told _ _ text w.items w.score tells) refused);
-      quiet = λ text items tells plain room. sure_written text items w tells plain room;
+      played = λ text score given tells means still quiet silent. inl done;
+      refused = λ text line column number given tells fault still silent.
+          absurd (no_fault one text w.score line column number (means_told _ _ text w.score w.taken tells) fault);
+      quiet = λ text score tells means room. sure_written text score w tells means room;
     }
     completes_of status (stops fault h (told is puts)) = record {
       unaccepted = λ none quiet. words_end status fault h none is;
-      played = λ text items given tells plain still quiet silent.
-          inr (plain_end status fault h text items given tells plain still quiet is);
-      refused = λ text why given tells refused still silent. refused_end status fault h text why given tells refused still is puts;
-      quiet = λ text items tells plain room. sure_stopped fault h text items tells plain room;
+      played = λ text score given tells means still quiet silent.
+          inr (played_end status fault h text score given tells means still quiet is);
+      refused = λ text line column number given tells found still silent.
+          refused_end status fault h text line column number given tells found still is puts;
+      quiet = λ text score tells means room. sure_stopped fault h text score tells means room;
     }
     completes_of status (stops fault h (untold five breaks)) = record {
       unaccepted = λ none quiet. absurd (quiet breaks.rose);
-      played = λ text items given tells plain still quiet silent. absurd (silent breaks.rose);
-      refused = λ text why given tells refused still silent. absurd (silent breaks.rose);
-      quiet = λ text items tells plain room. sure_stopped fault h text items tells plain room;
+      played = λ text score given tells means still quiet silent. absurd (silent breaks.rose);
+      refused = λ text line column number given tells found still silent. absurd (silent breaks.rose);
+      quiet = λ text score tells means room. sure_stopped fault h text score tells means room;
     }

@@ -1,11 +1,7 @@
 pub mod Reading
 pub mod Digits
-pub mod Counting
-pub mod PlainLemmas
-pub mod MarkLemmas
-pub mod PieceLemmas
-pub mod Playing
 pub mod Placing
 pub mod Judged
+pub mod Playing
 pub mod Completing
 pub mod PlaceRows

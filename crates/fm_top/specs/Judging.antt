@@ -1,47 +1,29 @@
--- What is said of a text: that it is a plain score of these items, or why it is refused.
-use Rattle.std.specs.Prelude.{◌≡◌, ℕ, ◌<◌, ◌≤◌, List, length, Some, None}
-use Rattle.fm_lex.specs.declared.lexer.TheConstants.{MAX_TEXT}
-use Rattle.fm_lex.specs.Tokens.{tokens}
+-- What is said of a text: the plan of what it means, or its fault.
+use Rattle.std.specs.Prelude.{◌≡◌, List, ℕ, Some}
 use Rattle.fm_grammar.specs.Score.{Score}
-use Rattle.fm_grammar.specs.Within.{limits}
-use Rattle.fm_grammar.specs.Reads.{Fault, Reads, TripsWith}
-use Rattle.fm_meaning.specs.Fault.{NumberedFault, too_much_text}
-use Rattle.fm_meaning.specs.Verdict.{grammar_fault}
-use Rattle.fm_top.specs.declared.score_fault.ScoreFault.{ScoreFault}
-use Rattle.fm_top.specs.declared.score_fault.ScoreFault.TheVariants.{At, NotPlain}
+use Rattle.fm_meaning.specs.Faults.{score_faults, first_found}
+use Rattle.fm_meaning.specs.Verdict.{HasFault, Means}
+use Rattle.fm_check.specs.Why.{fault_at}
+use Rattle.fm_check.specs.declared.fault.CheckFault.{CheckFault}
+use Rattle.fm_check.specs.declared.fault.CheckFault.TheVariants.{Refused, Memory}
+use Rattle.fm_program.specs.Parts.{PlanParts}
+use Rattle.fm_expansion.specs.Numbering.{score_plan}
 use Rattle.fm_top.specs.declared.run_fault.RunFault.{RunFault}
 use Rattle.fm_top.specs.declared.run_fault.RunFault.TheVariants as run
-use Rattle.fm_top.specs.declared.plain_item.PlainItem.{PlainItem}
-use Rattle.fm_top.specs.Plain.{plain_items}
 
--- the text reads as a plain score of these items
-pub record ReadsPlain (text : List ℕ) (items : List PlainItem) : Type 0 where
-  pub within : length text ≤ MAX_TEXT
+-- the plan is that of the score that the text means
+pub record IsPlanned (text : List ℕ) (plan : PlanParts) : Type 0 where
   pub score : Score
-  pub reads : Reads limits (tokens text) score
-  pub plain : plain_items score ≡ Some items
+  pub means : Means text score
+  pub planned : plan ≡ score_plan score
 
--- the text reads as a score that is not plain
-pub record ReadsUnplain (text : List ℕ) : Type 0 where
-  pub within : length text ≤ MAX_TEXT
-  pub score : Score
-  pub reads : Reads limits (tokens text) score
-  pub unplain : plain_items score ≡ None
+-- the fault of the checker is the first one of a score, or want of memory
+abbrev pub IsFirst : CheckFault → Score → Type 0
+IsFirst (Refused why spot) score = first_found (score_faults score) ≡ Some (fault_at spot why)
+IsFirst Memory score = Unit {0}
 
--- the text does not read as a score: it is longer than any that is read, or its tokens trip with this fault
-pub data HasPlace (text : List ℕ) (fault : NumberedFault) : Type 0 where
-  too_much : MAX_TEXT < length text
-      → fault ≡ record { spot = record { line = 1; column = 1 }; number = too_much_text } → HasPlace text fault
-  trips : length text ≤ MAX_TEXT → (why : Fault) → TripsWith (tokens text) why
-      → fault ≡ grammar_fault why → HasPlace text fault
-
--- why a text is refused
-abbrev pub IsRefused : List ℕ → ScoreFault → Type 0
-IsRefused text (At spot number) = HasPlace text (record { spot = spot; number = number })
-IsRefused text NotPlain = ReadsUnplain text
-
--- the fault of judging a text: why it is refused, or want of memory
+-- the fault of judging a text: its first fault, or want of memory
 abbrev pub IsJudged : List ℕ → RunFault → Type 0
-IsJudged text (run.Score why) = IsRefused text why
+IsJudged text (run.Score spot number) = HasFault text spot.line spot.column number
 IsJudged text run.Memory = Unit {0}
 IsJudged text fault = ⊥

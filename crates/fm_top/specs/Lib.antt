@@ -1,9 +1,5 @@
-pub mod Plain
-pub mod Meaning
 pub mod Judging
 pub mod Taking
 pub mod Telling
 pub mod Outcome
-pub mod Rows
-pub mod PlainRows
 pub mod TellingRows

@@ -1,13 +1,15 @@
 -- What a run takes from its source. Where the source tells its bytes, each text here is a front of them.
 use Rattle.std.specs.Prelude.{◌≡◌, ◌⊎◌, ℕ, ◌+◌, ◌<◌, ◌≤◌, List, [], length, Option, IfSome}
 use Rattle.std.specs.Io.KnownBytes.{prepend_known}
+use Rattle.fm_edge.specs.Causes.{Rose}
 use Rattle.fm_lex.specs.declared.lexer.TheConstants.{MAX_TEXT}
-use Rattle.fm_top.specs.declared.plain_item.PlainItem.{PlainItem}
-use Rattle.fm_top.specs.declared.score_fault.ScoreFault.{ScoreFault}
+use Rattle.fm_lex.specs.declared.spot.Spot.{Spot}
+use Rattle.fm_grammar.specs.Score.{Score}
+use Rattle.fm_meaning.specs.Verdict.{HasFault, Means}
+use Rattle.fm_program.specs.Parts.{PlanParts}
+use Rattle.fm_top.specs.Judging.{IsPlanned}
 use Rattle.fm_top.specs.declared.run_fault.RunFault.{RunFault}
 use Rattle.fm_top.specs.declared.run_fault.RunFault.TheVariants as run
-use Rattle.fm_edge.specs.Causes.{Rose}
-use Rattle.fm_top.specs.Judging.{ReadsPlain, IsRefused}
 
 -- a text was taken that passes the limit by one byte at most, and the count of faults didn't fall
 pub record Takes {S : Type 0} (left : S → Option (List ℕ)) (faults : S → ℕ) (old new : S) : Type 0 where
@@ -28,22 +30,28 @@ pub record TakesLong (old new : Option (List ℕ)) : Type 0 where
   pub taken : old ≡ prepend_known text new
   pub long : MAX_TEXT < length text
 
--- a text was taken to its end, and reads as a plain score of these items
-pub record TakesScore (old new : Option (List ℕ)) (items : List PlainItem) : Type 0 where
+-- a text was taken to its end, and means this score
+pub record TakesScore (old new : Option (List ℕ)) (score : Score) : Type 0 where
   pub text : List ℕ
   pub all : TakesAll old new text
-  pub plain : ReadsPlain text items
+  pub means : Means text score
 
--- a text was taken, to its end or past the limit, and is refused for this fault
-pub record TakesFault (old new : Option (List ℕ)) (why : ScoreFault) : Type 0 where
+-- a text was taken to its end, and this is the plan of what it means
+pub record TakesPlan (old new : Option (List ℕ)) (plan : PlanParts) : Type 0 where
+  pub text : List ℕ
+  pub all : TakesAll old new text
+  pub planned : IsPlanned text plan
+
+-- a text was taken, to its end or past the limit, and has this fault
+pub record TakesFault (old new : Option (List ℕ)) (spot : Spot) (number : ℕ) : Type 0 where
   pub text : List ℕ
   pub taken : old ≡ prepend_known text new
   pub whole : (MAX_TEXT < length text) ⊎ IfSome new (λ l. l ≡ [])
-  pub refused : IsRefused text why
+  pub fault : HasFault text spot.line spot.column number
 
--- the fault of taking a score: a read failed, or the text was taken and is refused, or want of memory
+-- the fault of taking a score: a read failed, or the text was taken and has a fault, or want of memory
 abbrev pub IsTaken : {S : Type 0} → (left : S → Option (List ℕ)) → (faults : S → ℕ) → (old new : S) → RunFault → Type 0
 IsTaken left faults old new run.Read = Rose (faults old) (faults new)
-IsTaken left faults old new (run.Score why) = TakesFault (left old) (left new) why
+IsTaken left faults old new (run.Score spot number) = TakesFault (left old) (left new) spot number
 IsTaken left faults old new run.Memory = Unit {0}
 IsTaken left faults old new fault = ⊥

@@ -2,8 +2,6 @@
 use Rattle.std.specs.Prelude.{◌≡◌, ℕ, List, ◌++◌, codes, decimal, Option}
 use Rattle.fm_edge.specs.Runs.{Puts, Breaks}
 use Rattle.fm_top.specs.declared.status.TheConstants.{WORDS_REFUSED, READ_FAULT, SCORE_REFUSED, WRITE_FAULT, CONSOLE_FAULT, OUT_OF_MEMORY}
-use Rattle.fm_top.specs.declared.score_fault.ScoreFault.{ScoreFault}
-use Rattle.fm_top.specs.declared.score_fault.ScoreFault.TheVariants.{At, NotPlain}
 use Rattle.fm_top.specs.declared.run_fault.RunFault.{RunFault}
 use Rattle.fm_top.specs.declared.run_fault.RunFault.TheVariants.{Words, Read, Score, Write, Memory}
 
@@ -11,26 +9,21 @@ use Rattle.fm_top.specs.declared.run_fault.RunFault.TheVariants.{Words, Read, Sc
 abbrev pub fault_status : RunFault → ℕ
 fault_status Words = WORDS_REFUSED
 fault_status Read = READ_FAULT
-fault_status (Score why) = SCORE_REFUSED
+fault_status (Score spot number) = SCORE_REFUSED
 fault_status Write = WRITE_FAULT
 fault_status Memory = OUT_OF_MEMORY
 
--- the text for a score that is refused at a place: line, column and number in decimal
+-- the text for a refused score: its line, column and number in decimal
 abbrev pub place_text : (line column number : ℕ) → List ℕ
 place_text line column number =
     codes "formula: score refused: " ++ decimal line ++ codes ":" ++ decimal column
     ++ codes " fault " ++ decimal number ++ codes "\n"
 
--- the text for a refused score
-abbrev pub refusal_text : ScoreFault → List ℕ
-refusal_text (At spot number) = place_text spot.line spot.column number
-refusal_text NotPlain = codes "formula: score refused\n"
-
 -- the text for a fault
 unfoldable pub fault_text : RunFault → List ℕ
 fault_text Words = codes "formula: words refused\n"
 fault_text Read = codes "formula: read fault\n"
-fault_text (Score why) = refusal_text why
+fault_text (Score spot number) = place_text spot.line spot.column number
 fault_text Write = codes "formula: write fault\n"
 fault_text Memory = codes "formula: out of memory\n"
 

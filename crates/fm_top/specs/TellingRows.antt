@@ -1,12 +1,11 @@
 -- Worked examples of the texts on the console.
 use Rattle.std.specs.Prelude.{◌≡◌, ℕ, codes, refl}
-use Rattle.fm_top.specs.declared.score_fault.ScoreFault.TheVariants.{At, NotPlain}
 use Rattle.fm_top.specs.declared.run_fault.RunFault.{RunFault}
 use Rattle.fm_top.specs.declared.run_fault.RunFault.TheVariants.{Words, Read, Score, Write, Memory}
 use Rattle.fm_top.specs.Telling.{fault_status, fault_text}
 
 abbrev at : ℕ → ℕ → ℕ → RunFault
-at line column number = Score (At (record { line = line; column = column }) number)
+at line column number = Score (record { line = line; column = column }) number
 
 text-of_words : fault_text Words ≡ codes "formula: words refused\n"
 unfolding fault_text
@@ -15,10 +14,6 @@ text-of_words = refl
 text-of_read : fault_text Read ≡ codes "formula: read fault\n"
 unfolding fault_text
 text-of_read = refl
-
-text-of_unplain : fault_text (Score NotPlain) ≡ codes "formula: score refused\n"
-unfolding fault_text
-text-of_unplain = refl
 
 text-of_write : fault_text Write ≡ codes "formula: write fault\n"
 unfolding fault_text
@@ -36,9 +31,6 @@ status-of_read = refl
 
 status-of_score : fault_status (at 1 1 18) ≡ 3
 status-of_score = refl
-
-status-of_unplain : fault_status (Score NotPlain) ≡ 3
-status-of_unplain = refl
 
 status-of_write : fault_status Write ≡ 4
 status-of_write = refl

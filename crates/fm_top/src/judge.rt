@@ -1,26 +1,32 @@
-//! Judges a text: its items, or why it is refused.
+//! Judges a text: the plan of what it means, or its fault.
 ghost use Rattle.std.specs.Prelude.{◌≡◌, ◌≤◌, List, ℕ, length, IfOk, IfErr};
 ghost use Rattle.fm_lex.specs.declared.lexer.TheConstants.{MAX_TEXT};
 ghost use Rattle.fm_lex.specs.Tokens.{tokens};
-ghost use Rattle.fm_grammar.specs.Reads.{lexical, TripsWith};
+ghost use Rattle.fm_grammar.specs.Score.{Score as Tree};
+ghost use Rattle.fm_grammar.specs.Within.{limits};
+ghost use Rattle.fm_grammar.specs.Reads.{lexical, Reads, TripsWith};
 ghost use Rattle.fm_parse.specs.Whole.{IsFault};
-ghost use Rattle.fm_top.specs.Plain.{AreItems};
-ghost use Rattle.fm_top.specs.Judging.{ReadsPlain, IsJudged};
+ghost use Rattle.fm_top.specs.Judging.{IsFirst, IsPlanned, IsJudged};
 
-use crate::plain::items_of_score;
-use crate::plain_item::PlainItem;
 use crate::run_fault::RunFault;
-use crate::score_fault::{BAD_BYTE, BAD_NUMBER, NESTED_TOO_DEEP, NOT_EXPECTED, ScoreFault};
-use fm_lex::{LexFault, MAX_TEXT, Spot};
+use fm_check::{CheckFault, check};
+use fm_lex::{LexFault, MAX_TEXT};
 use fm_parse::{ParseFault, parse};
+use fm_plan::plan;
+use fm_program::Plan;
 use std::alloc::Global;
 
-// A fault with a place.
-fn fault_at(spot: Spot, number: u8) -> RunFault
-    ensures { result ≡ RunFault.Score (ScoreFault.At spot number) }
-{
-    RunFault::Score(ScoreFault::At { spot, number })
-}
+/// A byte that begins no token.
+const BAD_BYTE: u8 = 1;
+
+/// A number of too many digits, or with a letter behind it.
+const BAD_NUMBER: u8 = 2;
+
+/// A token that stands there in no text.
+const NOT_EXPECTED: u8 = 3;
+
+/// A token that stands there only past 64 open braces, or past 64 tokens of an expression.
+const NESTED_TOO_DEEP: u8 = 4;
 
 // The fault of a text with a byte or a number that is no token.
 fn fault_of_token(fault: LexFault) -> RunFault
@@ -28,8 +34,14 @@ fn fault_of_token(fault: LexFault) -> RunFault
         → IsJudged text result }
 {
     match fault {
-        LexFault::BadByte { spot } => fault_at(spot, BAD_BYTE),
-        LexFault::BadNumber { spot } => fault_at(spot, BAD_NUMBER),
+        LexFault::BadByte { spot } => RunFault::Score {
+            spot,
+            number: BAD_BYTE,
+        },
+        LexFault::BadNumber { spot } => RunFault::Score {
+            spot,
+            number: BAD_NUMBER,
+        },
     }
 }
 
@@ -40,26 +52,44 @@ fn fault_of(fault: ParseFault) -> RunFault
 {
     match fault {
         ParseFault::Lex(fault) => fault_of_token(fault),
-        ParseFault::Expected { spot } => fault_at(spot, NOT_EXPECTED),
-        ParseFault::TooNested { spot } => fault_at(spot, NESTED_TOO_DEEP),
+        ParseFault::Expected { spot } => RunFault::Score {
+            spot,
+            number: NOT_EXPECTED,
+        },
+        ParseFault::TooNested { spot } => RunFault::Score {
+            spot,
+            number: NESTED_TOO_DEEP,
+        },
         ParseFault::Memory => RunFault::Memory,
     }
 }
 
-/// The items of a text of at most 1,048,576 bytes, or why it is refused.
-pub fn judge(alloc: Global, text: &[u8]) -> Result<Vec<PlainItem>, RunFault>
+// The fault of a text that reads as a score which is refused.
+fn fault_of_check(fault: CheckFault) -> RunFault
+    ensures { (text : List ℕ) (s : Tree) → length text ≤ MAX_TEXT → Reads limits (tokens text) s
+        → IsFirst fault s → IsJudged text result }
+{
+    match fault {
+        CheckFault::Refused { why, spot } => RunFault::Score {
+            spot,
+            number: why.number(),
+        },
+        CheckFault::Memory => RunFault::Memory,
+    }
+}
+
+/// The plan of what a text of at most 1,048,576 bytes means, or its fault.
+pub fn judge(alloc: Global, text: &[u8]) -> Result<Plan, RunFault>
     requires { length text.now ≤ MAX_TEXT }
-    ensures plain { IfOk result (λ items. ReadsPlain text.now items.items) }
-    ensures limits { IfOk result (λ items. AreItems items.items) }
+    ensures planned { IfOk result (λ p. IsPlanned text.now p) }
     ensures refused { IfErr result (λ fault. IsJudged text.now fault) }
 {
     let score = match parse(alloc, text) {
         Ok(score) => score,
         Err(fault) => return Err(fault_of(fault)),
     };
-    match items_of_score(alloc, &score) {
-        Ok(Some(items)) => Ok(items),
-        Ok(None) => Err(RunFault::Score(ScoreFault::NotPlain)),
-        Err(_) => Err(RunFault::Memory),
+    if let Err(fault) = check(alloc, &score) {
+        return Err(fault_of_check(fault));
     }
+    Ok(plan(alloc, &score)?)
 }

@@ -1,20 +1,31 @@
 //! Why a run has no file to show.
+ghost use Rattle.std.specs.Prelude.{◌≡◌};
+ghost use Rattle.fm_top.specs.declared.run_fault.RunFault.TheVariants.{Memory};
 
-use crate::score_fault::ScoreFault;
+use fm_lex::Spot;
+use std::alloc::AllocError;
 use thiserror::Error;
 
 /// Why a run does not end with the file of its score.
 #[derive(Clone, Copy, Debug, PartialEq, Eq, Drop, Error)]
 pub enum RunFault {
-    /// There are not two words.
     #[error("words refused")]
     Words,
     #[error("read fault")]
     Read,
-    #[error("score refused")]
-    Score(ScoreFault),
+    /// The text has its first fault at the spot, with a number from 1 to 18.
+    #[error("score refused: {spot} fault {number}")]
+    Score { spot: Spot, number: u8 },
     #[error("write fault")]
     Write,
     #[error("out of memory")]
     Memory,
+}
+
+impl From<AllocError> for RunFault {
+    ghost from_gives = { λ _ e. e ≡ Memory };
+
+    fn from(_: AllocError) -> Self {
+        RunFault::Memory
+    }
 }

@@ -4,7 +4,6 @@ ghost use Rattle.arrayvec.specs.ArrayVec.{array_vec_len};
 ghost use Rattle.fm_top.specs.Telling.{fault_status, place_text, fault_text, Tells};
 
 use crate::run_fault::RunFault;
-use crate::score_fault::ScoreFault;
 use crate::status::{
     CONSOLE_FAULT, OUT_OF_MEMORY, READ_FAULT, SCORE_REFUSED, WORDS_REFUSED, WRITE_FAULT,
 };
@@ -72,8 +71,7 @@ fn text_of(fault: RunFault) -> Text
     match fault {
         RunFault::Words => fixed_text(b"formula: words refused\n"),
         RunFault::Read => fixed_text(b"formula: read fault\n"),
-        RunFault::Score(ScoreFault::At { spot, number }) => text_at(spot.line, spot.column, number),
-        RunFault::Score(ScoreFault::NotPlain) => fixed_text(b"formula: score refused\n"),
+        RunFault::Score { spot, number } => text_at(spot.line, spot.column, number),
         RunFault::Write => fixed_text(b"formula: write fault\n"),
         RunFault::Memory => fixed_text(b"formula: out of memory\n"),
     }
@@ -86,7 +84,7 @@ fn status_of(fault: RunFault) -> u8
     match fault {
         RunFault::Words => WORDS_REFUSED,
         RunFault::Read => READ_FAULT,
-        RunFault::Score(_) => SCORE_REFUSED,
+        RunFault::Score { .. } => SCORE_REFUSED,
         RunFault::Write => WRITE_FAULT,
         RunFault::Memory => OUT_OF_MEMORY,
     }

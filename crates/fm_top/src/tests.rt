@@ -26,6 +26,9 @@ const AFTER_LONG_RESTS: [u8; 23] = [
 
 const NOTE: &str = "formula 1; note c4 1/4;";
 
+const THREE_BRANCHES: &str = "formula 1; par { branch { note c4 1/4; } branch { note e4 1/8; } \
+    branch { note g4 1/2; } }";
+
 /// More bytes than any file of these tests has.
 const CAPACITY: usize = 1_000;
 
@@ -137,6 +140,20 @@ fn texts_become_files(rt: HostRuntime) -> Result<(), Fail> {
         ("formula 1;", NO_NOTE.as_slice()),
         (NOTE, QUARTER.as_slice()),
         ("formula 1; note c4 ticks 0;", NO_LENGTH.as_slice()),
+        (
+            THREE_BRANCHES,
+            &[
+                0, 0x90, 0x3C, 0x40, 0, 0x90, 0x40, 0x40, 0, 0x90, 0x43, 0x40, 0x81, 0x58, 0x80,
+                0x40, 0x40, 0x81, 0x58, 0x80, 0x3C, 0x40, 0x83, 0x30, 0x80, 0x43, 0x40, 0x60, 0xFF,
+                0x2F, 0,
+            ],
+        ),
+        (
+            "formula 1; note key (60 + pick(12)) 1/4;",
+            &[
+                0, 0x90, 0x47, 0x40, 0x83, 0x30, 0x80, 0x47, 0x40, 0x30, 0xFF, 0x2F, 0,
+            ],
+        ),
     ] {
         let file = file_of(&rt, alloc, text)?;
         assert_eq!(rt; file, Some(file_with(alloc, tail, 4)?), "at {text}");
@@ -163,7 +180,6 @@ fn statuses_and_texts_that_leave_the_sink(rt: HostRuntime) -> Result<(), Fail> {
     let alloc = rt.alloc();
     let words = "formula: words refused\n";
     let read = "formula: read fault\n";
-    let unplain = "formula: score refused\n";
     for (text, count, reads, status, said) in [
         (NOTE, 0, [].as_slice(), 1, words),
         (NOTE, 1, [].as_slice(), 1, words),
@@ -171,9 +187,6 @@ fn statuses_and_texts_that_leave_the_sink(rt: HostRuntime) -> Result<(), Fail> {
         (NOTE, 2, [1].as_slice(), 2, read),
         (NOTE, 2, [2].as_slice(), 2, read),
         ("", 2, [1].as_slice(), 2, read),
-        ("formula 1; note c4 1/7;", 2, [].as_slice(), 3, unplain),
-        ("formula 2;", 2, [].as_slice(), 3, unplain),
-        ("formula 1; do x;", 2, [].as_slice(), 3, unplain),
     ] {
         let ran = run_with_faults(&rt, alloc, text.as_bytes(), count, (reads, &[], &[]))?;
         assert_eq!(rt; ran.status, status, "at {count} words and the text {text}");
@@ -199,6 +212,31 @@ fn places_of_faults(rt: HostRuntime) -> Result<(), Fail> {
         (lines.as_str(), "41001:1 fault 3"),
         (deep.as_str(), "1:396 fault 4"),
         (negated.as_str(), "1:84 fault 4"),
+        ("formula 1; note c4 1/7;", "1:20 fault 8"),
+        ("formula 1; do x;", "1:15 fault 6"),
+        ("formula 2;", "1:9 fault 7"),
+        ("formula 1; play c4;", "1:12 fault 10"),
+        ("formula 1; rest ticks (n0) max 5;", "1:12 fault 11"),
+        (
+            "formula 1; shape a = pause ticks 1; phrase a { }",
+            "1:44 fault 5",
+        ),
+        (
+            "formula 1; repeat (pick(4)) max 4 { par { branch { } } }",
+            "1:37 fault 9",
+        ),
+        (
+            "formula 1; repeat 2048 { par { branch { } } }",
+            "1:12 fault 13",
+        ),
+        (
+            "formula 1; repeat 1000000 { note c4, d4, e4 ticks 0; }",
+            "1:12 fault 16",
+        ),
+        (
+            "formula 1; repeat 1000000 { repeat 16 { } }",
+            "1:12 fault 17",
+        ),
     ] {
         let ran = run_with_faults(&rt, alloc, text.as_bytes(), 2, (&[], &[], &[]))?;
         let said = format!(in alloc; "formula: score refused: {place}\n")?;
@@ -269,18 +307,5 @@ fn each_write_fails_after_each_byte(rt: HostRuntime) -> Result<(), Fail> {
         assert_eq!(rt; ran.sink.content(), patched.as_slice());
         assert_eq!(rt; ran.console.content(), said);
     }
-    Ok(())
-}
-
-#[test]
-fn two_words_are_names(rt: HostRuntime) -> Result<(), Fail> {
-    let alloc = rt.alloc();
-    let (source, target) = names(alloc, &some_words(alloc, 2)?)?;
-    assert_eq!(rt; source.as_str(), "a.txt");
-    assert_eq!(rt; target.as_str(), "b.mid");
-    assert_eq!(rt;
-        names(alloc, &some_words(alloc, 1)?).err(),
-        Some(NameFault::Words)
-    );
     Ok(())
 }
