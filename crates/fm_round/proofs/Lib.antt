@@ -14,3 +14,4 @@ pub mod Gathering
 pub mod Finding
 pub mod Whole
 pub mod Freshness
+pub mod Rows

@@ -16,6 +16,8 @@ mod release;
 mod rounds;
 mod run;
 mod slot;
+#[cfg(test)]
+mod tests;
 
 pub use fm_strand::Plan;
 pub use limits::{MAX_PROCESSES, MAX_WORKERS};

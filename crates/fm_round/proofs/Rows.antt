@@ -1,0 +1,61 @@
+-- A plan of two voices that fork and join: it fits, and its lines are valid.
+use Rattle.std.proofs.Common.{◌≡◌, ℕ, List, [], ◌∷◌, refl, sym, subst, arith}
+use Rattle.std.specs.Prelude.{pos}
+use Rattle.fm_line.specs.Line.{ValidLines, total}
+use Rattle.fm_line.proofs.Validity.{valid_from}
+use Rattle.fm_program.specs.declared.op.Draw.TheVariants as draw
+use Rattle.fm_program.specs.declared.op.Span.TheVariants as span
+use Rattle.fm_program.specs.declared.op.Turn.TheVariants as turn
+use Rattle.fm_program.specs.declared.op.Op.{Op}
+use Rattle.fm_program.specs.declared.op.Op.TheVariants as op
+use Rattle.fm_program.specs.Parts.{PlanParts, ProgramParts, StockParts}
+use Rattle.fm_program.specs.Process.{plan_lines, plan_played}
+use Rattle.fm_program.specs.Fit.{PartsFit, all_steps}
+use Rattle.fm_program.proofs.Rows.{fits_by, plain_profile}
+
+-- a note of a chord
+abbrev pub voice : ℕ → ℕ → Op
+voice chord ticks = op.Note chord (span.Ticks ticks) 0 (turn.Steady 90) (turn.Steady 64) 0
+
+-- a program that waits for these
+abbrev pub waiting : List Op → List ℕ → ProgramParts
+waiting ops predecessors = record { ops = ops; cycles = []; levels = []; predecessors = predecessors }
+
+-- two voices between two empty processes
+abbrev pub two_voices : PlanParts
+two_voices = record {
+  stock = record {
+    exprs = [];
+    lists = [];
+    chords = (draw.Fixed (pos 60) ∷ []) ∷ (draw.Fixed (pos 64) ∷ []) ∷ [];
+    scopes = [] ∷ [];
+    warps = [];
+  };
+  programs = waiting [] [] ∷ waiting (voice 0 480 ∷ []) (0 ∷ []) ∷ waiting (voice 1 240 ∷ []) (0 ∷ []) ∷ waiting [] (1 ∷ 2 ∷ []) ∷ [];
+  seed = 0;
+  profile = plain_profile;
+}
+
+-- it takes so many steps
+two_steps : all_steps (plan_played two_voices) ≡ 6
+two_steps = refl
+
+-- and has so many events
+two_events : total (plan_lines two_voices) ≡ 4
+two_events = refl
+
+-- it fits
+pub two_fit : PartsFit two_voices
+two_fit = fits_by _ (omega arith) (omega arith) refl refl refl refl refl refl (rw two_steps (omega arith)) (rw two_events (omega arith))
+
+-- and its lines are valid
+pub two_valid : ValidLines (plan_lines two_voices)
+two_valid = valid_from (plan_lines two_voices) refl
+
+-- so does a plan that is the same
+pub fit_as : (p : PlanParts) → p ≡ two_voices → PartsFit p
+fit_as p is = subst PartsFit (sym is) two_fit
+
+-- and so are its lines
+pub valid_as : (p : PlanParts) → p ≡ two_voices → ValidLines (plan_lines p)
+valid_as p is = subst (λ (q : PlanParts). ValidLines (plan_lines q)) (sym is) two_valid

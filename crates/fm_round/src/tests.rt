@@ -1,0 +1,107 @@
+//! Two voices that start together and end at different times, played in both ways.
+ghost use Rattle.std.specs.Prelude.{◌≡◌, IfOk};
+ghost use Rattle.fm_line.specs.Line.{ValidLines};
+ghost use Rattle.fm_msg.specs.declared.profile.TheConstants.{DIVISION};
+ghost use Rattle.fm_program.specs.Process.{plan_lines};
+
+use crate::Rounds;
+use fm_edge::{MemorySink, OpenGate};
+use fm_msg::Profile;
+use fm_program::{Draw, Op, Plan, Program, Slot, Span, Stock, Turn};
+use std::alloc::{AllocError, Global};
+use std::test::Fail;
+
+/// The file: two note-ons at 0, note-offs at 216 and 432, the end at 480.
+const FILE: [u8; 51] = [
+    0x4D, 0x54, 0x68, 0x64, 0, 0, 0, 6, 0, 0, 0, 1, 1, 0xE0, 0x4D, 0x54, 0x72, 0x6B, 0, 0, 0, 0x1D,
+    0, 0xFF, 0x51, 3, 7, 0xA1, 0x20, 0, 0x90, 0x3C, 0x40, 0, 0x90, 0x40, 0x40, 0x81, 0x58, 0x80,
+    0x40, 0x40, 0x81, 0x58, 0x80, 0x3C, 0x40, 0x30, 0xFF, 0x2F, 0,
+];
+
+/// A quarter note of the first chord.
+const LONG: Op = Op::Note {
+    chord: 0,
+    span: Span::Ticks { ticks: 480 },
+    channel: 0,
+    gate: Turn::Steady { value: 90 },
+    loud: Turn::Steady { value: 64 },
+    scope: 0,
+};
+
+/// An eighth note of the second one.
+const SHORT: Op = Op::Note {
+    chord: 1,
+    span: Span::Ticks { ticks: 240 },
+    channel: 0,
+    gate: Turn::Steady { value: 90 },
+    loud: Turn::Steady { value: 64 },
+    scope: 0,
+};
+
+// Two voices between two empty processes.
+fn plan_of_two_voices(alloc: Global) -> Result<Plan, AllocError>
+    ensures valid { IfOk result (λ plan. ValidLines (plan_lines plan)) }
+    ensures division { IfOk result (λ plan. plan.profile.division ≡ DIVISION) }
+{
+    let first = vec![in alloc; Draw::Fixed { value: 60 }]?;
+    let second = vec![in alloc; Draw::Fixed { value: 64 }]?;
+    let no_loops: Vec<Slot> = Vec::new(alloc);
+    let stock = Stock {
+        exprs: Vec::new(alloc),
+        lists: Vec::new(alloc),
+        chords: vec![in alloc; first, second]?,
+        scopes: vec![in alloc; no_loops]?,
+        warps: Vec::new(alloc),
+    };
+    let root = Program {
+        ops: Vec::new(alloc),
+        cycles: Vec::new(alloc),
+        levels: Vec::new(alloc),
+        predecessors: Vec::new(alloc),
+    };
+    let long = Program {
+        ops: vec![in alloc; LONG]?,
+        cycles: Vec::new(alloc),
+        levels: Vec::new(alloc),
+        predecessors: vec![in alloc; 0]?,
+    };
+    let short = Program {
+        ops: vec![in alloc; SHORT]?,
+        cycles: Vec::new(alloc),
+        levels: Vec::new(alloc),
+        predecessors: vec![in alloc; 0]?,
+    };
+    let close = Program {
+        ops: Vec::new(alloc),
+        cycles: Vec::new(alloc),
+        levels: Vec::new(alloc),
+        predecessors: vec![in alloc; 1, 2]?,
+    };
+    let programs = vec![in alloc; root, long, short, close]?;
+    Ok(Plan::of(stock, programs, 0, Profile::first()))
+}
+
+#[test]
+fn two_voices_have_these_bytes(rt: HostRuntime) -> Result<(), Fail> {
+    let alloc = rt.alloc();
+    let plan = plan_of_two_voices(alloc)?;
+    let copy = plan.copy(alloc)?;
+
+    let mut alone = MemorySink::new(alloc, 100, Vec::new(alloc))?;
+    let played = Rounds::open(alloc, plan, 1, 0)?.play_alone(&mut alone).ok();
+    assert_eq!(rt;
+        played.map(|p| (p.events, p.last, p.bytes)),
+        Some((4, 480, 51))
+    );
+    assert_eq!(rt; alone.content(), FILE.as_slice());
+
+    let mut shared = MemorySink::new(alloc, 100, Vec::new(alloc))?;
+    let rounds = Rounds::open(alloc, copy, 64, 1_000_000)?;
+    let played = rounds.play(&rt, 4, &OpenGate, &mut shared).ok();
+    assert_eq!(rt;
+        played.map(|p| (p.events, p.last, p.bytes)),
+        Some((4, 480, 51))
+    );
+    assert_eq!(rt; shared.content(), FILE.as_slice());
+    Ok(())
+}
