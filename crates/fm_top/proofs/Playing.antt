@@ -1,5 +1,5 @@
 -- What was written of a plan is the file of what the text means.
-use Rattle.std.proofs.Common.{◌≡◌, ℕ, ◌-◌, List, length, Option, ap, sym, ◌∙◌, subst}
+use Rattle.std.proofs.Common.{◌≡◌, ℕ, ◌-◌, List, length, Option, Some, None, ap, sym, ◌∙◌, subst}
 use Rattle.fm_line.specs.Line.{line, ValidLines}
 use Rattle.fm_line.specs.Piece.{piece}
 use Rattle.fm_grammar.specs.Score.{Score}
@@ -33,6 +33,10 @@ pub valid_taken : PlansPlay → ((text : List ℕ) (s : Score) → Means text s 
     → (o n : Option (List ℕ)) (plan : PlanParts) → TakesPlan o n plan → ValidLines (plan_lines plan)
 valid_taken plays valid o n plan t =
     subst ValidLines (sym (lines_taken plays o n plan t)) (valid t.text t.planned.score t.planned.means)
+
+-- what is something is not nothing
+pub is_something : {X : Type 0} (o : Option X) (x : X) → o ≡ Some x → o ≡ None → ⊥
+is_something o x some none = cc
 
 module _ {S K : Type 0} (left : S → Option (List ℕ)) (source_faults : S → ℕ)
     (content : K → Option (List ℕ)) (sure : K → Option ℕ) (faults : K → ℕ)
