@@ -1,0 +1,222 @@
+"""Score texts of any size, in the worst shapes that are known for each part of the command.
+
+Each function gives a text as bytes. Those that take a size give a text of at most that many bytes,
+those that take a count a short text that stands for so much.
+"""
+
+MEBIBYTE = 1_048_576
+MOST_OPERATIONS = 262_144
+MOST_PROCESSES = 4_096
+
+# What a text ends with so that the command stops behind a part of its work: a brace too many is
+# found by the parser, a total past its limit by the last walk of the checker.
+UNREAD = b"}"
+REFUSED = b"repeat 1000000{repeat 16{}}"
+
+
+def generated(number):
+    """The stated score of 32,000 * (number mod 125 + 1) events."""
+    slope = 500 + number % 1000
+    rounds = 1000 * (1 + number % 125)
+    lines = [
+        "formula 1;",
+        f"seed {number};",
+        f"shape a = slope 1/1 by 1000 to {slope}, breath 1/16, flat 2/1 by {slope};",
+        "shape b = pause 1/8, flat 4/1 by 1500;",
+        "par {",
+    ]
+    for channel in range(16):
+        loop = f"repeat {rounds} {{ note key (36 + pick(60)) 1/16; }}"
+        if channel % 2 == 1:
+            loop = f"warp b {{ {loop} }}"
+        lines.append(f"branch {{ channel {channel} {{ warp a {{ {loop} }} }} }}")
+    lines.append("}")
+    return "".join(line + "\n" for line in lines).encode()
+
+
+def filled(size, head, unit, tail, ending=b""):
+    """The unit as often as it fits between the head and what ends the text."""
+    room = size - len(head) - len(tail) - len(REFUSED)
+    return head + unit * (room // len(unit)) + tail + ending
+
+
+def repeated(head, unit, tail):
+    """A shape of one unit, as a function of size and ending."""
+    return lambda size, ending=b"": filled(size, head, unit, tail, ending)
+
+
+def numbered(head, unit, tail=b""):
+    """A shape whose units differ by their number, as a function of size and ending."""
+
+    def text(size, ending=b""):
+        pieces, left, number = [], size - len(head) - len(tail) - len(REFUSED), 0
+        while True:
+            piece = unit(number)
+            left -= len(piece)
+            if left < 0:
+                return head + b"".join(pieces) + tail + ending
+            pieces.append(piece)
+            number += 1
+
+    return text
+
+
+def in_phrase(unit):
+    """Statements in a phrase that nothing brings in: they are read, checked and kept, and add
+    nothing to any total."""
+    return repeated(b"formula 1;phrase p{", unit, b"}")
+
+
+def tower(word, count, inside):
+    """Blocks in one another."""
+    return (word + b"{") * count + inside + b"}" * count
+
+
+def base36(number):
+    digits = "0123456789abcdefghijklmnopqrstuvwxyz"
+    text = ""
+    while number or not text:
+        text = digits[number % 36] + text
+        number //= 36
+    return text
+
+
+def name(number):
+    return ("x" + base36(number)).encode()
+
+
+def named_phrase(number):
+    """Short names, each defined and brought in once."""
+    return b"phrase " + name(number) + b"{}do " + name(number) + b";"
+
+
+def long_named_phrase(number):
+    """The same, with names that differ in their last letters alone."""
+    long_name = b"x" * 200 + name(number)
+    return b"phrase " + long_name + b"{}do " + long_name + b";"
+
+
+def doubling_phrase(number):
+    """Each phrase brings in the one before it twice."""
+    if number == 0:
+        return b"phrase x0{}"
+    before = b"do " + name(number - 1) + b";"
+    return b"phrase " + name(number) + b"{" + before + before + b"}"
+
+
+def slopes(count, part):
+    return b"shape a=" + b",".join([part] * count) + b";"
+
+
+# 256 parts that are all passed by a body of 300 ticks, which they leave as long as it is.
+PARTS = slopes(256, b"slope ticks 1 by 1000 to 1001")
+
+# 63 and 64 tokens.
+SUM = b"set r0=" + b"1+" * 31 + b"1;"
+SIGNS = b"set r0=" + b"-" * 63 + b"1;"
+BRACKETS = b"set r0=" + b"(" * 31 + b"1" + b")" * 31 + b";"
+
+# The shapes of texts by name. Each is a function of the size in bytes and of the ending.
+SHAPES = {
+    "flat": repeated(b"formula 1;rhythm[1/4]{", b"skip;", b"}"),
+    "deepest": repeated(b"formula 1;", tower(b"gate 9", 64, b"rest 0/1;"), b""),
+    "phrases": numbered(b"formula 1;", doubling_phrase),
+    "sums": repeated(b"formula 1;", SUM, b""),
+    "signs": repeated(b"formula 1;", SIGNS, b""),
+    "brackets": repeated(b"formula 1;", BRACKETS, b""),
+    "choices": in_phrase(b"if 1{}"),
+    "deep choices": in_phrase(tower(b"if 1", 63, b"")),
+    "loops": in_phrase(b"repeat 1{}"),
+    "deep loops": in_phrase(tower(b"repeat 1", 16, b"set r0=n15;")),
+    "lists": in_phrase(b"artic[1]{}"),
+    "long lists": in_phrase(b"artic[" + b"1," * 255 + b"1]{}"),
+    "rhythms": in_phrase(b"rhythm[" + b"1/1," * 255 + b"1/1]{}"),
+    "chords": in_phrase(b"note " + b"c4," * 15 + b"c4 0/1;"),
+    "computed chords": in_phrase(b"note " + b"key(1)," * 15 + b"key(1) 0/1;"),
+    "bends": in_phrase(b"bend(1);"),
+    "forks": in_phrase(b"par{branch{}branch{}branch{}branch{}}"),
+    "names": numbered(b"formula 1;", named_phrase),
+    "long names": numbered(b"formula 1;", long_named_phrase),
+    "shapes": numbered(
+        b"formula 1;", lambda number: PARTS.replace(b" a=", b" " + name(number) + b"=")
+    ),
+    "deformations": repeated(
+        b"formula 1;" + PARTS, tower(b"warp a", 8, b"rest ticks 300;"), b""
+    ),
+    "comments": repeated(b"formula 1;", b"#\n", b""),
+}
+
+# The three shapes that the aim on 1 MiB is measured on.
+AIMED = ["flat", "deepest", "phrases"]
+
+# At the end of the phrases: one of them is brought in, and stands for 2^40 others.
+BROUGHT_IN = b"do x40;"
+
+
+def operations(count):
+    """About so many operations of one process, all of phrases that are written out."""
+    size = int(count**0.5) - 1
+    body = b"rest 0/1;" * size
+    return b"formula 1;phrase q{" + body + b"}" + b"do q;" * (count // (size + 1) - 1)
+
+
+def loops_written_out(count):
+    """About so many operations, all of loops inside fourteen loops."""
+    body = b"repeat 1{}" * 500
+    times = (count - 32) // 1001
+    return (
+        b"formula 1;phrase q{" + body + b"}" + tower(b"repeat 1", 14, b"do q;" * times)
+    )
+
+
+def rounds_written_out(count):
+    """So many operations in the totals: rounds of a loop inside fourteen loops, all written out."""
+    inner = b"repeat %d{repeat 0{par{branch{}}}}" % ((count - 32) // 2)
+    return b"formula 1;" + tower(b"repeat 1", 14, inner)
+
+
+def branches(count):
+    """So many processes, all of one fork."""
+    return b"formula 1;par{" + b"branch{}" * (count - 2) + b"}"
+
+
+def forks_in_turn(count):
+    """So many processes, one after another."""
+    return b"formula 1;repeat %d{par{branch{}}}" % ((count - 1) // 2)
+
+
+def forks_in_branches(depth):
+    """3 * 2^depth - 2 processes, in branches that fork in two."""
+    phrases = b"phrase p0{}" + b"".join(
+        b"phrase p%d{par{branch{do p%d;}branch{do p%d;}}}" % (k, k - 1, k - 1)
+        for k in range(1, depth + 1)
+    )
+    return b"formula 1;" + phrases + b"do p%d;" % depth
+
+
+def notes(count):
+    """So many events of one process."""
+    return b"formula 1;repeat 2{repeat %d{note c4 ticks 1;}}" % (count // 4)
+
+
+def long_rests():
+    """1,100,000 rests that end at the last tick."""
+    rests = b"repeat 1000000{rest ticks 1000000;}repeat 99511{rest ticks 1000000;}"
+    return b"formula 1;" + rests + b"rest ticks 627776;"
+
+
+def silent_steps(count):
+    """About so many steps of one process without an event."""
+    return b"formula 1;repeat %d{repeat 1000000{rest ticks 0;}}" % (count // 2_000_000)
+
+
+def levels(count):
+    """So many times in and out of a deformation of 256 parts."""
+    inner = b"repeat %d{warp a{rest ticks 300;}}" % (count // 4)
+    return b"formula 1;" + PARTS + b"repeat 4{" + inner + b"}"
+
+
+def steps_before_forks(count):
+    """About so many steps of one process, before which 4,000 others wait."""
+    start = b"par{branch{repeat %d{repeat 1000000{rest ticks 0;}}}}" % (count // 2_000_000)
+    return b"formula 1;" + start + b"repeat 2000{par{branch{}}}"
