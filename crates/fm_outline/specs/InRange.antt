@@ -3,10 +3,11 @@ use Rattle.std.specs.Prelude.{◌≡◌, [], ℤ, pos, neg_ℤ, ◌≤ℤ◌, �
 use Rattle.fm_grammar.specs.Score as text
 use Rattle.fm_meaning.specs.Ranges.{Names, stmt_faults, body_faults, branches_faults}
 
--- the least and the greatest number of a message
+-- the least number of a message
 abbrev pub least_number : ℤ
 least_number = neg_ℤ (pos 8192)
 
+-- the greatest number of a message
 abbrev pub most_number : ℤ
 most_number = pos 8191
 

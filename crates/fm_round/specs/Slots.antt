@@ -94,12 +94,13 @@ pub record IsFresh (size : ℕ) (s : Slot) : Type 0 where
 
 -- ---- clocks
 
--- the clock of a process that has started and not ended
+-- the clock of a process by whether it has ended, and by its strand where it has started
 abbrev pub run_clock : PlanParts → Bool → Option Strand → Option ℕ
 run_clock p true t = None
 run_clock p false None = None
 run_clock p false (Some t) = Some (clock_of p t)
 
+-- the clock of a process that has started and not ended
 abbrev pub live_clock : PlanParts → Slot → Option ℕ
 live_clock p s = run_clock p s.ended s.strand
 
@@ -161,6 +162,7 @@ run_load p j true t = 0
 run_load p j false None = steps_of p j + 1
 run_load p j false (Some t) = steps_left p t + 1
 
+-- what there is to do for the process of a slot
 abbrev pub load : PlanParts → ℕ → Slot → ℕ
 load p j s = run_load p j s.ended s.strand
 

@@ -64,6 +64,7 @@ abbrev pub tick_from : Standing → List Mark → ℕ
 tick_from s [] = (ending_mark s).onset
 tick_from s (m ∷ ms) = mark_time (put_out s.levels m)
 
+-- the tick of a state, with the marks that it owes
 abbrev pub tick_of : Standing → ℕ
 tick_of s = tick_from s s.due
 

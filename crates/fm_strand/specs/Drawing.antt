@@ -19,6 +19,7 @@ use Rattle.fm_strand.specs.declared.draws.Note.{Note}
 abbrev pub no_frame : Frame
 no_frame = Counting 0 0 0
 
+-- the same in the program's run
 abbrev pub no_open : OpenFrame
 no_open = counting 0 0 0
 
@@ -63,16 +64,19 @@ pub record DrawsTo {A : Type 0} (t : StockParts) (old new : Draws) (result : A) 
 
 -- ---- notes
 
--- what a note draws in turn: its keys, its duration, its articulation, its velocity
+-- what a note draws in turn: first its keys
 abbrev pub note_keys : StockParts → ℕ → ℕ → Standing → Draught (List ℕ)
 note_keys t chord scope s = pitches_drawn (map (amount_of t) (chord_at t chord)) (scope_at t scope) s
 
+-- then its duration
 abbrev pub note_lasts : StockParts → ℕ → Span → ℕ → Standing → Draught ℕ
 note_lasts t chord span scope s = duration_drawn (duration_of t span) (scope_at t scope) (note_keys t chord scope s).after
 
+-- then its articulation
 abbrev pub note_part : StockParts → ℕ → Span → Turn → ℕ → Standing → Draught ℕ
 note_part t chord span gate scope s = turn_drawn gate (note_lasts t chord span scope s).after
 
+-- last its velocity
 abbrev pub note_velocity : StockParts → ℕ → Span → Turn → Turn → ℕ → Standing → Draught ℕ
 note_velocity t chord span gate loud scope s = turn_drawn loud (note_part t chord span gate scope s).after
 

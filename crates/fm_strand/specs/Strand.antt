@@ -150,6 +150,7 @@ StepIs p old stepped.Silent new =
 StepIs p old (stepped.Event e) new =
     IsMade p old new × (next_event p old ≡ Some e) × (rest p old ≡ e ∷ rest p new) × (clock_of p old ≡ e.time)
 
+-- what a step does: it keeps the process and its course, and the clock never falls
 pub record MakesStep (p : PlanParts) (old : Strand) (result : Stepped) (new : Strand) : Type 0 where
   pub process : new.process ≡ old.process
   pub course : InCourse p new
