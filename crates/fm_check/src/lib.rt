@@ -6,6 +6,8 @@
 #![tactic(auto)]
 
 mod fault;
+#[cfg(test)]
+mod tests;
 mod walks;
 mod why;
 

@@ -1,0 +1,195 @@
+//! The totals of texts, and both sides of each of their limits. The numbers were worked out by hand.
+
+use super::{bounds, verdict};
+use crate::Bounds;
+use std::test::Fail;
+
+#[test]
+fn totals_are_counted(rt: HostRuntime) -> Result<(), Fail> {
+    for (text, processes, operations, length, events, steps) in [
+        ("formula 1;", 1, 1, 0, 0, 1),
+        (
+            "formula 1; shape w = flat 1/4 by 1000, breath ticks 120; \
+             gate 100 { warp w { note c4 1/4; note d4 1/4; } }",
+            1,
+            6,
+            1080,
+            4,
+            9,
+        ),
+        (
+            "formula 1; shape w = flat 1/4 by 1000, pause ticks 120; \
+             gate 100 { warp w { note c4 1/4; note d4 1/4; } }",
+            1,
+            6,
+            1080,
+            4,
+            9,
+        ),
+        (
+            "formula 1; shape b = breath ticks 120; shape f = flat 1/1 by 500; \
+             gate 100 { warp b { warp f { note c4 ticks 1; } } }",
+            1,
+            7,
+            120,
+            2,
+            8,
+        ),
+        (
+            "formula 1; repeat 1365 { par { branch { } branch { } } }",
+            4096,
+            5462,
+            0,
+            0,
+            4096,
+        ),
+        (
+            "formula 1; repeat 1000000 { rest ticks 1000000; } \
+             repeat 99511 { rest ticks 1000000; } rest ticks 627776;",
+            1,
+            8,
+            1_099_511_627_776,
+            0,
+            2_199_028,
+        ),
+        // The list of a phrase that nothing brings in counts for the lengths of all rhythms.
+        (
+            "formula 1; phrase p { rhythm [1/1] { } } rhythm [1/4] { play c4; skip; }",
+            1,
+            5,
+            3840,
+            2,
+            7,
+        ),
+        (
+            "formula 1; if 1 { rest ticks 9; } else { note c4 ticks 3; }",
+            1,
+            5,
+            9,
+            2,
+            6,
+        ),
+        (
+            "formula 1; phrase p { note c4 ticks 3; } do p; do p;",
+            1,
+            5,
+            6,
+            4,
+            7,
+        ),
+        // No rounds hide all of a body but its operations.
+        (
+            "formula 1; repeat 0 { par { branch { note c4 1/1; } } }",
+            1,
+            2,
+            0,
+            0,
+            1,
+        ),
+    ] {
+        let want = Bounds {
+            processes,
+            operations,
+            length,
+            events,
+            steps,
+        };
+        assert_eq!(rt; bounds(rt.alloc(), text)?, want, "{text}");
+    }
+    Ok(())
+}
+
+#[test]
+fn each_limit_is_kept_and_passed(rt: HostRuntime) -> Result<(), Fail> {
+    for (text, want) in [
+        // 4,096 processes and one more.
+        (
+            "formula 1; repeat 1365 { par { branch { } branch { } } }",
+            (0, 0, 0),
+        ),
+        ("formula 1; repeat 2048 { par { branch { } } }", (13, 1, 12)),
+        // 2^40 ticks and one more.
+        (
+            "formula 1; repeat 1000000 { rest ticks 1000000; } \
+             repeat 99511 { rest ticks 1000000; } rest ticks 627776;",
+            (0, 0, 0),
+        ),
+        (
+            "formula 1; repeat 1000000 { rest ticks 1000000; } \
+             repeat 99511 { rest ticks 1000000; } rest ticks 627777;",
+            (15, 1, 88),
+        ),
+        // 4,000,000 events and one more.
+        (
+            "formula 1; repeat 1000000 { note c4, d4 ticks 0; }",
+            (0, 0, 0),
+        ),
+        (
+            "formula 1; repeat 1000000 { note c4, d4 ticks 0; } program 1;",
+            (16, 1, 52),
+        ),
+        (
+            "formula 1; repeat 1000000 { note c4, d4, e4 ticks 0; }",
+            (16, 1, 12),
+        ),
+        // 16,777,216 steps and one more.
+        (
+            "formula 1; repeat 1000000 { repeat 13 { } } repeat 777211 { }",
+            (0, 0, 0),
+        ),
+        (
+            "formula 1; repeat 1000000 { repeat 13 { } } repeat 777212 { }",
+            (17, 1, 45),
+        ),
+        ("formula 1; repeat 1000000 { repeat 16 { } }", (17, 1, 12)),
+        // Operations beside other totals: the lowest number counts.
+        (
+            "formula 1; repeat 1000000 { repeat 1000000 { repeat 0 { par { branch { } } } } }",
+            (14, 1, 12),
+        ),
+        (
+            "formula 1; repeat 1000000 { repeat 1000000 { par { branch { } } } }",
+            (13, 1, 12),
+        ),
+    ] {
+        assert_eq!(rt; verdict(rt.alloc(), text)?, want, "{text}");
+    }
+    Ok(())
+}
+
+/// Sixteen phrases, each of which brings in the one before twice, from one that is empty: `q16` has
+/// 131,070 operations.
+const DOUBLED: &str = "formula 1; phrase q0 { }
+phrase q1 { do q0; do q0; } phrase q2 { do q1; do q1; } phrase q3 { do q2; do q2; }
+phrase q4 { do q3; do q3; } phrase q5 { do q4; do q4; } phrase q6 { do q5; do q5; }
+phrase q7 { do q6; do q6; } phrase q8 { do q7; do q7; } phrase q9 { do q8; do q8; }
+phrase q10 { do q9; do q9; } phrase q11 { do q10; do q10; } phrase q12 { do q11; do q11; }
+phrase q13 { do q12; do q12; } phrase q14 { do q13; do q13; } phrase q15 { do q14; do q14; }
+phrase q16 { do q15; do q15; }
+";
+
+#[test]
+fn as_many_operations_as_may_be_and_one_more(rt: HostRuntime) -> Result<(), Fail> {
+    let mut text = String::from_str(rt.alloc(), DOUBLED)?;
+    text.push_str("do q16; do q16; rest ticks 0;")?;
+    assert_eq!(rt; bounds(rt.alloc(), text.as_str())?.operations, 262_144);
+    text.push_str(" rest ticks 0;")?;
+    assert_eq!(rt; verdict(rt.alloc(), text.as_str())?, (14, 8, 31));
+    Ok(())
+}
+
+#[test]
+fn forty_phrases_each_of_two_before(rt: HostRuntime) -> Result<(), Fail> {
+    let alloc = rt.alloc();
+    let mut text = String::from_str(alloc, "formula 1; phrase q0 { }")?;
+    for k in 1..41u32 {
+        let j = k - 1;
+        let phrase = format!(in alloc; " phrase q{k} {{ do q{j}; do q{j}; }}")?;
+        text.push_str(phrase.as_str())?;
+    }
+    let column = text.len() + 2;
+    text.push_str(" do q40;")?;
+    let (number, line, at) = verdict(alloc, text.as_str())?;
+    assert_eq!(rt; (number, line, u64::from(at)), (14, 1, column as u64));
+    Ok(())
+}
