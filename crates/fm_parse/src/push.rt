@@ -8,11 +8,15 @@ use crate::fault::ParseFault;
 use fm_lex::Spot;
 use fm_value::{Expr, Node, Spot2};
 
-/// Puts an item at the end of a list.
+/// Puts an item at the end of a list. The first one takes room for itself alone, since most lists
+/// of a score have one entry.
 pub fn push<T: Drop>(items: &mut Vec<T>, item: T) -> Result<(), ParseFault>
     ensures ok { OnOk result (items.new.items ≡ items.old.items ++ item ∷ []) }
     ensures memory { IfErr result (λ e. e ≡ ParseFault.Memory) }
 {
+    if items.is_empty() && items.reserve_exact(1).is_err() {
+        return Err(ParseFault::Memory);
+    }
     match items.push(item) {
         Ok(()) => Ok(()),
         Err(_) => Err(ParseFault::Memory),
