@@ -185,8 +185,9 @@ def forks_in_turn(count):
     return b"formula 1;repeat %d{par{branch{}}}" % ((count - 1) // 2)
 
 
-def forks_in_branches(depth):
-    """3 * 2^depth - 2 processes, in branches that fork in two."""
+def forks_in_branches(count):
+    """So many processes, 3 * 2^depth - 2 for some depth, in branches that fork in two."""
+    depth = ((count + 2) // 3).bit_length() - 1
     phrases = b"phrase p0{}" + b"".join(
         b"phrase p%d{par{branch{do p%d;}branch{do p%d;}}}" % (k, k - 1, k - 1)
         for k in range(1, depth + 1)
