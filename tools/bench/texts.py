@@ -175,6 +175,13 @@ def rounds_written_out(count):
     return b"formula 1;" + tower(b"repeat 1", 14, inner)
 
 
+def rounds_over_text(size, rounds):
+    """A text of at most this size: a loop of so many rounds, in which stands a loop that is never
+    entered, whose fork comes at the end of a long block."""
+    head = b"formula 1;repeat %d{repeat 0{rhythm[1/1]{" % rounds
+    return filled(size, head, b"skip;", b"}par{branch{}}}}")
+
+
 def branches(count):
     """So many processes, all of one fork."""
     return b"formula 1;par{" + b"branch{}" * (count - 2) + b"}"
