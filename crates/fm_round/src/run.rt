@@ -97,6 +97,18 @@ fn part(all: usize, low: u32, workers: u32) -> usize
     all * low as usize / workers as usize
 }
 
+// Whether one of the processes has started and not ended.
+fn has_live(slots: &[Slot]) -> bool {
+    for slot in slots {
+        if slot.strand.is_some() && !slot.ended {
+            return true;
+        }
+    }
+    false
+}
+
+// Two shares side by side, or in turn where one of them has nothing to run, so that no thread is
+// started for it.
 #[cycle(shares)]
 fn share_both<R: Threads + Sync, G: Gate + Sync>(
     rt: &R,
@@ -119,6 +131,11 @@ fn share_both<R: Threads + Sync, G: Gate + Sync>(
     ensures ran_back { RunsEach plan.now second limit b.old b.new }
 {
     let up = actor + low;
+    if !has_live(a) || !has_live(b) {
+        share(rt, gate, plan, actor, low, limit, first, a);
+        share(rt, gate, plan, up, high, limit, second, b);
+        return;
+    }
     let mut front = ||
         requires { IsSync R.row × IsSync G.row × (0 < low) × (actor + low ≤ MAX_WORKERS)
             × (first + length a.now ≤ MAX_PROCESSES) × AreSlots plan.now first a.now }
