@@ -1,7 +1,6 @@
 -- A strand at the start of its process.
-use Rattle.std.proofs.Common.{◌≡◌, refl, sym, ◌∙◌, ap, subst, arith, ℕ, zero, suc, pos, ◌+◌, ◌-◌, ◌%◌, ◌^◌, Some, ◌<◌, ◌≤◌, List, [], ◌∷◌, ◌++◌, length, map, max, reverse, replicate, All, Bool, true, false, ◌&&◌, nat_lt, nat_le, if◌then◌else◌, slice_index_or, append-nil}
+use Rattle.std.proofs.Common.{◌≡◌, refl, sym, ◌∙◌, ap, subst, arith, ℕ, zero, suc, pos, ◌+◌, ◌%◌, ◌^◌, Some, ◌<◌, ◌≤◌, List, [], ◌∷◌, ◌++◌, length, map, max, reverse, replicate, All, Bool, true, false, ◌&&◌, nat_lt, nat_le, if◌then◌else◌, slice_index_or}
 use Rattle.std.specs.List.{list_all}
-use Rattle.std.proofs.lemmas.List.{reverse-append, length-map}
 use Rattle.std.proofs.lemmas.List.Elements.{All-append, All-cons, All-nil}
 use Rattle.fm_tick.specs.declared.tick.TheConstants.{MAX_TICK}
 use Rattle.fm_warp.specs.declared.part.Part.{Part}
@@ -16,7 +15,7 @@ use Rattle.fm_program.specs.declared.op.TheConstants.{MAX_FRAMES}
 use Rattle.fm_program.specs.Parts.{StockParts, PlanParts, no_program, process_program}
 use Rattle.fm_program.specs.State.{OpenLevel, Standing}
 use Rattle.fm_program.specs.Needs.{levels_hold}
-use Rattle.fm_program.specs.Process.{Played, Spot, end_spot, ending_mark, later_spot, levels_opened, outset, plan_lines, plan_played, process_run, spot_reached, start_spot}
+use Rattle.fm_program.specs.Process.{Spot, end_spot, levels_opened, outset, plan_lines, plan_played, process_run, spot_reached, start_spot}
 use Rattle.fm_program.specs.Fit.{PartsFit, ends_in, ops_fit, program_fits, same_numbers}
 use Rattle.fm_value.specs.declared.registers.TheConstants.{REGISTERS}
 use Rattle.fm_nest.specs.Nesting.{frames_of}
@@ -27,19 +26,17 @@ use Rattle.fm_program.specs.Process.{cycles_opened}
 use Rattle.fm_program.proofs.Lines.{plan-lines-waits}
 use Rattle.fm_strand.specs.declared.draws.Draws.{Draws}
 use Rattle.fm_strand.specs.declared.pending.Pending.{Pending}
-use Rattle.fm_strand.specs.declared.strand.Strand.{Strand}
 use Rattle.fm_strand.specs.declared.timeline.Timeline.{Timeline}
 use Rattle.fm_strand.specs.Drawing.{DrawsStand, IsFrame}
 use Rattle.fm_strand.specs.Sounding.{IsPending, pending_events}
 use Rattle.fm_strand.specs.Strand.{InCourse}
-use Rattle.fm_strand.specs.Course.{begun, mark_events, place_of, start_place, tick_of, to_come}
+use Rattle.fm_strand.specs.Course.{begun, mark_events, start_place, tick_of, to_come}
 use Rattle.fm_strand.specs.Timing.{IsInTime, IsTimed, level_of, levels_inside}
-use Rattle.fm_strand.proofs.FrameLemmas.{false_true}
 use Rattle.fm_strand.proofs.StockLemmas.{below_of, both, list_all-at, most_of, past_of}
 use Rattle.fm_strand.proofs.TimeLemmas.{AreNamed, held-most, IsInTime-held}
 use Rattle.fm_strand.proofs.TickLemmas.{on_tick, on_tick-mono, position-tick}
 use Rattle.fm_strand.proofs.CourseLemmas.{process-as}
-use Rattle.fm_strand.proofs.StartLemmas.{AreOf, Sound, Waits, first-start, reopened, same-of, sound-last, sound-start, start-depth, waits}
+use Rattle.fm_strand.proofs.StartLemmas.{reopened, same-of, sound-last, sound-start, start-depth, waits}
 use Rattle.fm_strand.proofs.LineLemmas.{line-end, line-events}
 
 -- ---- levels at a start

@@ -1,29 +1,24 @@
 -- What a process of a plan that fits does, step by step.
-use Rattle.std.proofs.Common.{◌≡◌, refl, sym, ◌∙◌, ap, subst, arith, ℕ, zero, suc, ◌+◌, ◌-◌, ◌<◌, ◌≤◌, List, [], ◌∷◌, ◌++◌, length, map, Bool, true, false, ◌&&◌, nat_lt, Option, Some, None, slice_get, slice_index_or, length-append, append-nil}
+use Rattle.std.proofs.Common.{◌≡◌, refl, sym, ◌∙◌, ap, subst, arith, ℕ, zero, suc, ◌+◌, ◌-◌, ◌<◌, ◌≤◌, List, [], ◌∷◌, ◌++◌, length, map, Bool, true, ◌&&◌, nat_lt, Option, Some, None, slice_get, slice_index_or, length-append, append-nil}
 use Rattle.std.specs.List.{list_all}
 use Rattle.std.specs.Option.{option_map, option_to_list}
 use Rattle.std.proofs.Math.ListN.{get_or-append}
 use Rattle.std.proofs.Math.Seq.{get_or-append_seam}
 use Rattle.fm_msg.specs.Event.{TimedMessage}
-use Rattle.fm_msg.specs.declared.msg.TheConstants.{CHANNELS, DATA_VALUES}
 use Rattle.fm_line.specs.Marks.{Mark, mark_event}
-use Rattle.fm_line.specs.Validity.{each_below}
-use Rattle.fm_program.specs.declared.op.TheConstants.{MAX_PERCENT}
 use Rattle.fm_program.specs.declared.op.Op.{Op}
 use Rattle.fm_program.specs.declared.op.Op.TheVariants as op
 use Rattle.fm_program.specs.declared.plan.TheConstants.{MAX_STEPS}
 use Rattle.fm_program.specs.Parts.{StockParts, ProgramParts, PlanParts, no_program, process_program}
-use Rattle.fm_program.specs.Action.{Action, action_of, chord_at, duration_of}
+use Rattle.fm_program.specs.Action.{Action, action_of}
 use Rattle.fm_program.specs.State.{Standing}
-use Rattle.fm_program.specs.Run.{Stepped, over, stuck, silent, sounding, done, step, step_from, step_at, put_out, Run, program_run}
-use Rattle.fm_program.specs.Cut.{cut_run}
-use Rattle.fm_program.specs.Process.{Played, Spot, no_played, start_spot, end_spot, later_spot, spot_reached, at_start, process_played, played_from, plan_played, process_run}
-use Rattle.fm_program.specs.Fit.{PartsFit, all_steps, draw_fits, loops_of, op_fits, ops_fit, program_fits, span_fits, turn_fits}
-use Rattle.fm_strand.specs.Course.{begun, code_of, mark_events, standing, step_event, steps_of, tick_of, to_come}
+use Rattle.fm_program.specs.Run.{Stepped, over, stuck, silent, sounding, step, step_from, step_at, Run, program_run}
+use Rattle.fm_program.specs.Process.{Played, no_played, start_spot, end_spot, later_spot, spot_reached, at_start, process_played, played_from, plan_played, process_run}
+use Rattle.fm_program.specs.Fit.{PartsFit, all_steps, op_fits, ops_fit, program_fits}
+use Rattle.fm_strand.specs.Course.{begun, code_of, mark_events, standing, steps_of, to_come}
 use Rattle.fm_strand.specs.Strand.{left_by}
-use Rattle.fm_strand.proofs.FrameLemmas.{false_true}
 use Rattle.fm_strand.proofs.StockLemmas.{below_of, both, list_all-at}
-use Rattle.fm_strand.proofs.RunLemmas.{Ends, Follows, Goes, OpGoes, cut-next, follows, goes, marks_by, op-goes, quiet, same_run, sounds, stops}
+use Rattle.fm_strand.proofs.RunLemmas.{Ends, Goes, cut-next, follows, goes, marks_by, op-goes, quiet, same_run, sounds, stops}
 use Rattle.fm_strand.proofs.TickLemmas.{GateFits, IsCalm, Ticks, ticks-done, ticks-due}
 
 -- ---- the runs of all processes

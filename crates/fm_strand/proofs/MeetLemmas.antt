@@ -1,16 +1,14 @@
 -- A process starts where those that it waits for meet.
-use Rattle.std.proofs.Common.{◌≡◌, refl, sym, ◌∙◌, ap, subst, arith, ℕ, zero, suc, ◌+◌, ◌-◌, ◌<◌, ◌≤◌, List, [], ◌∷◌, ◌++◌, length, map, max, reverse, replicate, Bool, true, false, nat_lt, if◌then◌else◌, slice_index_or}
-use Rattle.std.specs.List.{list_all}
+use Rattle.std.proofs.Common.{◌≡◌, refl, sym, ◌∙◌, ap, arith, ℕ, suc, ◌<◌, List, [], ◌∷◌, length, map, max, reverse, Bool, true, false, nat_lt, if◌then◌else◌, slice_index_or}
 use Rattle.fm_line.specs.Line.{greatest}
-use Rattle.fm_nest.specs.declared.nest.TheConstants.{MAX_LEVELS}
 use Rattle.fm_nest.specs.declared.place.Place.{Place}
 use Rattle.fm_program.specs.Parts.{PlanParts, process_program}
-use Rattle.fm_program.specs.Process.{Played, Spot, end_spot, later_spot, outset, plan_played, process_run, spot_reached, start_spot}
+use Rattle.fm_program.specs.Process.{Played, Spot, end_spot, plan_played, process_run, spot_reached, start_spot}
 use Rattle.fm_program.specs.Fit.{PartsFit, ends_in, same_numbers}
 use Rattle.fm_strand.specs.Course.{end_place, first_place, later_place, latest_place, meeting_place, place_of, start_place}
 use Rattle.fm_strand.proofs.StockLemmas.{below_of, both, list_all-at, past_of}
 use Rattle.fm_strand.proofs.CourseLemmas.{process-as}
-use Rattle.fm_strand.proofs.StartLemmas.{Waits, first-start, same-of, waits}
+use Rattle.fm_strand.proofs.StartLemmas.{first-start, same-of, waits}
 
 -- a position in the levels in which the process j starts
 abbrev start_at : PlanParts → ℕ → ℕ → Place

@@ -1,19 +1,17 @@
 -- What operations do to a strand in a state.
-use Rattle.std.proofs.Common.{◌≡◌, refl, sym, ◌∙◌, ap, subst, arith, ℕ, ℤ, pos, zero, suc, ◌+◌, ◌-◌, ◌<◌, ◌≤◌, List, [], ◌∷◌, ◌++◌, map, length, max, All, nat_lt, true, false, Bool, if◌then◌else◌, Option, Some, None}
+use Rattle.std.proofs.Common.{◌≡◌, refl, sym, ◌∙◌, ap, subst, arith, ℕ, ℤ, pos, zero, suc, ◌+◌, ◌-◌, ◌<◌, ◌≤◌, List, [], ◌∷◌, ◌++◌, map, length, max, All, nat_lt, true, false, Bool, if◌then◌else◌, Some}
 use Rattle.fm_warp.specs.declared.part.Part.{Part}
 use Rattle.fm_warp.specs.declared.side.Side.TheVariants.{Onset, Ending}
-use Rattle.fm_warp.specs.Deformation.{placed}
 use Rattle.fm_msg.specs.declared.msg.Msg.{Msg}
-use Rattle.fm_msg.specs.declared.msg.Msg.TheVariants.{On, Off}
+use Rattle.fm_msg.specs.declared.msg.Msg.TheVariants.{Off}
 use Rattle.fm_msg.specs.declared.msg.TheConstants.{DATA_VALUES}
 use Rattle.fm_msg.specs.Event.{TimedMessage}
-use Rattle.fm_line.specs.Marks.{Mark, mapped, mark_event, mark_time, has_ending}
+use Rattle.fm_line.specs.Marks.{Mark, mapped, mark_event, has_ending}
 use Rattle.fm_nest.specs.declared.frame.Frame.{Frame}
 use Rattle.fm_nest.specs.declared.nest.TheConstants.{MAX_LEVELS}
 use Rattle.fm_nest.specs.Nesting.{composed, frames_of, lifted}
 use Rattle.fm_program.specs.declared.op.Point.{Point}
 use Rattle.fm_program.specs.declared.op.Point.TheVariants as point
-use Rattle.fm_program.specs.declared.op.Slot.{Slot}
 use Rattle.fm_program.specs.declared.op.Span.{Span}
 use Rattle.fm_program.specs.declared.op.Count.{Count}
 use Rattle.fm_program.specs.declared.op.Draw.{Draw}
@@ -21,25 +19,24 @@ use Rattle.fm_program.specs.declared.op.Draw.TheVariants as draw
 use Rattle.fm_program.specs.declared.op.TheConstants.{MAX_FRAMES}
 use Rattle.fm_program.specs.Fit.{draw_fits, expr_fits, point_fits}
 use Rattle.fm_program.specs.Parts.{PlanParts, StockParts}
-use Rattle.fm_program.specs.Action.{Action, MessageNumber, SpanLength, rest, send, loop, enter, leave, amount_of, duration_of, parts_at, repeats_of, scope_at}
+use Rattle.fm_program.specs.Action.{rest, send, loop, enter, leave, amount_of, duration_of, parts_at, repeats_of, scope_at}
 use Rattle.fm_program.specs.State.{OpenLevel, Standing, counting, number_drawn, duration_drawn, repeats_drawn}
 use Rattle.fm_program.specs.Run.{done, put_out, level_closed, loop_opened, point_msg}
 use Rattle.fm_program.specs.Needs.{holds, levels_hold}
-use Rattle.fm_program.specs.Process.{ending_mark}
 use Rattle.fm_strand.specs.declared.draws.Draws.{Draws}
 use Rattle.fm_strand.specs.declared.frame.Frame.{Frame as OpenFrameItem}
 use Rattle.fm_strand.specs.declared.pending.Pending.{Pending}
 use Rattle.fm_strand.specs.declared.strand.Strand.{Strand}
 use Rattle.fm_strand.specs.declared.timeline.Timeline.{Timeline}
 use Rattle.fm_strand.specs.Drawing.{DrawsStand, DrawsTo, FramesStand, IsFrame, IsNumber}
-use Rattle.fm_strand.specs.Timing.{IsInTime, IsTimed, TimeStands, level_of, levels_inside}
-use Rattle.fm_strand.specs.Sounding.{NoteStands, event_of, pending_events}
+use Rattle.fm_strand.specs.Timing.{IsInTime, IsTimed, level_of, levels_inside}
+use Rattle.fm_strand.specs.Sounding.{NoteStands, event_of}
 use Rattle.fm_strand.specs.Strand.{CanDo, Does, IsController, IsReady, Stands, left_by}
 use Rattle.fm_strand.specs.Course.{step_event}
 use Rattle.fm_strand.proofs.SoundLemmas.{next_is}
 use Rattle.fm_strand.proofs.StockLemmas.{below_of, both}
 use Rattle.fm_strand.proofs.DrawLemmas.{Kept, number-kept, duration-kept, repeats-kept}
-use Rattle.fm_strand.proofs.TimeLemmas.{AreNamed, AreNamed-fits, AreNamed-last, Held, held_of, Innermost, innermost, IsInTime-held, IsInTime-state, levels_inside-last, levels_inside-length}
+use Rattle.fm_strand.proofs.TimeLemmas.{AreNamed, AreNamed-fits, AreNamed-last, held_of, Innermost, innermost, IsInTime-held, IsInTime-state, levels_inside-last, levels_inside-length}
 
 -- ---- parts of a state
 

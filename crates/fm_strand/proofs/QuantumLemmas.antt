@@ -1,17 +1,15 @@
 -- What the steps of a quantum make together.
-use Rattle.std.proofs.Common.{◌≡◌, refl, sym, ◌∙◌, ap, subst, arith, ℕ, zero, suc, ◌+◌, ◌<◌, ◌≤◌, List, [], ◌∷◌, ◌++◌, length, All, Option, Some, None, append_assoc, append-nil, slice_index_or}
+use Rattle.std.proofs.Common.{◌≡◌, refl, sym, ◌∙◌, ap, arith, ℕ, ◌+◌, ◌<◌, ◌≤◌, List, [], ◌∷◌, ◌++◌, All, append_assoc, append-nil, slice_index_or}
 use Rattle.std.proofs.lemmas.List.Elements.{All-nil, All-push}
 use Rattle.fm_msg.specs.Event.{TimedMessage}
 use Rattle.fm_buffer.specs.Outbox.{EventQueue}
 use Rattle.fm_program.specs.Parts.{PlanParts}
 use Rattle.fm_strand.specs.declared.strand.Strand.{Strand}
-use Rattle.fm_strand.specs.declared.answers.Stepped.{Stepped}
 use Rattle.fm_strand.specs.declared.answers.Stepped.TheVariants as stepped
 use Rattle.fm_strand.specs.declared.answers.Quantum.{Quantum}
 use Rattle.fm_strand.specs.declared.answers.Quantum.TheVariants as quantum
 use Rattle.fm_strand.specs.declared.answers.TheConstants.{MAX_QUANTUM}
-use Rattle.fm_strand.specs.Course.{tick_of}
-use Rattle.fm_strand.specs.Strand.{InCourse, MakesQuantum, MakesStep, MakesSteps, MayGo, QuantumIs, StopIs, clock_of, next_event, rest, steps_left}
+use Rattle.fm_strand.specs.Strand.{InCourse, MakesQuantum, MakesStep, MakesSteps, MayGo, QuantumIs, StopIs, clock_of, rest, steps_left}
 
 -- none
 pub made-none : (p : PlanParts) (limit : ℕ) (s : Strand) (box : EventQueue) → InCourse p s → MakesSteps p limit 0 s box s box

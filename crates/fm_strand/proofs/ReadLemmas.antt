@@ -1,12 +1,11 @@
 -- What a strand tells: its clock, its place, and its next event.
-use Rattle.std.proofs.Common.{◌≡◌, refl, sym, ◌∙◌, ap, subst, arith, ℕ, zero, suc, ◌+◌, ◌-◌, ◌<◌, ◌≤◌, List, [], ◌∷◌, ◌++◌, length, map, reverse, replicate, Bool, true, false, Option, Some, None, slice_get, append_assoc, append-nil}
+use Rattle.std.proofs.Common.{◌≡◌, refl, sym, ◌∙◌, ap, arith, ℕ, ◌-◌, ◌<◌, ◌≤◌, List, [], ◌∷◌, ◌++◌, length, map, reverse, replicate, true, false, Some, None, slice_get, append_assoc, append-nil}
 use Rattle.std.proofs.lemmas.List.{length-map, reverse-append}
-use Rattle.std.specs.Option.{option_map}
 use Rattle.fm_warp.specs.declared.part.Part.{Part}
-use Rattle.fm_warp.specs.declared.side.Side.TheVariants.{Onset, Ending}
+use Rattle.fm_warp.specs.declared.side.Side.TheVariants.{Onset}
 use Rattle.fm_msg.specs.declared.msg.Msg.{Msg}
 use Rattle.fm_msg.specs.Event.{TimedMessage}
-use Rattle.fm_line.specs.Marks.{Mark, mark_event, mark_time}
+use Rattle.fm_line.specs.Marks.{mark_event}
 use Rattle.fm_nest.specs.declared.frame.Frame.{Frame}
 use Rattle.fm_nest.specs.declared.nest.TheConstants.{MAX_LEVELS}
 use Rattle.fm_nest.specs.declared.place.Place.{Place}
@@ -14,20 +13,20 @@ use Rattle.fm_nest.specs.Nesting.{composed, frames_of, padded_origins}
 use Rattle.fm_program.specs.declared.op.Op.{Op}
 use Rattle.fm_program.specs.declared.op.Op.TheVariants as op
 use Rattle.fm_program.specs.Parts.{PlanParts, StockParts, process_program}
-use Rattle.fm_program.specs.Action.{Action, action_of}
+use Rattle.fm_program.specs.Action.{action_of}
 use Rattle.fm_program.specs.State.{OpenLevel, Standing}
-use Rattle.fm_program.specs.Run.{over, sounding, done, step, step_from, step_at, put_out}
-use Rattle.fm_program.specs.Process.{Spot, spot_reached}
+use Rattle.fm_program.specs.Run.{over, sounding, done, step_from, put_out}
+use Rattle.fm_program.specs.Process.{spot_reached}
 use Rattle.fm_strand.specs.declared.strand.Strand.{Strand}
-use Rattle.fm_strand.specs.Course.{code_of, place_of, step_event, steps_of, tick_from, tick_of}
+use Rattle.fm_strand.specs.Course.{code_of, step_event, steps_of, tick_from}
 use Rattle.fm_strand.specs.Timing.{level_of, levels_inside}
 use Rattle.fm_strand.specs.Sounding.{StartsAt, pending_events}
 use Rattle.fm_strand.specs.Strand.{InCourse, clock_of, is_send, next_event, place_reached, steps_left}
 use Rattle.fm_strand.proofs.FrameLemmas.{false_true}
 use Rattle.fm_strand.proofs.RunLemmas.{sounding_over}
 use Rattle.fm_strand.proofs.TickLemmas.{event-time, on_tick, position-tick}
-use Rattle.fm_strand.proofs.CourseLemmas.{Advances, advances, calm-standing, left-over, over-left}
-use Rattle.fm_strand.proofs.StepLemmas.{FirstDue, OpCan, first-due, next-step, next_of, none-due, now_of, step-can}
+use Rattle.fm_strand.proofs.CourseLemmas.{advances, calm-standing, over-left}
+use Rattle.fm_strand.proofs.StepLemmas.{OpCan, first-due, next-step, next_of, none-due, now_of}
 
 -- ---- the clock
 

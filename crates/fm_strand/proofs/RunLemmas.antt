@@ -1,14 +1,11 @@
 -- Runs that come to their end, step by step.
-use Rattle.std.proofs.Common.{◌≡◌, refl, sym, ◌∙◌, ap, subst, arith, ℕ, zero, suc, ◌+◌, ◌-◌, ◌<◌, ◌≤◌, List, [], ◌∷◌, ◌++◌, length, map, Bool, true, false, Option, Some, None, slice_get, if◌then◌else◌, append_assoc, append-nil}
-use Rattle.std.specs.Option.{option_to_list}
-use Rattle.fm_msg.specs.Event.{TimedMessage}
-use Rattle.fm_line.specs.Marks.{Mark, mark_event}
+use Rattle.std.proofs.Common.{◌≡◌, refl, sym, ◌∙◌, ap, subst, arith, ℕ, zero, suc, ◌-◌, ◌≤◌, List, [], ◌∷◌, ◌++◌, Bool, true, false, Some, if◌then◌else◌, append_assoc, append-nil}
+use Rattle.fm_line.specs.Marks.{Mark}
 use Rattle.fm_program.specs.Action.{Action, note, rest, send, assign, choose, jump, loop, again, begin, close, enter, leave}
 use Rattle.fm_program.specs.State.{Standing}
 use Rattle.fm_program.specs.Needs.{is_open, holds}
-use Rattle.fm_program.specs.Run.{Stepped, over, stuck, silent, sounding, done, step, step_at, within_limits, Run, run_done, run_on, run_from, program_run}
-use Rattle.fm_program.specs.Cut.{Cut, uncut, cut_on, cut_from, cut_run}
-use Rattle.fm_strand.specs.Course.{mark_events}
+use Rattle.fm_program.specs.Run.{Stepped, over, stuck, silent, sounding, done, step, step_at, within_limits, Run, run_done, run_from, program_run}
+use Rattle.fm_program.specs.Cut.{cut_from, cut_run}
 use Rattle.fm_strand.specs.Strand.{left_by}
 use Rattle.fm_strand.proofs.FrameLemmas.{false_true}
 

@@ -1,5 +1,5 @@
 -- The events that a note still gives.
-use Rattle.std.proofs.Common.{◌≡◌, refl, sym, ◌∙◌, ap, subst, arith, ℕ, zero, suc, ◌+◌, ◌-◌, ◌*◌, ◌<◌, ◌≤◌, List, [], ◌∷◌, ◌++◌, length, map, drop, Bool, true, false, nat_lt, if◌then◌else◌, slice_index_or, slice_index, length-append, drop-cons}
+use Rattle.std.proofs.Common.{◌≡◌, refl, sym, ◌∙◌, ap, arith, ℕ, zero, suc, ◌+◌, ◌-◌, ◌*◌, ◌<◌, ◌≤◌, List, [], ◌∷◌, length, map, drop, Bool, true, false, nat_lt, if◌then◌else◌, slice_index_or, slice_index, length-append, drop-cons}
 use Rattle.std.proofs.lemmas.List.{length-map, get_or-map}
 use Rattle.std.proofs.Math.ListN.{get_or-append, drop_of_length-le}
 use Rattle.std.proofs.Math.Seq.{get_or-append_right}
@@ -7,7 +7,7 @@ use Rattle.fm_msg.specs.declared.msg.Msg.{Msg}
 use Rattle.fm_msg.specs.declared.msg.Msg.TheVariants.{On, Off}
 use Rattle.fm_msg.specs.Event.{TimedMessage}
 use Rattle.fm_strand.specs.declared.pending.Pending.{Pending}
-use Rattle.fm_strand.specs.Sounding.{events_at, note_events, pending_events, next_msg, next_time, IsPending, StartsAt}
+use Rattle.fm_strand.specs.Sounding.{events_at, note_events, pending_events, next_msg, next_time, StartsAt}
 use Rattle.fm_strand.proofs.StockLemmas.{below_of, past_of}
 
 -- an event that stands for none

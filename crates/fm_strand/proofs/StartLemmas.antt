@@ -1,40 +1,31 @@
 -- Where processes start and end: in levels of the plan, within the limits.
-use Rattle.std.proofs.Common.{◌≡◌, refl, sym, ◌∙◌, ap, subst, arith, ℕ, zero, suc, ◌+◌, ◌-◌, ◌<◌, ◌≤◌, List, [], ◌∷◌, ◌++◌, length, map, reverse, replicate, All, Bool, true, false, ◌&&◌, nat_lt, nat_le, nat_eq, if◌then◌else◌, Option, Some, None, slice_get, slice_index_or, append-nil, append_assoc, length-append}
+use Rattle.std.proofs.Common.{◌≡◌, refl, sym, ◌∙◌, ap, subst, arith, ℕ, zero, suc, ◌+◌, ◌-◌, ◌<◌, ◌≤◌, List, [], ◌∷◌, ◌++◌, length, map, reverse, Bool, true, false, ◌&&◌, nat_lt, nat_le, nat_eq, if◌then◌else◌, Option, Some, None, slice_get, slice_index_or, length-append}
 use Rattle.std.specs.List.{list_all}
 use Rattle.std.specs.Option.{option_map}
 use Rattle.std.proofs.lemmas.List.{reverse-append, length-map}
-use Rattle.std.proofs.lemmas.List.Elements.{All-append, All-cons, All-nil}
 use Rattle.fm_tick.specs.declared.tick.TheConstants.{MAX_TICK}
 use Rattle.fm_warp.specs.declared.part.Part.{Part}
-use Rattle.fm_warp.specs.declared.side.Side.TheVariants.{Onset}
-use Rattle.fm_warp.specs.Deformation.{placed}
 use Rattle.fm_line.specs.Marks.{Mark}
 use Rattle.fm_line.specs.Validity.{each_below, all_once}
-use Rattle.fm_nest.specs.declared.frame.Frame.{Frame}
-use Rattle.fm_nest.specs.declared.nest.TheConstants.{MAX_LEVELS}
-use Rattle.fm_nest.specs.declared.place.Place.{Place}
-use Rattle.fm_nest.specs.Nesting.{framed}
 use Rattle.fm_program.specs.declared.op.Op.{Op}
 use Rattle.fm_program.specs.declared.op.Op.TheVariants as op
-use Rattle.fm_program.specs.declared.op.TheConstants.{MAX_FRAMES}
 use Rattle.fm_program.specs.declared.plan.TheConstants.{MAX_STEPS}
-use Rattle.fm_program.specs.Parts.{StockParts, ProgramParts, PlanParts, no_program, process_program}
-use Rattle.fm_program.specs.Action.{Action, action_of, amount_of, chord_at, duration_of, parts_at, repeats_of, scope_at}
-use Rattle.fm_program.specs.State.{OpenFrame, counting, cycling, OpenLevel, Standing, number_drawn, duration_drawn, repeats_drawn}
-use Rattle.fm_program.specs.Needs.{holds, levels_hold}
-use Rattle.fm_program.specs.Run.{Stepped, over, stuck, silent, sounding, done, step, step_from, step_at, put_out, program_run, loop_opened, round_over, frame_closed, level_closed}
-use Rattle.fm_program.specs.Process.{Played, Spot, no_played, outset, later_spot, start_spot, end_spot, spot_reached, levels_opened, plan_played, process_run}
-use Rattle.fm_program.specs.Fit.{PartsFit, ends_in, joins, program_fits, ops_fit, same_numbers}
-use Rattle.fm_strand.specs.Course.{begun, code_of, place_of, standing, start_place, steps_of}
-use Rattle.fm_strand.specs.Timing.{IsInTime, level_of, levels_inside}
+use Rattle.fm_program.specs.Parts.{StockParts, PlanParts, process_program}
+use Rattle.fm_program.specs.Action.{Action, action_of, amount_of, duration_of, parts_at, repeats_of, scope_at}
+use Rattle.fm_program.specs.State.{OpenFrame, counting, cycling, OpenLevel, Standing, repeats_drawn}
+use Rattle.fm_program.specs.Needs.{levels_hold}
+use Rattle.fm_program.specs.Run.{Stepped, over, stuck, done, step, step_from, step_at, program_run, loop_opened, round_over, frame_closed, level_closed}
+use Rattle.fm_program.specs.Process.{Played, Spot, outset, start_spot, end_spot, spot_reached, levels_opened, plan_played, process_run}
+use Rattle.fm_program.specs.Fit.{PartsFit, ends_in, joins, same_numbers}
+use Rattle.fm_strand.specs.Course.{begun, code_of, standing, steps_of}
 use Rattle.fm_strand.specs.Strand.{left_by}
 use Rattle.fm_strand.proofs.FrameLemmas.{false_true}
-use Rattle.fm_strand.proofs.StockLemmas.{below_of, both, equal_of, list_all-at, most_of, past_of}
-use Rattle.fm_strand.proofs.TimeLemmas.{AreNamed, Held, held-most, held_of, IsInTime-held}
+use Rattle.fm_strand.proofs.StockLemmas.{below_of, both, equal_of, list_all-at}
+use Rattle.fm_strand.proofs.TimeLemmas.{held_of}
 use Rattle.fm_strand.proofs.DrawLemmas.{number-kept, duration-kept, repeats-kept}
 use Rattle.fm_strand.proofs.NoteLemmas.{note-kept}
-use Rattle.fm_strand.proofs.RunLemmas.{Follows, Goes, OpGoes, cut-next, follows, goes, op-goes, quiet, sounds, stops}
-use Rattle.fm_strand.proofs.CourseLemmas.{Advances, advances, get-action, left-over, over-left, process-as, process-ends, process-op}
+use Rattle.fm_strand.proofs.RunLemmas.{Goes, cut-next, follows, goes, op-goes, quiet, sounds, stops}
+use Rattle.fm_strand.proofs.CourseLemmas.{advances, get-action, over-left, process-as, process-ends}
 
 -- ---- levels of the plan
 

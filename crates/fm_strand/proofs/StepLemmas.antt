@@ -1,10 +1,9 @@
 -- What a step makes of a strand in its course.
-use Rattle.std.proofs.Common.{◌≡◌, refl, sym, ◌∙◌, ap, subst, arith, ℕ, zero, suc, ◌+◌, ◌-◌, ◌*◌, ◌^◌, ◌<◌, ◌≤◌, List, [], ◌∷◌, ◌++◌, length, map, true, Option, Some, None, slice_get}
+use Rattle.std.proofs.Common.{◌≡◌, refl, sym, ◌∙◌, ap, subst, arith, ℕ, ◌+◌, ◌-◌, ◌^◌, ◌<◌, ◌≤◌, List, [], ◌∷◌, ◌++◌, length, map, true, Option, Some, slice_get}
 use Rattle.std.specs.Option.{option_map, option_to_list}
 use Rattle.fm_msg.specs.Event.{TimedMessage}
-use Rattle.fm_line.specs.Marks.{Mark, mark_event}
+use Rattle.fm_line.specs.Marks.{Mark}
 use Rattle.fm_program.specs.declared.op.Op.{Op}
-use Rattle.fm_program.specs.declared.plan.TheConstants.{MAX_STEPS}
 use Rattle.fm_program.specs.Parts.{PlanParts, process_program}
 use Rattle.fm_program.specs.Action.{Action, action_of}
 use Rattle.fm_program.specs.State.{Standing}
@@ -16,11 +15,11 @@ use Rattle.fm_strand.specs.declared.pending.Pending.{Pending}
 use Rattle.fm_strand.specs.declared.answers.Stepped.{Stepped}
 use Rattle.fm_strand.specs.declared.answers.Stepped.TheVariants as stepped
 use Rattle.fm_strand.specs.Course.{code_of, mark_events, standing, step_event, steps_of, tick_of, to_come}
-use Rattle.fm_strand.specs.Sounding.{IsPending, NoteStands, StartsAt, event_of, pending_events}
+use Rattle.fm_strand.specs.Sounding.{IsPending, NoteStands, event_of, pending_events}
 use Rattle.fm_strand.specs.Strand.{Answers, CanDo, Does, InCourse, IsReady, MakesStep, Stands, StepIs, clock_of, left_by, next_event, rest, steps_left}
 use Rattle.fm_strand.proofs.RunLemmas.{OpGoes, marks_by, op-goes, step_at_over}
 use Rattle.fm_strand.proofs.TickLemmas.{Ticks}
-use Rattle.fm_strand.proofs.CourseLemmas.{Advances, advances, calm-standing, get-action, left-over, over-left, process-op, steps-most}
+use Rattle.fm_strand.proofs.CourseLemmas.{Advances, advances, calm-standing, get-action, over-left, process-op, steps-most}
 
 -- ---- the state of a strand
 

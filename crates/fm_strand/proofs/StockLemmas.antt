@@ -1,18 +1,16 @@
 -- What the tables of a plan that fits hold, and what is drawn of them.
-use Rattle.std.proofs.Common.{◌≡◌, refl, sym, ◌∙◌, ap, subst, arith, ℕ, ℤ, pos, zero, suc, ◌+◌, ◌-◌, ◌%◌, ◌<◌, ◌≤◌, List, [], ◌∷◌, ◌++◌, length, map, All, Bool, true, false, ◌&&◌, nat_lt, nat_le, nat_eq, slice_index_or, take, vec_items, Vec, Global}
+use Rattle.std.proofs.Common.{◌≡◌, refl, sym, ◌∙◌, ap, subst, arith, ℕ, ℤ, pos, zero, suc, ◌+◌, ◌-◌, ◌%◌, ◌<◌, ◌≤◌, List, [], ◌∷◌, ◌++◌, length, map, All, Bool, true, false, ◌&&◌, nat_lt, nat_le, nat_eq, slice_index_or, take}
 use Rattle.std.specs.List.{list_all}
 use Rattle.std.proofs.lemmas.List.{take_more}
 use Rattle.std.proofs.lemmas.List.Elements.{All-cons, All-nil, All-append}
 use Rattle.fm_value.specs.declared.node.Node.{Node}
-use Rattle.fm_value.specs.declared.expr.Expr.{Expr}
 use Rattle.fm_value.specs.Value.{readable, value_of, is_expr}
 use Rattle.fm_pattern.specs.declared.cursor.TheConstants.{MAX_ENTRIES}
 use Rattle.fm_msg.specs.declared.msg.TheConstants.{DATA_VALUES}
 use Rattle.fm_program.specs.declared.op.Draw.{Draw}
 use Rattle.fm_program.specs.declared.op.Draw.TheVariants as draw
-use Rattle.fm_program.specs.declared.op.Slot.{Slot}
 use Rattle.fm_program.specs.declared.op.TheConstants.{MAX_PITCHES}
-use Rattle.fm_program.specs.Parts.{StockParts, expr_nodes}
+use Rattle.fm_program.specs.Parts.{StockParts}
 use Rattle.fm_program.specs.Action.{chord_at, expr_at, list_at, scope_at}
 use Rattle.fm_program.specs.State.{OpenFrame, cycling, Standing, slot_index, expr_drawn}
 use Rattle.fm_program.specs.Process.{cycles_opened}

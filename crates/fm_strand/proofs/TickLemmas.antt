@@ -1,8 +1,7 @@
 -- Ticks of states never fall.
-use Rattle.std.proofs.Common.{◌≡◌, refl, sym, ◌∙◌, ap, subst, arith, ℕ, zero, suc, ◌+◌, ◌-◌, ◌<◌, ◌≤◌, List, [], ◌∷◌, ◌++◌, map, length, max, Bool, true, false, Option, Some, None, slice_get, ◌&&◌, if◌then◌else◌}
+use Rattle.std.proofs.Common.{◌≡◌, refl, sym, ◌∙◌, ap, subst, arith, ℕ, zero, suc, ◌+◌, ◌-◌, ◌≤◌, List, [], ◌∷◌, ◌++◌, map, max, Bool, true, false, Option, Some, None, ◌&&◌, if◌then◌else◌}
 use Rattle.std.specs.List.{list_all}
 use Rattle.std.specs.Option.{option_map}
-use Rattle.fm_warp.specs.declared.part.Part.{Part}
 use Rattle.fm_warp.specs.declared.side.Side.TheVariants.{Onset, Ending}
 use Rattle.fm_warp.specs.Deformation.{placed}
 use Rattle.fm_warp.proofs.DeformationLemmas.{sum_from-mono, sum_from-ending}
@@ -16,15 +15,15 @@ use Rattle.fm_program.specs.declared.op.TheConstants.{MAX_PERCENT}
 use Rattle.fm_program.specs.declared.op.Slot.{Slot}
 use Rattle.fm_program.specs.declared.op.Turn.{Turn}
 use Rattle.fm_program.specs.Action.{Action, MessageNumber, SpanLength, note, rest, send, assign, choose, jump, loop, again, begin, close, enter, leave}
-use Rattle.fm_program.specs.State.{OpenFrame, counting, cycling, OpenLevel, Standing, pitches_drawn, duration_drawn, turn_drawn, number_drawn, expr_drawn, repeats_drawn}
+use Rattle.fm_program.specs.State.{OpenFrame, counting, cycling, OpenLevel, Standing, pitches_drawn, duration_drawn, turn_drawn, number_drawn, repeats_drawn}
 use Rattle.fm_program.specs.Needs.{is_open, slot_open, duration_open, turn_open}
 use Rattle.fm_program.specs.Fit.{turn_fits}
-use Rattle.fm_program.specs.Run.{Stepped, over, stuck, silent, sounding, done, step, step_from, step_at, put_out, marks_of, point_msg, loop_opened, round_over, frame_closed, level_closed}
+use Rattle.fm_program.specs.Run.{Stepped, sounding, done, put_out, marks_of, point_msg, loop_opened, round_over, frame_closed, level_closed}
 use Rattle.fm_program.specs.Process.{ending_mark}
 use Rattle.fm_strand.specs.Course.{step_event, tick_from, tick_of}
 use Rattle.fm_strand.specs.Strand.{left_by}
 use Rattle.fm_strand.proofs.StockLemmas.{both}
-use Rattle.fm_strand.proofs.DrawLemmas.{Kept, kept-same, kept-then, number-kept, pitches-kept, duration-kept, turn-kept, repeats-kept, turn-most, turn_open-duration, turn_open-pitches}
+use Rattle.fm_strand.proofs.DrawLemmas.{Kept, kept-then, number-kept, pitches-kept, duration-kept, turn-kept, repeats-kept, turn-most, turn_open-duration, turn_open-pitches}
 use Rattle.fm_strand.proofs.NoteLemmas.{note-within}
 use Rattle.fm_strand.proofs.OperationLemmas.{point-plain}
 

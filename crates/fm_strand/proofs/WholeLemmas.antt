@@ -1,5 +1,5 @@
 -- What a strand gave and has to give is its line, in time.
-use Rattle.std.proofs.Common.{◌≡◌, refl, sym, ◌∙◌, ap, subst, arith, ℕ, zero, suc, ◌+◌, ◌-◌, ◌<◌, ◌≤◌, List, [], ◌∷◌, ◌++◌, length, map, All, Option, Some, None, append_assoc, append-nil, slice_index_or}
+use Rattle.std.proofs.Common.{◌≡◌, refl, sym, ◌∙◌, ap, subst, arith, ℕ, zero, suc, ◌+◌, ◌-◌, ◌<◌, ◌≤◌, List, [], ◌∷◌, ◌++◌, length, All, Option, Some, None, append_assoc, slice_index_or}
 use Rattle.std.specs.Option.{option_to_list}
 use Rattle.std.proofs.lemmas.List.Elements.{All-append, All-cons, All-nil}
 use Rattle.fm_msg.specs.Event.{TimedMessage}
@@ -9,14 +9,14 @@ use Rattle.fm_program.specs.declared.plan.TheConstants.{MAX_STEPS}
 use Rattle.fm_program.specs.Parts.{PlanParts}
 use Rattle.fm_program.specs.State.{Standing}
 use Rattle.fm_program.specs.Run.{Stepped, over, stuck, silent, sounding, step, step_from, put_out, Run, program_run}
-use Rattle.fm_program.specs.Process.{ending_mark, plan_lines, process_run, spot_reached}
+use Rattle.fm_program.specs.Process.{ending_mark, plan_lines, spot_reached}
 use Rattle.fm_program.specs.Fit.{PartsFit}
 use Rattle.fm_strand.specs.declared.strand.Strand.{Strand}
-use Rattle.fm_strand.specs.Course.{begun, code_of, end_place, given, mark_events, passed, place_of, standing, step_event, steps_of, tick_from, tick_of, to_come}
-use Rattle.fm_strand.specs.Strand.{InCourse, clock_of, left_by, place_reached, rest, steps_left}
-use Rattle.fm_strand.proofs.RunLemmas.{Follows, follows, marks_by, sounding_over}
+use Rattle.fm_strand.specs.Course.{begun, code_of, end_place, given, mark_events, passed, place_of, standing, steps_of, tick_from, tick_of, to_come}
+use Rattle.fm_strand.specs.Strand.{InCourse, clock_of, place_reached, rest, steps_left}
+use Rattle.fm_strand.proofs.RunLemmas.{follows, marks_by, sounding_over}
 use Rattle.fm_strand.proofs.TickLemmas.{Ticks}
-use Rattle.fm_strand.proofs.CourseLemmas.{Advances, advances, calm-standing, left-over, over-left, process-as, process-ends}
+use Rattle.fm_strand.proofs.CourseLemmas.{advances, calm-standing, left-over, over-left, process-as, process-ends}
 use Rattle.fm_strand.proofs.StartLemmas.{last-standing}
 use Rattle.fm_strand.proofs.LineLemmas.{line-end, line-events}
 

@@ -1,4 +1,4 @@
-use Rattle.std.proofs.Common.{◌≡◌, ◌<◌, ◌≤◌, length, map, take, All, true}
+use Rattle.std.proofs.Common.{◌≡◌, ◌<◌, length, map, take, All}
 use Rattle.fm_program.specs.declared.op.TheConstants.{MAX_INDEX}
 use Rattle.fm_program.specs.Parts.{stock_parts}
 use Rattle.fm_program.specs.State.{Standing, slot_index}

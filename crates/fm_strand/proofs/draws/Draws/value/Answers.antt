@@ -1,4 +1,4 @@
-use Rattle.std.proofs.Common.{◌≡◌, ◌<◌, List, length, map, arith, sym, ◌∙◌, refl, ap, subst, true, w64, SFits, vec_items, Vec, Global, [], IsTrue}
+use Rattle.std.proofs.Common.{◌≡◌, ◌<◌, List, length, map, arith, sym, ◌∙◌, refl, ap, subst, true, w64, SFits, vec_items, Global, []}
 use Rattle.std.proofs.lemmas.List.{length-map}
 use Rattle.std.proofs.Math.Facts.{to_z-of_z}
 use Rattle.fm_value.specs.declared.node.Node.{Node}

@@ -1,4 +1,4 @@
-use Rattle.std.proofs.Common.{◌≡◌, refl, arith, sym, ◌∙◌, ◌∷◌, ◌+◌, ap}
+use Rattle.std.proofs.Common.{refl, sym, ◌∙◌, ◌∷◌, ◌+◌, ap}
 use Rattle.fm_msg.specs.Event.{TimedMessage}
 use Rattle.fm_strand.specs.Sounding.{next_msg, next_time, pending_events}
 use Rattle.fm_strand.proofs.SoundLemmas.{pending-next, next_is}

@@ -1,10 +1,6 @@
-use Rattle.std.proofs.Common.{◌≡◌, ◌<◌, ◌≤◌, ◌+◌, ◌%◌, ◌^◌, ℕ, List, All, length, refl, sym, ◌∙◌, ap, subst, arith}
-use Rattle.fm_warp.specs.declared.part.Part.{Part}
-use Rattle.fm_nest.specs.Nesting.{framed}
+use Rattle.std.proofs.Common.{◌<◌, ◌+◌, ◌%◌, ◌^◌, ℕ, List, All, length, sym, ◌∙◌, ap, subst, arith}
 use Rattle.fm_program.specs.Parts.{StockParts, process_program, stock_parts}
-use Rattle.fm_strand.specs.Course.{begun, steps_of, to_come}
 use Rattle.fm_strand.specs.Strand.{clock_of, rest, steps_left}
-use Rattle.fm_strand.specs.Timing.{IsInTime}
 use Rattle.fm_strand.proofs.BeginLemmas.{begin-course, begin-depth, begin-fits, begin-limited, begin-rest, begin-tick, named-all, opens}
 use Rattle.fm_strand.proofs.strand.Strand.begin.Goals as goal
 

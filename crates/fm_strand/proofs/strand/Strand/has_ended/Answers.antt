@@ -1,7 +1,6 @@
-use Rattle.std.proofs.Common.{arith, sym, ◌∙◌}
-use Rattle.fm_strand.proofs.CourseLemmas.{steps-most}
-use Rattle.fm_strand.proofs.StepLemmas.{op-lives, step-done, step-can, step-ended, step-due}
-use Rattle.fm_strand.proofs.ReadLemmas.{ended-left, left-lives, none-ended, op-quiet, op-sounds, over-quiet, pending-sounds}
+use Rattle.std.proofs.Common.{sym, ◌∙◌}
+use Rattle.fm_strand.proofs.StepLemmas.{op-lives}
+use Rattle.fm_strand.proofs.ReadLemmas.{ended-left, left-lives, none-ended, pending-sounds}
 use Rattle.fm_strand.proofs.strand.Strand.has_ended.Goals as goal
 
 pub returns-in-Some-clause-not_yet : goal.returns-in-Some-clause-not_yet

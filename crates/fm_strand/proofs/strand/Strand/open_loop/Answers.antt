@@ -1,4 +1,3 @@
-use Rattle.std.proofs.Common.{◌≡◌, refl, sym, ◌∙◌, ap, subst, arith, List}
 use Rattle.fm_strand.proofs.OperationLemmas.{frames-same, loop-does}
 use Rattle.fm_strand.proofs.strand.Strand.open_loop.Goals as goal
 

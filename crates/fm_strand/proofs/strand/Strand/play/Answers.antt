@@ -1,10 +1,9 @@
-use Rattle.std.proofs.Common.{◌≡◌, ◌≤◌, ◌∙◌, ℕ, List, ap, sym, arith, max}
+use Rattle.std.proofs.Common.{◌≤◌, ◌∙◌, ℕ, List, ap, arith, max}
 use Rattle.fm_pattern.specs.NoteEnd.{note_end}
 use Rattle.fm_warp.specs.declared.part.Part.{Part}
 use Rattle.fm_warp.specs.declared.side.Side.TheVariants.{Onset, Ending}
 use Rattle.fm_nest.specs.Nesting.{composed, frames_of}
 use Rattle.fm_nest.proofs.NestingLemmas.{FitsLevels-limited}
-use Rattle.fm_program.specs.declared.op.TheConstants.{MAX_PERCENT}
 use Rattle.fm_strand.proofs.NoteLemmas.{note-does, note-fits, note-loud, note-percent, note-within}
 use Rattle.fm_strand.proofs.strand.Strand.play.Goals as goal
 

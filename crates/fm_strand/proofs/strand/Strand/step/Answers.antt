@@ -1,7 +1,7 @@
 use Rattle.std.proofs.Common.{arith, sym, ◌∙◌}
 use Rattle.fm_strand.proofs.CourseLemmas.{steps-most}
-use Rattle.fm_strand.proofs.StepLemmas.{op-lives, step-done, step-can, step-ended, step-due}
-use Rattle.fm_strand.proofs.ReadLemmas.{ended-left, left-lives, none-ended, op-quiet, op-sounds, over-quiet, pending-sounds}
+use Rattle.fm_strand.proofs.StepLemmas.{step-done, step-can, step-ended, step-due}
+use Rattle.fm_strand.proofs.ReadLemmas.{none-ended}
 use Rattle.fm_strand.proofs.strand.Strand.step.Goals as goal
 
 pub overflow_add-self : goal.overflow_add-self

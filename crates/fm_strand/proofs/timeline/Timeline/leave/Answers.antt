@@ -1,12 +1,8 @@
-use Rattle.std.proofs.Common.{◌≡◌, ◌+◌, ◌≤◌, ℕ, List, arith, sym, subst, refl, ap, ◌∙◌}
+use Rattle.std.proofs.Common.{◌≡◌, List, sym, ap, ◌∙◌}
 use Rattle.fm_warp.specs.declared.side.Side.TheVariants.{Onset, Ending}
-use Rattle.fm_nest.specs.declared.level.Level.{Level}
 use Rattle.fm_nest.specs.declared.frame.Frame.{Frame}
-use Rattle.fm_nest.specs.Nesting.{frames_of, composed, FitsLevels}
-use Rattle.fm_nest.specs.Readiness.{ReadyFrom}
-use Rattle.fm_nest.proofs.NestingLemmas.{FitsLevels-limited, FitsLevels-earlier, FitsLevels-ending}
-use Rattle.fm_strand.specs.Timing.{IsInTime, IsTimed}
-use Rattle.fm_strand.proofs.TimeLemmas.{Innermost, innermost, ReadyFrom-later, IsInTime-left}
+use Rattle.fm_nest.specs.Nesting.{frames_of, composed}
+use Rattle.fm_strand.proofs.TimeLemmas.{innermost, IsInTime-left}
 use Rattle.fm_strand.proofs.timeline.Timeline.leave.Goals as goal
 
 pub onset-self-requires-clause-fits : goal.onset-self-requires-clause-fits
