@@ -16,3 +16,6 @@ pub mod LineLemmas
 pub mod BeginLemmas
 pub mod WholeLemmas
 pub mod MeetLemmas
+pub mod NumberLemmas
+pub mod ValidLemmas
+pub mod CallLemmas

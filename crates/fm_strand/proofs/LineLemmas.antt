@@ -1,5 +1,5 @@
 -- The line of a process is what its run gives.
-use Rattle.std.proofs.Common.{◌≡◌, ◌≢◌, refl, sym, ◌∙◌, ap, subst, arith, ℕ, zero, suc, ◌+◌, ◌-◌, ◌<◌, ◌≤◌, List, [], ◌∷◌, ◌++◌, length, map, max, Bool, true, false, ◌&&◌, nat_lt, nat_eq, if◌then◌else◌, Option, Some, None, is_none, slice_get, slice_index_or, append-nil, append_assoc}
+use Rattle.std.proofs.Common.{◌≡◌, ◌≢◌, refl, sym, ◌∙◌, ap, subst, arith, ℕ, zero, suc, ◌+◌, ◌<◌, List, [], ◌∷◌, ◌++◌, length, map, Bool, true, false, ◌&&◌, nat_eq, if◌then◌else◌, Option, Some, None, is_none, slice_get, slice_index_or, append-nil, append_assoc}
 use Rattle.std.proofs.lemmas.List.{length-map}
 use Rattle.std.specs.Option.{option_map, option_to_list}
 use Rattle.fm_warp.specs.declared.side.Side.TheVariants.{Onset, Ending}
@@ -7,25 +7,23 @@ use Rattle.fm_warp.specs.Deformation.{placed}
 use Rattle.fm_msg.specs.declared.msg.Msg.{Msg}
 use Rattle.fm_msg.specs.Event.{TimedMessage}
 use Rattle.fm_line.specs.declared.line.Line.{Line}
-use Rattle.fm_line.specs.Line.{greatest, line, no_line, start}
+use Rattle.fm_line.specs.Line.{line}
 use Rattle.fm_line.specs.Marks.{Mark, lines_from, mapped, mark_event, process_end, process_events, process_line}
 use Rattle.fm_program.specs.declared.op.Slot.{Slot}
 use Rattle.fm_program.specs.declared.op.Turn.{Turn}
 use Rattle.fm_program.specs.declared.plan.TheConstants.{MAX_STEPS}
-use Rattle.fm_program.specs.Parts.{PlanParts, ProgramParts, process_program}
+use Rattle.fm_program.specs.Parts.{PlanParts, ProgramParts}
 use Rattle.fm_program.specs.Action.{Action, MessageNumber, SpanLength, note, rest, send, assign, choose, jump, loop, again, begin, close, enter, leave}
-use Rattle.fm_program.specs.State.{OpenFrame, counting, cycling, OpenLevel, Standing, pitches_drawn, duration_drawn, turn_drawn, number_drawn, repeats_drawn}
+use Rattle.fm_program.specs.State.{OpenFrame, counting, cycling, OpenLevel, Standing, pitches_drawn, duration_drawn, turn_drawn, repeats_drawn}
 use Rattle.fm_program.specs.Run.{Stepped, over, stuck, silent, sounding, done, step, step_from, step_at, within_limits, marks_of, put_out, Run, run_done, run_from, program_run, loop_opened, round_over, frame_closed, level_closed}
 use Rattle.fm_program.specs.Needs.{holds, is_open}
 use Rattle.fm_program.specs.Process.{Played, no_played, ending_mark, played_marks, plan_lines, plan_played, process_run}
 use Rattle.fm_program.specs.Fit.{PartsFit}
-use Rattle.fm_program.proofs.Lines.{plan-lines-waits}
-use Rattle.fm_strand.specs.Course.{begun, code_of, mark_events, steps_of}
+use Rattle.fm_strand.specs.Course.{begun, code_of, mark_events}
 use Rattle.fm_strand.specs.Strand.{left_by}
 use Rattle.fm_strand.proofs.FrameLemmas.{false_true}
-use Rattle.fm_strand.proofs.StockLemmas.{both, equal_of}
 use Rattle.fm_strand.proofs.DrawLemmas.{Kept, kept-then, number-kept, pitches-kept, duration-kept, turn-kept, repeats-kept}
-use Rattle.fm_strand.proofs.RunLemmas.{Ends, marks_by}
+use Rattle.fm_strand.proofs.RunLemmas.{marks_by}
 use Rattle.fm_strand.proofs.CourseLemmas.{plan_played-length, process-as, process-ends}
 
 -- ---- marks of one process
@@ -125,7 +123,8 @@ own-limits j w (sounding m t) own so = at (holds t)
     at true = so
     at false = (own, tt)
 
-own-step : (j : ℕ) (code : List Action) (w : Standing) → Own j w → OwnStep j (step code w) w
+-- a step of a process leaves it that process, and gives its marks alone
+pub own-step : (j : ℕ) (code : List Action) (w : Standing) → Own j w → OwnStep j (step code w) w
 own-step j code w own = at w.due refl own.due
   where
     open_or : (a : Action) (b : Bool) → OwnStep j (if b then within_limits (done a w) else stuck) w

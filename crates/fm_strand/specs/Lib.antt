@@ -3,3 +3,4 @@ pub mod Drawing
 pub mod Timing
 pub mod Sounding
 pub mod Strand
+pub mod Calls
