@@ -19,3 +19,4 @@ pub mod MeetLemmas
 pub mod NumberLemmas
 pub mod ValidLemmas
 pub mod CallLemmas
+pub mod RichRows

@@ -1,5 +1,8 @@
 //! Plans run whole and in pieces.
-ghost use Rattle.fm_strand.specs.Strand.{InCourse};
+ghost use Rattle.fm_strand.specs.Calls.{IsBegun};
+
+mod cuts;
+mod rests;
 
 use crate::{Outbox, Plan, Quantum, Stepped, Strand, first};
 use fm_msg::{Event, Msg, Profile};
@@ -17,7 +20,7 @@ const NOTE: Op = Op::Note {
 
 // The first process at its start.
 fn begun(plan: &Plan) -> Strand
-    ensures { InCourse plan.now result }
+    ensures { IsBegun plan.now 0 result }
 {
     let _processes = plan.processes();
     Strand::begin(plan, 0, &first())
