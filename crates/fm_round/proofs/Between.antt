@@ -18,7 +18,7 @@ use Rattle.fm_line.proofs.Sorting.{length-sorted}
 use Rattle.fm_buffer.specs.Outbox.{count_through}
 use Rattle.fm_buffer.specs.Gather.{EventGather}
 use Rattle.fm_program.specs.Parts.{PlanParts}
-use Rattle.fm_round.specs.Slots.{PlanHolds}
+use Rattle.fm_program.specs.Fit.{PartsFit}
 use Rattle.fm_program.specs.Process.{plan_lines}
 use Rattle.fm_program.proofs.Lines.{plan-lines-length}
 use Rattle.fm_smf.specs.Track.{event_bytes, events_bytes, last_time}
@@ -97,7 +97,7 @@ event_breaks content sure faults a b c events front back e u v parts wrote break
     (sym (events_bytes-append u.last (front ++ e ∷ []) back) ∙ ap (events_bytes u.last) parts) all
 
 module _ {K : Type 0} (content : K → Option (List ℕ)) (sure : K → Option ℕ) (faults : K → ℕ)
-    (p : PlanParts) (fits : PlanHolds p) (start now : K) (first writer : Written) (begun : first ≡ record { last = 0; put = START_LENGTH })
+    (p : PlanParts) (fits : PartsFit p) (start now : K) (first writer : Written) (begun : first ≡ record { last = 0; put = START_LENGTH })
     (ss : List Slot) (gather : EventGather) (events : ℕ)
     (between : Between content sure faults p start now first writer ss gather events) where
   same_count : length ss ≡ length (plan_lines p)

@@ -1,8 +1,7 @@
--- A plan of two voices that fork and join: it fits, and its lines are valid.
+-- A plan of two voices that fork and join fits.
 use Rattle.std.proofs.Common.{◌≡◌, ℕ, List, [], ◌∷◌, refl, sym, subst, arith}
 use Rattle.std.specs.Prelude.{pos}
-use Rattle.fm_line.specs.Line.{ValidLines, total}
-use Rattle.fm_line.proofs.Validity.{valid_from}
+use Rattle.fm_line.specs.Line.{total}
 use Rattle.fm_program.specs.declared.op.Draw.TheVariants as draw
 use Rattle.fm_program.specs.declared.op.Span.TheVariants as span
 use Rattle.fm_program.specs.declared.op.Turn.TheVariants as turn
@@ -48,14 +47,6 @@ two_events = refl
 pub two_fit : PartsFit two_voices
 two_fit = fits_by _ (omega arith) (omega arith) refl refl refl refl refl refl (rw two_steps (omega arith)) (rw two_events (omega arith))
 
--- and its lines are valid
-pub two_valid : ValidLines (plan_lines two_voices)
-two_valid = valid_from (plan_lines two_voices) refl
-
 -- so does a plan that is the same
 pub fit_as : (p : PlanParts) → p ≡ two_voices → PartsFit p
 fit_as p is = subst PartsFit (sym is) two_fit
-
--- and so are its lines
-pub valid_as : (p : PlanParts) → p ≡ two_voices → ValidLines (plan_lines p)
-valid_as p is = subst (λ (q : PlanParts). ValidLines (plan_lines q)) (sym is) two_valid

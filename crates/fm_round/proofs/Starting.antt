@@ -16,7 +16,7 @@ use Rattle.fm_strand.specs.Strand.{InCourse, clock_of, rest, steps_left}
 use Rattle.fm_round.specs.declared.slot.Slot.{Slot}
 use Rattle.fm_round.specs.Slots.{AllEnded, AllSlots, AllStarted, IsRun, IsSlotOf, IsStrandOf, IsWaiting, left, lefts, load, loads, no_slot, predecessors, room_of, run_load, slot, yet}
 use Rattle.fm_round.specs.Starts.{HasLevelsOf, latest_of, met_place}
-use Rattle.fm_round.specs.Slots.{PlanHolds}
+use Rattle.fm_program.specs.Fit.{PartsFit}
 use Rattle.fm_round.proofs.Births.{predecessor_below}
 use Rattle.fm_round.proofs.Running.{any_default, rooms_same}
 use Rattle.fm_round.proofs.StrandFacts.{plan_valid}
@@ -168,7 +168,7 @@ waiting_below p ss j before own i below none = by_place (cases_eq i j)
 -- ---- predecessors
 
 -- the slot of a predecessor is there
-pub predecessor_there : (p : PlanParts) (ss : List Slot) (qs : List ℕ) (j i : ℕ) → PlanHolds p → length ss ≡ length p.programs
+pub predecessor_there : (p : PlanParts) (ss : List Slot) (qs : List ℕ) (j i : ℕ) → PartsFit p → length ss ≡ length p.programs
     → j < length p.programs → qs ≡ predecessors p j → i < length qs → get_or qs i 0 < length ss
 predecessor_there p ss qs j i fits count process are within =
     let inside : i < length (predecessors p j) = rw (← are) within in

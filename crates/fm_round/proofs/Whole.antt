@@ -7,7 +7,7 @@ use Rattle.fm_msg.specs.declared.profile.TheConstants.{DIVISION}
 use Rattle.fm_line.specs.Line.{ValidLines}
 use Rattle.fm_line.specs.Piece.{piece}
 use Rattle.fm_program.specs.Parts.{PlanParts}
-use Rattle.fm_round.specs.Slots.{PlanHolds}
+use Rattle.fm_program.specs.Fit.{PartsFit}
 use Rattle.fm_program.specs.Process.{plan_lines}
 use Rattle.fm_smf.specs.File.{file, file_start, start_of, with_length}
 use Rattle.fm_smf.specs.Track.{end_bytes, events_bytes, last_time}
@@ -27,7 +27,7 @@ unfolding start_of file_start with_length
 start_is division is = rw is refl
 
 -- what is needed of the piece of a plan that fits
-pub plan_writable : (p : PlanParts) → PlanHolds p → CanWrite (piece (plan_lines p)) (piece_end (plan_lines p))
+pub plan_writable : (p : PlanParts) → PartsFit p → CanWrite (piece (plan_lines p)) (piece_end (plan_lines p))
 plan_writable p fits = can_write (plan_lines p) (plan_valid p fits)
 
 module _ {K : Type 0} (content : K → Option (List ℕ)) (sure : K → Option ℕ) (faults : K → ℕ) (division : ℕ) (usual : division ≡ DIVISION)
@@ -52,7 +52,7 @@ module _ {K : Type 0} (content : K → Option (List ℕ)) (sure : K → Option �
         broken_more content sure faults begin a b [] events [] events end w (append-nil events) begun
         (subst (λ (z : Written). Breaks content sure faults a b (events_bytes z.last events)) (sym is) breaks)
 
-    module _ (b : K) (v : Written) (p : PlanParts) (fits : PlanHolds p)
+    module _ (b : K) (v : Written) (p : PlanParts) (fits : PartsFit p)
         (writes : Writes content sure faults a b (piece (plan_lines p)) w v) where
       -- all events are written
       pub written : IsWritten content sure faults begin b (piece (plan_lines p)) v

@@ -5,12 +5,13 @@ use Rattle.fm_msg.specs.declared.profile.TheConstants.{DIVISION}
 use Rattle.fm_line.specs.Piece.{piece}
 use Rattle.fm_buffer.specs.Gather.{EventGather}
 use Rattle.fm_program.specs.Parts.{PlanParts}
+use Rattle.fm_program.specs.Fit.{PartsFit}
 use Rattle.fm_program.specs.Process.{plan_lines}
 use Rattle.fm_smf.specs.File.{file}
 use Rattle.fm_smf.specs.Writing.{Written, Writes}
 use Rattle.fm_round.specs.Ends.{piece_end}
 use Rattle.fm_round.specs.Lefts.{Playing}
-use Rattle.fm_round.specs.Slots.{AllSlots, AllStarted, IsFresh, PlanHolds, lefts, room_of, room_sum, slot}
+use Rattle.fm_round.specs.Slots.{AllSlots, AllStarted, IsFresh, lefts, room_of, room_sum, slot}
 use Rattle.fm_round.specs.declared.slot.Slot.{Slot}
 use Rattle.fm_round.specs.declared.played.Played.{Played}
 
@@ -21,7 +22,7 @@ pub record AreFresh (processes room : ℕ) (ss : List Slot) : Type 0 where
 
 -- no process has started, and there is memory for all that the outboxes can hold
 pub record Opened (p : PlanParts) (ss : List Slot) (gather : EventGather) (room : ℕ) : Type 0 where
-  pub fits : PlanHolds p
+  pub fits : PartsFit p
   pub division : p.profile.division ≡ DIVISION
   pub some : 1 ≤ room
   pub count : length ss ≡ length p.programs

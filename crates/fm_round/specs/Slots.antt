@@ -3,21 +3,13 @@ use Rattle.std.specs.Prelude.{◌≡◌, ℕ, ◌+◌, ◌<◌, ◌≤◌, ◌�
 use Rattle.fm_msg.specs.Event.{TimedMessage}
 use Rattle.fm_line.specs.declared.line.Line.{Line}
 use Rattle.fm_buffer.specs.Outbox.{EventQueue, count_through}
-use Rattle.fm_line.specs.Line.{ValidLines}
 use Rattle.fm_program.specs.Parts.{PlanParts, process_program}
-use Rattle.fm_program.specs.Fit.{PartsFit}
-use Rattle.fm_program.specs.Process.{plan_lines}
 use Rattle.fm_strand.specs.declared.strand.Strand.{Strand}
 use Rattle.fm_strand.specs.declared.answers.Quantum.{Quantum}
 use Rattle.fm_strand.specs.declared.answers.Quantum.TheVariants as quantum
 use Rattle.fm_strand.specs.Course.{steps_of}
 use Rattle.fm_strand.specs.Strand.{InCourse, clock_of, rest, steps_left}
 use Rattle.fm_round.specs.declared.slot.Slot.{Slot}
-
--- a plan that fits, and whose lines are valid
-pub record PlanHolds (p : PlanParts) : Type 0 where
-  pub parts : PartsFit p
-  pub valid : ValidLines (plan_lines p)
 
 -- ---- reading
 

@@ -1,8 +1,9 @@
 //! Starts the processes whose predecessors have ended.
 ghost use Rattle.std.specs.Prelude.{◌≡◌, ◌<◌, ℕ, length, map, true, false, None, Some, IfSome};
+ghost use Rattle.fm_program.specs.Fit.{PartsFit};
 ghost use Rattle.fm_program.specs.Process.{plan_lines};
 ghost use Rattle.fm_strand.specs.Course.{end_place, start_place};
-ghost use Rattle.fm_round.specs.Slots.{AllEnded, AllSlots, IsSlotOf, IsWaiting, PlanHolds, slot};
+ghost use Rattle.fm_round.specs.Slots.{AllEnded, AllSlots, IsSlotOf, IsWaiting, slot};
 ghost use Rattle.fm_round.specs.Starts.{HasLevelsOf, Starts, StartsOne, met_place};
 
 use crate::slot::Slot;
@@ -10,7 +11,7 @@ use fm_strand::{Place, Plan, Strand, first, meet};
 
 /// Starts each process that has not started and whose predecessors have all ended.
 pub fn begin_ready(plan: &Plan, slots: &mut [Slot])
-    requires fits { PlanHolds plan.now }
+    requires fits { PartsFit plan.now }
     requires count { length slots.old ≡ length plan.now.programs }
     requires slots { AllSlots plan.now slots.old }
     ensures { Starts plan.now slots.old slots.new }
@@ -22,7 +23,7 @@ pub fn begin_ready(plan: &Plan, slots: &mut [Slot])
 
 // Starts a process if it has not started and all its predecessors have ended.
 fn begin_if_ready(plan: &Plan, process: u32, slots: &mut [Slot])
-    requires fits { PlanHolds plan.now }
+    requires fits { PartsFit plan.now }
     requires count { length slots.old ≡ length plan.now.programs }
     requires process { process < length plan.now.programs }
     requires slots { AllSlots plan.now slots.old }
@@ -37,7 +38,7 @@ fn begin_if_ready(plan: &Plan, process: u32, slots: &mut [Slot])
 
 // Whether a process has not started and all its predecessors have ended.
 fn is_ready(plan: &Plan, process: u32, slots: &[Slot]) -> bool
-    requires fits { PlanHolds plan.now }
+    requires fits { PartsFit plan.now }
     requires count { length slots.now ≡ length plan.now.programs }
     requires process { process < length plan.now.programs }
     ensures yes { result ≡ true
@@ -58,7 +59,7 @@ fn is_ready(plan: &Plan, process: u32, slots: &[Slot]) -> bool
 
 // Where a process starts whose predecessors have all ended.
 fn start_of(plan: &Plan, process: u32, slots: &[Slot]) -> Place
-    requires fits { PlanHolds plan.now }
+    requires fits { PartsFit plan.now }
     requires count { length slots.now ≡ length plan.now.programs }
     requires process { process < length plan.now.programs }
     requires slots { AllSlots plan.now slots.now }

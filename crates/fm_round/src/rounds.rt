@@ -1,14 +1,15 @@
 //! A plan that is played in rounds.
 ghost use Rattle.std.specs.Prelude.{◌≡◌, ◌≤◌, length, OnOk, OnErr, IfOk};
 ghost use Rattle.fm_edge.specs.Content.{IsNew};
-ghost use Rattle.fm_line.specs.Line.{ValidLines, line};
+ghost use Rattle.fm_line.specs.Line.{line};
 ghost use Rattle.fm_line.specs.Piece.{piece};
 ghost use Rattle.fm_msg.specs.declared.profile.TheConstants.{DIVISION};
+ghost use Rattle.fm_program.specs.Fit.{PartsFit};
 ghost use Rattle.fm_program.specs.Process.{plan_lines};
 ghost use Rattle.fm_smf.specs.Writing.{IsFinished, IsBroken};
 ghost use Rattle.fm_round.specs.Ends.{piece_end};
 ghost use Rattle.fm_round.specs.Rounds.{AreFresh, played_of};
-ghost use Rattle.fm_round.specs.Slots.{AllAtEnd, IsAtEnd, IsFresh, PlanHolds};
+ghost use Rattle.fm_round.specs.Slots.{AllAtEnd, IsAtEnd, IsFresh};
 
 use crate::limits::MAX_WORKERS;
 use crate::perform::{perform_alone, perform_shared};
@@ -50,7 +51,6 @@ impl Rounds {
     pub fn open(alloc: Global, plan: Plan, room: u32, lead: u64) -> Result<Rounds, AllocError>
         requires room { (1 ≤ room) × (room ≤ MAX_ROOM) }
         requires division { plan.profile.division ≡ DIVISION }
-        requires valid { ValidLines (plan_lines plan) }
         ensures { IfOk result (λ rounds. rounds ≡ plan) }
     {
         let processes = plan.processes();
@@ -168,7 +168,7 @@ fn fresh_slot(alloc: Global, room: u32) -> Result<Slot, AllocError>
 
 // The tick at which the last process ended.
 fn end_of_piece(plan: &Plan, slots: &[Slot]) -> u64
-    requires fits { PlanHolds plan.now }
+    requires fits { PartsFit plan.now }
     requires count { length slots.now ≡ length plan.now.programs }
     requires ended { AllAtEnd plan.now slots.now }
     ensures { result ≡ piece_end (plan_lines plan.now) }

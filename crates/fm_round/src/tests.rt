@@ -1,8 +1,6 @@
 //! Two voices that start together and end at different times, played in both ways.
 ghost use Rattle.std.specs.Prelude.{◌≡◌, IfOk};
-ghost use Rattle.fm_line.specs.Line.{ValidLines};
 ghost use Rattle.fm_msg.specs.declared.profile.TheConstants.{DIVISION};
-ghost use Rattle.fm_program.specs.Process.{plan_lines};
 
 use crate::Rounds;
 use fm_edge::{MemorySink, OpenGate};
@@ -40,8 +38,7 @@ const SHORT: Op = Op::Note {
 
 // Two voices between two empty processes.
 fn plan_of_two_voices(alloc: Global) -> Result<Plan, AllocError>
-    ensures valid { IfOk result (λ plan. ValidLines (plan_lines plan)) }
-    ensures division { IfOk result (λ plan. plan.profile.division ≡ DIVISION) }
+    ensures { IfOk result (λ plan. plan.profile.division ≡ DIVISION) }
 {
     let first = vec![in alloc; Draw::Fixed { value: 60 }]?;
     let second = vec![in alloc; Draw::Fixed { value: 64 }]?;

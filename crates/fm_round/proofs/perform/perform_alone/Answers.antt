@@ -25,7 +25,7 @@ pub overflow_add-events : goal.overflow_add-events
 overflow_add-events g c = let few = few_events g.K.Sink.content g.K.Sink.sure g.K.Sink.faults c.args.plan.now c.requires.opened.fits c.args.sink.now c.loop-next.sink c.args.writer.now c.loop-next.writer c.requires.begun c.loop-next.slots c.loop-next.gather c.loop-next.events c.loop-next.invariant (Some c.in-Some.next) (next_first g.K.Sink.content g.K.Sink.sure g.K.Sink.faults c.args.plan.now c.requires.opened.fits c.args.sink.now c.loop-next.sink c.args.writer.now c.loop-next.writer c.requires.begun c.loop-next.slots c.loop-next.gather c.loop-next.events c.loop-next.invariant c.in-Some.next.0 c.in-Some.next.1 c.in-Some.ensures) in let count = c.in_ok-events.ensures.count in omega arith
 
 pub run_alone-requires-clause-few : goal.run_alone-requires-clause-few
-run_alone-requires-clause-few g c = let taken : length c.release.new.slots ≡ length c.loop-next.slots = simp length-map at (ap length c.in_ok-events.ensures.slots) in let count = c.loop-next.invariant.count in let few = c.requires.opened.fits.parts.few in omega arith
+run_alone-requires-clause-few g c = let taken : length c.release.new.slots ≡ length c.loop-next.slots = simp length-map at (ap length c.in_ok-events.ensures.slots) in let count = c.loop-next.invariant.count in let few = c.requires.opened.fits.few in omega arith
 
 pub run_alone-requires-clause-slots : goal.run_alone-requires-clause-slots
 run_alone-requires-clause-slots g c = subst (AllSlots c.args.plan.now) (sym c.in_ok-events.ensures.slots) (slots_release c.args.plan.now (Some c.in-Some.next) c.loop-next.slots c.loop-next.invariant.slots)

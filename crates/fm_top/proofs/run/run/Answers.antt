@@ -1,9 +1,5 @@
-use Rattle.fm_top.proofs.Playing.{valid_taken, is_something, score_written, score_broken}
+use Rattle.fm_top.proofs.Playing.{is_something, score_written, score_broken}
 use Rattle.fm_top.proofs.run.run.Goals as goal
-
-pub open-requires-clause-valid : goal.open-requires-clause-valid
-open-requires-clause-valid g c =
-    valid_taken c.plans_play_the_score.ensures c.accepted_lines_are_valid.ensures.valid _ _ _ c.in_ok-plan.ensures.planned
 
 pub returns-in-Ok-play-clause-ok : goal.returns-in-Ok-play-clause-ok
 returns-in-Ok-play-clause-ok g c =

@@ -7,7 +7,7 @@ pub invariant_of-result : goal.invariant_of-result
 invariant_of-result c =
     let slots = c.in_ok-slots.ensures in
     let gather = c.in_ok-gather.ensures in record {
-      fits = record { parts = c.processes-processes.ensures.fits; valid = c.requires.valid };
+      fits = c.processes-processes.ensures.fits;
       division = c.requires.division;
       some = omega arith;
       count = slots.count ∙ c.processes-processes.ensures.value;
