@@ -1,4 +1,4 @@
--- The text that a source told is the one that was judged.
+-- The text that there was to take is the one that was judged.
 use Rattle.std.proofs.Common.{◌≡◌, ◌⊎◌, ℕ, ◌<◌, ◌≤◌, List, [], ◌++◌, length, Option, Some, None, IfSome, sym, ◌∙◌, ap, subst, inl, inr, arith, length-append}
 use Rattle.std.proofs.lemmas.List.{append-nil}
 use Rattle.std.specs.Io.KnownBytes.{prepend_known}
@@ -10,7 +10,7 @@ use Rattle.fm_meaning.specs.Verdict.{Cause, too_much, trips, finds, HasFault, Me
 use Rattle.fm_top.specs.Judging.{IsJudged}
 use Rattle.fm_top.specs.declared.run_fault.RunFault.{RunFault}
 use Rattle.fm_top.specs.declared.run_fault.RunFault.TheVariants as run
-use Rattle.fm_top.specs.Taking.{TakesAll, TakesScore, TakesFault, IsTaken}
+use Rattle.fm_top.specs.Taking.{TakesAll, TakesScore, TakesFault, IsTaken, offered, remaining}
 
 -- the text that the source told, where it was taken to its end
 told_is : (o n : Option (List ℕ)) (text told : List ℕ) → o ≡ prepend_known text n → IfSome n (λ l. l ≡ []) → o ≡ Some told → told ≡ text
@@ -50,15 +50,16 @@ means_told o n told score taken tells =
     subst (λ z. Means z score) (sym (told_is o n taken.text told taken.all.taken taken.all.ended tells)) taken.means
 
 -- the fault of judging a text that was taken to its end
-pub judged_taken : {S : Type 0} (left : S → Option (List ℕ)) (faults : S → ℕ) (old new : S) (text slice : List ℕ) (fault : RunFault)
-    → TakesAll (left old) (left new) text → slice ≡ text → IsJudged slice fault → IsTaken left faults old new fault
-judged_taken left faults old new text slice run.Words all same judged = judged
-judged_taken left faults old new text slice run.Read all same judged = absurd judged
-judged_taken left faults old new text slice (run.Score spot number) all same judged = record {
+pub judged_taken : {S : Type 0} (left : S → Option (List ℕ)) (faults : S → ℕ) (asked : Option ℕ) (old new : S) (text slice : List ℕ)
+    (fault : RunFault) → TakesAll (offered asked (left old)) (remaining asked (left new)) text → slice ≡ text
+    → IsJudged slice fault → IsTaken left faults asked old new fault
+judged_taken left faults asked old new text slice run.Words all same judged = judged
+judged_taken left faults asked old new text slice run.Read all same judged = absurd judged
+judged_taken left faults asked old new text slice (run.Score spot number) all same judged = record {
   text = text;
   taken = all.taken;
   whole = inr all.ended;
   fault = subst (λ z. HasFault z spot.line spot.column number) same judged;
 }
-judged_taken left faults old new text slice run.Write all same judged = judged
-judged_taken left faults old new text slice run.Memory all same judged = tt
+judged_taken left faults asked old new text slice run.Write all same judged = judged
+judged_taken left faults asked old new text slice run.Memory all same judged = tt

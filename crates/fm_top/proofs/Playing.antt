@@ -1,5 +1,6 @@
--- What was written of a plan is the file of what the text means.
-use Rattle.std.proofs.Common.{◌≡◌, ℕ, ◌-◌, List, length, Option, Some, None, ap, sym, ◌∙◌, subst}
+-- What was written of a plan is the file of what the text means, and what is summed up of it are the score's totals.
+use Rattle.std.proofs.Common.{◌≡◌, ℕ, ◌-◌, List, length, Option, Some, None, ap, sym, ◌∙◌, subst, option_map}
+use Rattle.fm_line.specs.declared.line.Line.{Line}
 use Rattle.fm_line.specs.Line.{line, ValidLines}
 use Rattle.fm_line.specs.Piece.{piece}
 use Rattle.fm_grammar.specs.Score.{Score}
@@ -8,11 +9,18 @@ use Rattle.fm_meaning.specs.Lines.{played_lines, played_piece, played_end}
 use Rattle.fm_meaning.specs.Verdict.{Means}
 use Rattle.fm_program.specs.Parts.{PlanParts}
 use Rattle.fm_program.specs.Process.{plan_lines}
+use Rattle.fm_program.proofs.Lines.{plan-lines-length}
 use Rattle.fm_expansion.specs.Numbering.{score_plan}
 use Rattle.fm_round.specs.Ends.{piece_end}
+use Rattle.fm_round.specs.Rounds.{played_of}
+use Rattle.fm_round.specs.declared.played.Played.{Played}
+use Rattle.fm_smf.specs.File.{file}
 use Rattle.fm_smf.specs.Writing.{IsFinished, IsBroken}
-use Rattle.fm_top.specs.Taking.{TakesPlan}
-use Rattle.fm_top.specs.Outcome.{WritesScore, BreaksScore}
+use Rattle.fm_gen.specs.declared.summary.Summary.{Summary}
+use Rattle.fm_words.specs.Settings.{Settings}
+use Rattle.fm_top.specs.Summing.{totals}
+use Rattle.fm_top.specs.Taking.{TakesPlan, TakesScore, offered, remaining}
+use Rattle.fm_top.specs.Outcome.{WritesScore, BreaksScore, WritesWith, number_asked, score_file, score_summary}
 
 -- the lines of the plan of an accepted text are those that it means
 abbrev pub PlansPlay : Type 0
@@ -34,47 +42,87 @@ pub valid_taken : PlansPlay → ((text : List ℕ) (s : Score) → Means text s 
 valid_taken plays valid o n plan t =
     subst ValidLines (sym (lines_taken plays o n plan t)) (valid t.text t.planned.score t.planned.means)
 
+-- the totals of lines, and of the tick at which they end
+abbrev summed : List Line → ℕ → Summary
+summed ls end =
+    record { processes = length ls; events = length (piece ls); last = end; bytes = length (file (piece ls) end) }
+
+-- what is summed up of a plan that was played are the totals of its score
+pub totals_taken : PlansPlay → LastLinesEnd → (o n : Option (List ℕ)) (plan rounds : PlanParts) (t : TakesPlan o n plan)
+    → rounds ≡ plan → (processes : ℕ) (played : Played) → processes ≡ length plan.programs → played ≡ played_of rounds
+    → totals processes played ≡ score_summary t.planned.score
+unfolding score_summary score_file
+totals_taken plays last o n plan rounds t same processes played count is =
+    let r = resolved t.planned.score in
+    let many : processes ≡ length (plan_lines plan) = count ∙ sym (plan-lines-length plan) in
+    let sums : totals processes played ≡ totals (length (plan_lines plan)) (played_of plan) =
+    ap (λ k. totals k played) many ∙ ap (totals (length (plan_lines plan))) (is ∙ ap played_of same)
+    in
+    sums
+    ∙ ap (λ ls. summed ls (piece_end ls)) (lines_taken plays o n plan t)
+    ∙ ap (summed (played_lines r)) (last t.text t.planned.score t.planned.means)
+
 -- what is something is not nothing
 pub is_something : {X : Type 0} (o : Option X) (x : X) → o ≡ Some x → o ≡ None → ⊥
 is_something o x some none = cc
 
+-- what was taken for the number that settings have was taken for the number that is asked for
+score_taken : (asked : Option Settings) (settings : Settings) → asked ≡ Some settings → (old new : Option (List ℕ)) (plan : PlanParts)
+    (t : TakesPlan (offered settings.generate old) (remaining settings.generate new) plan)
+    → TakesScore (offered (number_asked asked) old) (remaining (number_asked asked) new) t.planned.score
+score_taken asked settings is old new plan t =
+    subst (λ a. TakesScore (offered (number_asked a) old) (remaining (number_asked a) new) t.planned.score) (sym is)
+    (record { text = t.text; all = t.all; means = t.planned.means })
+
 module _ {S K : Type 0} (left : S → Option (List ℕ)) (source_faults : S → ℕ)
     (content : K → Option (List ℕ)) (sure : K → Option ℕ) (faults : K → ℕ)
-    (accepted : Type 0) (source source' : S) (sink sink' : K) where
-  -- the file of the plan's piece is written
-  pub score_written : PlansPlay → LastLinesEnd → (plan rounds : PlanParts) → accepted → TakesPlan (left source) (left source') plan
-      → rounds ≡ plan
-      → IsFinished content sure faults sink sink' (piece (plan_lines rounds)) (piece_end (plan_lines rounds))
-      → WritesScore left source_faults content sure faults accepted source source' sink sink'
-  score_written plays last plan rounds given t same file =
-      let lines : plan_lines rounds ≡ played_lines (resolved t.planned.score) =
-      ap plan_lines same ∙ lines_taken plays (left source) (left source') plan t
-      in
-      record {
-        words = given;
-        score = t.planned.score;
-        taken = record { text = t.text; all = t.all; means = t.planned.means };
-        file =
-            subst (λ e. IsFinished content sure faults sink sink' (played_piece (resolved t.planned.score)) e)
-            (last t.text t.planned.score t.planned.means)
-            (subst (λ ls. IsFinished content sure faults sink sink' (piece ls) (piece_end ls)) lines file);
-      }
+    (asked : Option Settings) (source source' : S) (sink sink' : K)
+    (settings : Settings) (given : asked ≡ Some settings) where
+  module _ (plays : PlansPlay) (last : LastLinesEnd) (plan rounds : PlanParts)
+      (t : TakesPlan (offered settings.generate (left source)) (remaining settings.generate (left source')) plan)
+      (same : rounds ≡ plan) where
+    -- the lines that are played
+    lines : plan_lines rounds ≡ played_lines (resolved t.planned.score)
+    lines = ap plan_lines same ∙ lines_taken plays _ _ plan t
 
-  -- a call failed before it was
-  pub score_broken : PlansPlay → LastLinesEnd → (plan rounds : PlanParts) → accepted → TakesPlan (left source) (left source') plan
-      → rounds ≡ plan
-      → IsBroken content sure faults sink sink' (piece (plan_lines rounds)) (piece_end (plan_lines rounds))
-      → BreaksScore left source_faults content sure faults accepted source source' sink sink'
-  score_broken plays last plan rounds given t same broken =
-      let lines : plan_lines rounds ≡ played_lines (resolved t.planned.score) =
-      ap plan_lines same ∙ lines_taken plays (left source) (left source') plan t
-      in
-      record {
-        words = given;
-        score = t.planned.score;
-        taken = record { text = t.text; all = t.all; means = t.planned.means };
-        broken =
-            subst (λ e. IsBroken content sure faults sink sink' (played_piece (resolved t.planned.score)) e)
-            (last t.text t.planned.score t.planned.means)
-            (subst (λ ls. IsBroken content sure faults sink sink' (piece ls) (piece_end ls)) lines broken);
-      }
+    -- the file of the plan's piece is written
+    score_written : IsFinished content sure faults sink sink' (piece (plan_lines rounds)) (piece_end (plan_lines rounds))
+        → WritesScore left source_faults content sure faults asked source source' sink sink'
+    score_written file = record {
+      words = is_something asked settings given;
+      score = t.planned.score;
+      taken = score_taken asked settings given (left source) (left source') plan t;
+      file =
+          subst (λ e. IsFinished content sure faults sink sink' (played_piece (resolved t.planned.score)) e)
+          (last t.text t.planned.score t.planned.means)
+          (subst (λ ls. IsFinished content sure faults sink sink' (piece ls) (piece_end ls)) lines file);
+    }
+
+    -- and this is what there is to tell of it
+    pub summary_written : (processes : ℕ) (played : Played) (summary : Option Summary)
+        → processes ≡ length plan.programs → played ≡ played_of rounds
+        → summary ≡ option_map (λ _. totals processes played) settings.generate
+        → IsFinished content sure faults sink sink' (piece (plan_lines rounds)) (piece_end (plan_lines rounds))
+        → WritesWith left source_faults content sure faults asked source source' sink sink' summary
+    unfolding score_written
+    summary_written processes played summary count is sums finished = record {
+      written = score_written finished;
+      sums =
+          sums
+          ∙ ap (λ s. option_map (λ _. s) settings.generate)
+          (totals_taken plays last _ _ plan rounds t same processes played count is)
+          ∙ ap (λ a. option_map (λ _. score_summary t.planned.score) (number_asked a)) (sym given);
+    }
+
+    -- a call failed before it was
+    pub score_broken : IsBroken content sure faults sink sink' (piece (plan_lines rounds)) (piece_end (plan_lines rounds))
+        → BreaksScore left source_faults content sure faults asked source source' sink sink'
+    score_broken broken = record {
+      words = is_something asked settings given;
+      score = t.planned.score;
+      taken = score_taken asked settings given (left source) (left source') plan t;
+      broken =
+          subst (λ e. IsBroken content sure faults sink sink' (played_piece (resolved t.planned.score)) e)
+          (last t.text t.planned.score t.planned.means)
+          (subst (λ ls. IsBroken content sure faults sink sink' (piece ls) (piece_end ls)) lines broken);
+    }

@@ -2,4 +2,5 @@ pub mod Judging
 pub mod Taking
 pub mod Telling
 pub mod Outcome
+pub mod Summing
 pub mod TellingRows

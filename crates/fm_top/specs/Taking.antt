@@ -1,15 +1,32 @@
--- What a run takes from its source. Where the source tells its bytes, each text here is a front of them.
-use Rattle.std.specs.Prelude.{◌≡◌, ◌⊎◌, ℕ, ◌+◌, ◌<◌, ◌≤◌, List, [], length, Option, IfSome}
+-- What a run takes: from its source, or of a large score. Where the source tells its bytes, each text here that is
+-- taken from it is a front of them.
+use Rattle.std.specs.Prelude.{◌≡◌, ◌⊎◌, ℕ, ◌+◌, ◌<◌, ◌≤◌, List, [], length, Option, Some, None, IfSome}
 use Rattle.std.specs.Io.KnownBytes.{prepend_known}
 use Rattle.fm_edge.specs.Causes.{Rose}
 use Rattle.fm_lex.specs.declared.lexer.TheConstants.{MAX_TEXT}
 use Rattle.fm_lex.specs.declared.spot.Spot.{Spot}
+use Rattle.fm_gen.specs.LargeScore.{large_score}
 use Rattle.fm_grammar.specs.Score.{Score}
 use Rattle.fm_meaning.specs.Verdict.{HasFault, Means}
 use Rattle.fm_program.specs.Parts.{PlanParts}
 use Rattle.fm_top.specs.Judging.{IsPlanned}
 use Rattle.fm_top.specs.declared.run_fault.RunFault.{RunFault}
 use Rattle.fm_top.specs.declared.run_fault.RunFault.TheVariants as run
+
+-- the text that there is to take, where it is told: the large score of a number, where one is asked for; else what the
+-- source has left
+abbrev pub offered : Option ℕ → Option (List ℕ) → Option (List ℕ)
+offered None left = left
+offered (Some number) left = Some (large_score number)
+
+-- what is left of it: nothing of a large score, which is taken whole
+abbrev pub remaining : Option ℕ → Option (List ℕ) → Option (List ℕ)
+remaining None left = left
+remaining (Some number) left = Some []
+
+-- the source is left alone, where a large score is asked for
+abbrev pub IsLeftAlone : {S : Type 0} → Option ℕ → S → S → Type 0
+IsLeftAlone asked old new = (number : ℕ) → asked ≡ Some number → new ≡ old
 
 -- a text was taken that passes the limit by one byte at most, and the count of faults didn't fall
 pub record Takes {S : Type 0} (left : S → Option (List ℕ)) (faults : S → ℕ) (old new : S) : Type 0 where
@@ -49,9 +66,12 @@ pub record TakesFault (old new : Option (List ℕ)) (spot : Spot) (number : ℕ)
   pub whole : (MAX_TEXT < length text) ⊎ IfSome new (λ l. l ≡ [])
   pub fault : HasFault text spot.line spot.column number
 
--- the fault of taking a score: a read failed, or the text was taken and has a fault, or want of memory
-abbrev pub IsTaken : {S : Type 0} → (left : S → Option (List ℕ)) → (faults : S → ℕ) → (old new : S) → RunFault → Type 0
-IsTaken left faults old new run.Read = Rose (faults old) (faults new)
-IsTaken left faults old new (run.Score spot number) = TakesFault (left old) (left new) spot number
-IsTaken left faults old new run.Memory = Unit {0}
-IsTaken left faults old new fault = ⊥
+-- the fault of taking a score: a read failed, where no large score was asked for; or the text was taken and has a
+-- fault; or want of memory
+abbrev pub IsTaken : {S : Type 0} → (left : S → Option (List ℕ)) → (faults : S → ℕ) → (asked : Option ℕ) → (old new : S)
+    → RunFault → Type 0
+IsTaken left faults asked old new run.Read = (asked ≡ None) × Rose (faults old) (faults new)
+IsTaken left faults asked old new (run.Score spot number) =
+    TakesFault (offered asked (left old)) (remaining asked (left new)) spot number
+IsTaken left faults asked old new run.Memory = Unit {0}
+IsTaken left faults asked old new fault = ⊥

@@ -1,7 +1,9 @@
--- What is told of a run that does not end with the file of its score: its exit status and its text on the console.
-use Rattle.std.specs.Prelude.{◌≡◌, ℕ, List, ◌++◌, codes, decimal, Option}
+-- What is told of a run: its exit status and its text on the console.
+use Rattle.std.specs.Prelude.{◌≡◌, ℕ, List, ◌++◌, codes, decimal, Option, Some, None}
 use Rattle.fm_edge.specs.Runs.{Puts, Breaks}
-use Rattle.fm_top.specs.declared.status.TheConstants.{WORDS_REFUSED, READ_FAULT, SCORE_REFUSED, WRITE_FAULT, CONSOLE_FAULT, OUT_OF_MEMORY}
+use Rattle.fm_gen.specs.SummaryLine.{summary_line}
+use Rattle.fm_gen.specs.declared.summary.Summary.{Summary}
+use Rattle.fm_top.specs.declared.status.TheConstants.{DONE, WORDS_REFUSED, READ_FAULT, SCORE_REFUSED, WRITE_FAULT, CONSOLE_FAULT, OUT_OF_MEMORY}
 use Rattle.fm_top.specs.declared.run_fault.RunFault.{RunFault}
 use Rattle.fm_top.specs.declared.run_fault.RunFault.TheVariants.{Words, Read, Score, Write, Memory}
 
@@ -27,11 +29,15 @@ fault_text (Score spot number) = place_text spot.line spot.column number
 fault_text Write = codes "formula: write fault\n"
 fault_text Memory = codes "formula: out of memory\n"
 
--- the text is told and the status is the fault's; or the console failed, a front of the text is told, and the status
--- says so
-pub data Tells {C : Type 0} (content : C → Option (List ℕ)) (sure : C → Option ℕ) (faults : C → ℕ)
-    (console console' : C) (fault : RunFault) (status : ℕ) : Type 0 where
-  told : status ≡ fault_status fault → Puts content sure faults console console' (fault_text fault)
-      → Tells content sure faults console console' fault status
-  untold : status ≡ CONSOLE_FAULT → Breaks content sure faults console console' (fault_text fault)
-      → Tells content sure faults console console' fault status
+module _ {C : Type 0} (content : C → Option (List ℕ)) (sure : C → Option ℕ) (faults : C → ℕ)
+    (console console' : C) where
+  -- the text is told and the status is the verdict; or the console failed, a front of the text is told, and the status
+  -- says so
+  pub data Tells (text : List ℕ) (verdict status : ℕ) : Type 0 where
+    told : status ≡ verdict → Puts content sure faults console console' text → Tells text verdict status
+    untold : status ≡ CONSOLE_FAULT → Breaks content sure faults console console' text → Tells text verdict status
+
+  -- of a file that is written nothing is told, or its summary where there is one
+  abbrev pub TellsEnd : Option Summary → ℕ → Type 0
+  TellsEnd None status = (status ≡ DONE) × (console' ≡ console)
+  TellsEnd (Some summary) status = Tells (summary_line summary) DONE status

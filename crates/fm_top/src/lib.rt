@@ -1,9 +1,10 @@
 //! The whole command over whatever source, sink, console and gate it is handed.
 //!
-//! `formula` reads the words and the text, plays the score into the sink, tells the console of each
-//! run that stops before, and answers with an exit status. Its clause `done` is the main theorem:
-//! after status 0 the sink holds exactly the Standard MIDI File of what the text means. Its clause
-//! `ends` says each other end (`specs/Outcome.antt`). Generated scores are left out.
+//! `formula` reads the words and the text, or makes the large score that they ask for, plays it
+//! into the sink, tells the console of each run that stops before, and answers with an exit status.
+//! Its clause `done` is the main theorem: after status 0 the sink holds exactly the Standard MIDI
+//! File of what the text means. Its clause `ends` says each end (`specs/Outcome.antt`). What files
+//! hold is left out.
 #![tactic(auto)]
 
 mod judge;

@@ -1,12 +1,15 @@
-//! Reads the score of a source.
-ghost use Rattle.std.specs.Prelude.{IfOk, IfErr};
-ghost use Rattle.fm_top.specs.Taking.{Takes, TakesPlan, IsTaken};
+//! The score that is played: that of the source, or a large score.
+ghost use Rattle.std.specs.Prelude.{◌≡◌, ◌≤◌, None, IfOk, IfErr, IfSome, IsErrOf};
+ghost use Rattle.fm_edge.specs.Causes.{Rose};
+ghost use Rattle.fm_top.specs.Taking.{Takes, TakesAll, TakesLong, TakesPlan, IsTaken};
+ghost use Rattle.fm_top.specs.Taking.{IsLeftAlone, offered, remaining};
 
 use crate::judge::judge;
 use crate::read_fault::ReadFault;
 use crate::run_fault::RunFault;
 use crate::text::read_text;
 use fm_edge::Source;
+use fm_gen::{MAX_NUMBER, generate};
 use fm_lex::Spot;
 use fm_program::Plan;
 use std::alloc::Global;
@@ -17,14 +20,22 @@ const START: Spot = Spot { line: 1, column: 1 };
 /// More text than is read.
 const TOO_MUCH_TEXT: u8 = 18;
 
-/// Reads the text of a source, and gives the plan of what it means.
-pub fn read_score<S: Source>(alloc: Global, source: &mut S) -> Result<Plan, RunFault>
+/// Takes the text, and gives the plan of what it means. Where a number is asked for, it is the text
+/// of the large score of that number, and the source is left alone.
+pub fn read_score<S: Source>(
+    alloc: Global,
+    asked: Option<u32>,
+    source: &mut S,
+) -> Result<Plan, RunFault>
+    requires { IfSome asked (λ number. number ≤ MAX_NUMBER) }
     ensures takes { Takes S.left S.faults source.old source.new }
-    ensures planned { IfOk result (λ p. TakesPlan (S.left source.old) (S.left source.new) p) }
+    ensures unread { IsLeftAlone asked source.old source.new }
+    ensures planned { IfOk result (λ p. TakesPlan
+        (offered asked (S.left source.old)) (remaining asked (S.left source.new)) p) }
     ensures stopped { IfErr result (λ fault.
-        IsTaken S.left S.faults source.old source.new fault) }
+        IsTaken S.left S.faults asked source.old source.new fault) }
 {
-    let text = match read_text(alloc, source) {
+    let text = match take_text(alloc, asked, source) {
         Ok(text) => text,
         Err(ReadFault::Failed) => return Err(RunFault::Read),
         Err(ReadFault::TooLong) => {
@@ -36,4 +47,26 @@ pub fn read_score<S: Source>(alloc: Global, source: &mut S) -> Result<Plan, RunF
         Err(ReadFault::Memory) => return Err(RunFault::Memory),
     };
     judge(alloc, &text)
+}
+
+// The text of the large score that is asked for by its number, or the text of the source.
+fn take_text<S: Source>(
+    alloc: Global,
+    asked: Option<u32>,
+    source: &mut S,
+) -> Result<Vec<u8>, ReadFault>
+    requires { IfSome asked (λ number. number ≤ MAX_NUMBER) }
+    ensures takes { Takes S.left S.faults source.old source.new }
+    ensures unread { IsLeftAlone asked source.old source.new }
+    ensures text { IfOk result (λ t. TakesAll
+        (offered asked (S.left source.old)) (remaining asked (S.left source.new)) t.items) }
+    ensures long { IsErrOf result ReadFault.TooLong
+        → TakesLong (offered asked (S.left source.old)) (remaining asked (S.left source.new)) }
+    ensures failed { IsErrOf result ReadFault.Failed
+        → (asked ≡ None) × Rose (S.faults source.old) (S.faults source.new) }
+{
+    match asked {
+        Some(number) => Ok(generate(alloc, number)?),
+        None => read_text(alloc, source),
+    }
 }

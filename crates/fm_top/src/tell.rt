@@ -1,14 +1,16 @@
 //! What the console is told of a run, and the exit status.
 ghost use Rattle.std.specs.Prelude.{◌≡◌, ◌+◌, ◌≤◌, ◌++◌, length, decimal};
 ghost use Rattle.arrayvec.specs.ArrayVec.{array_vec_len};
+ghost use Rattle.fm_gen.specs.SummaryLine.{summary_line};
 ghost use Rattle.fm_top.specs.Telling.{fault_status, place_text, fault_text, Tells};
 
 use crate::run_fault::RunFault;
 use crate::status::{
-    CONSOLE_FAULT, OUT_OF_MEMORY, READ_FAULT, SCORE_REFUSED, WORDS_REFUSED, WRITE_FAULT,
+    CONSOLE_FAULT, DONE, OUT_OF_MEMORY, READ_FAULT, SCORE_REFUSED, WORDS_REFUSED, WRITE_FAULT,
 };
 use arrayvec::ArrayVec;
 use fm_edge::Console;
+use fm_gen::Summary;
 
 /// The most bytes of a text.
 const MOST: usize = 56;
@@ -90,12 +92,30 @@ fn status_of(fault: RunFault) -> u8
     }
 }
 
-/// Tells the console of a fault, in one put, and gives the exit status.
-pub fn tell<C: Console>(fault: RunFault, console: &mut C) -> u8
-    ensures { Tells C.content C.sure C.faults console.old console.new fault result }
+// Tells the console a text, in one put, and gives the exit status: the verdict, or that the console
+// failed.
+fn say<C: Console>(text: &[u8], verdict: u8, console: &mut C) -> u8
+    ensures { Tells C.content C.sure C.faults console.old console.new text.now verdict result }
 {
-    match console.say(&text_of(fault)) {
-        Ok(()) => status_of(fault),
+    match console.say(text) {
+        Ok(()) => verdict,
         Err(_) => CONSOLE_FAULT,
     }
+}
+
+/// Tells the console of a fault, in one put, and gives the exit status.
+pub fn tell<C: Console>(fault: RunFault, console: &mut C) -> u8
+    ensures { Tells C.content C.sure C.faults console.old console.new
+        (fault_text fault) (fault_status fault) result }
+{
+    say(&text_of(fault), status_of(fault), console)
+}
+
+/// Tells the console the summary of a written file, in one put, and gives the exit status. It takes
+/// no memory.
+pub fn tell_summary<C: Console>(summary: Summary, console: &mut C) -> u8
+    ensures { Tells C.content C.sure C.faults console.old console.new
+        (summary_line summary) DONE result }
+{
+    say(summary.line().as_bytes(), DONE, console)
 }

@@ -1,3 +1,5 @@
+mod large;
+
 use super::*;
 use fm_edge::{MemorySink, MemorySource, NullSink, OpenGate, SureSource};
 use std::alloc::{AllocError, Global};

@@ -1,5 +1,5 @@
 -- What some lists of words ask for, and some that are refused. A `|` stands between two words.
-use Rattle.std.proofs.Common.{◌≡◌, ℕ, Bool, List, [], ◌∷◌, Option, Some, None, true, false, refl, codes, if◌then◌else◌, ◌==◌, map, replicate}
+use Rattle.std.proofs.Common.{◌≡◌, ℕ, Bool, List, [], ◌∷◌, Option, Some, None, true, false, refl, codes, if◌then◌else◌, ◌==◌, map, replicate, option_map}
 use Rattle.clap.specs.Words.{Text}
 use Rattle.clap.proofs.OnLiterals.{clap_on_literals}
 use Rattle.fm_words.specs.Command.{command}
@@ -15,7 +15,7 @@ abbrev words_in : List ℕ → List Text
 words_in [] = [] ∷ []
 words_in (byte ∷ bytes) = if byte == 124 then [] ∷ words_in bytes else with_byte byte (words_in bytes)
 
--- settings that are written out
+-- settings that are written out, without a large score
 abbrev asked : List ℕ → List ℕ → ℕ → ℕ → ℕ → Bool → Option Settings
 asked source target workers lead room rounds = Some (record {
   source = source;
@@ -23,6 +23,7 @@ asked source target workers lead room rounds = Some (record {
   workers = workers;
   lead = lead;
   room = room;
+  generate = None;
   rounds = rounds;
 })
 
@@ -69,14 +70,21 @@ refused : map (λ line. settings_of (words_in line)) (
     codes "a|b|-w|5" ∷
     codes "a|b|--ROUNDS" ∷
     codes "a|b|-rounds" ∷
-    codes "a|b|--generate|5" ∷
+    codes "a|b|--generate" ∷
+    codes "a|b|--generate=" ∷
+    codes "a|b|--generate|--rounds" ∷
+    codes "a|b|--generate|1000000000" ∷
+    codes "a|b|--generate|-1" ∷
+    codes "a|b|--generate|5|--generate|5" ∷
+    codes "a|b|--gen|5" ∷
+    codes "a|--generate|5" ∷
     codes "-5|b" ∷
     codes "a|b|--=5" ∷
     codes "a|b|---" ∷
     codes "--|a|b|--" ∷
     codes "a|b|c" ∷
     codes "a" ∷ [])
-    ≡ replicate 43 None
+    ≡ replicate 50 None
 unfolding clap_on_literals command settings_in settings_of
 refused = refl
 
@@ -127,3 +135,21 @@ taken : map (λ line. settings_of (words_in line)) (
     asked (codes "help") (codes "b") 4 7680 32 false ∷ [])
 unfolding clap_on_literals command settings_in settings_of
 taken = refl
+
+-- the number of the large score that lines ask for
+large_scores : map (λ line. option_map (λ s. s.generate) (settings_of (words_in line))) (
+    codes "a|b" ∷
+    codes "a|b|--generate|0" ∷
+    codes "a|b|--generate=999999999" ∷
+    codes "--generate|+007|a|b" ∷
+    codes "a|--rounds|--generate|124|b|--workers|0" ∷
+    codes "--|--generate|5" ∷ [])
+    ≡ (
+    Some None ∷
+    Some (Some 0) ∷
+    Some (Some 999999999) ∷
+    Some (Some 7) ∷
+    Some (Some 124) ∷
+    Some None ∷ [])
+unfolding clap_on_literals command settings_in settings_of
+large_scores = refl

@@ -20,9 +20,9 @@ flag_named id = record (new_rule id) { long = Some id; action = Some SetTrue }
 abbrev pub bare_command : App
 bare_command = on_top (λ s. record s { no_binary_name = true; disable_help_flag = true }) (new_app (codes "formula"))
 
--- two texts, three options and a flag
+-- two texts, four options and a flag
 unfoldable pub command : App
-command = with_rule (with_rule (with_rule (with_rule (with_rule (with_rule bare_command
+command = with_rule (with_rule (with_rule (with_rule (with_rule (with_rule (with_rule bare_command
     (text_named (codes "IN"))) (text_named (codes "OUT")))
     (option_named (codes "workers"))) (option_named (codes "lead"))) (option_named (codes "room")))
-    (flag_named (codes "rounds"))
+    (option_named (codes "generate"))) (flag_named (codes "rounds"))

@@ -8,15 +8,16 @@ use Rattle.clap.specs.Faults.{fault_of}
 use Rattle.clap.specs.Kinds.{Kinds}
 use Rattle.clap.specs.ValueTests.{is_unsigned_in}
 use Rattle.fm_words.specs.Command.{command}
-use Rattle.fm_words.specs.declared.limits.TheConstants.{DEFAULT_LEAD, DEFAULT_ROOM, DEFAULT_WORKERS, MAX_LEAD, MAX_ROOM, MAX_WORKERS, MIN_ROOM}
+use Rattle.fm_words.specs.declared.limits.TheConstants.{DEFAULT_LEAD, DEFAULT_ROOM, DEFAULT_WORKERS, MAX_GENERATE, MAX_LEAD, MAX_ROOM, MAX_WORKERS, MIN_ROOM}
 
--- what the words ask for: two names of files, three numbers and a flag
+-- what the words ask for: two names of files, three numbers, the number of a large score or none, and a flag
 pub record Settings : Type 0 where
   pub source : Text
   pub target : Text
   pub workers : ℕ
   pub lead : ℕ
   pub room : ℕ
+  pub generate : Option ℕ
   pub rounds : Bool
 
 -- the number that a text spells, digits with at most one `+` before them, where it lies in the range
@@ -29,6 +30,11 @@ abbrev pub number_or : ℕ → ℕ → ℕ → Option Text → Option ℕ
 number_or low high default None = Some default
 number_or low high default (Some text) = number_in low high text
 
+-- the number of an option that has no default: that it was not given, or a number in the range
+abbrev pub number_if_any : ℕ → ℕ → Option Text → Option (Option ℕ)
+number_if_any low high None = Some None
+number_if_any low high (Some text) = option_map (λ n. Some n) (number_in low high text)
+
 -- whether the command found the flag: it gives it a text of its own
 abbrev pub has_flag : Option Text → Bool
 has_flag (Some text) = bytes_eq text (codes "true")
@@ -38,14 +44,16 @@ has_flag None = false
 unfoldable pub settings_in : List Row → Option Settings
 settings_in rows =
     option_and_then (λ source. option_and_then (λ target.
-    option_and_then (λ workers. option_and_then (λ lead. option_map (λ room. record {
+    option_and_then (λ workers. option_and_then (λ lead. option_and_then (λ room. option_map (λ generate. record {
       source = source;
       target = target;
       workers = workers;
       lead = lead;
       room = room;
+      generate = generate;
       rounds = has_flag (first_of (codes "rounds") rows);
     })
+    (number_if_any 0 MAX_GENERATE (first_of (codes "generate") rows)))
     (number_or MIN_ROOM MAX_ROOM DEFAULT_ROOM (first_of (codes "room") rows)))
     (number_or 0 MAX_LEAD DEFAULT_LEAD (first_of (codes "lead") rows)))
     (number_or 0 MAX_WORKERS DEFAULT_WORKERS (first_of (codes "workers") rows)))

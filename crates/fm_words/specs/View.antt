@@ -1,9 +1,9 @@
 -- The options as the words ask for them.
-use Rattle.std.specs.Prelude.{◌≡◌, ◌≤◌, true, string_bytes}
+use Rattle.std.specs.Prelude.{◌≡◌, ◌≤◌, IfSome, true, string_bytes}
 use Rattle.clap.specs.Kinds.{Kinds}
 use Rattle.fm_words.specs.Settings.{Settings, has_fault}
 use Rattle.fm_words.specs.declared.chosen.Chosen.{Chosen}
-use Rattle.fm_words.specs.declared.limits.TheConstants.{MAX_LEAD, MAX_ROOM, MAX_WORKERS, MIN_ROOM}
+use Rattle.fm_words.specs.declared.limits.TheConstants.{MAX_GENERATE, MAX_LEAD, MAX_ROOM, MAX_WORKERS, MIN_ROOM}
 use Rattle.fm_words.specs.declared.name_fault.NameFault.{NameFault}
 use Rattle.fm_words.specs.declared.name_fault.NameFault.TheVariants.{Words, Memory}
 use Rattle.fm_words.specs.declared.options.Options.{Options}
@@ -16,6 +16,7 @@ options_view o = record {
   workers = o.workers;
   lead = o.lead;
   room = o.room;
+  generate = o.generate;
   rounds = o.rounds;
 }
 
@@ -27,6 +28,7 @@ chosen_view c = record {
   workers = c.workers;
   lead = c.lead;
   room = c.room;
+  generate = c.generate;
   rounds = c.rounds;
 }
 
@@ -36,6 +38,7 @@ pub record HasRanges (s : Settings) : Type 0 where
   pub lead : s.lead ≤ MAX_LEAD
   pub some_room : MIN_ROOM ≤ s.room
   pub room : s.room ≤ MAX_ROOM
+  pub generate : IfSome s.generate (λ n. n ≤ MAX_GENERATE)
 
 -- a fault that stands for these kinds of clap's: a refusal only where there are some
 abbrev pub IsRefusedBy : Kinds → NameFault → Type 0

@@ -3,12 +3,13 @@ ghost use Rattle.std.specs.Prelude.{◌≡◌, ◌≤◌, IfSome, Some, None, []
 ghost use Rattle.clap.specs.Words.{first_of, found_of, matches_of, rows_of};
 ghost use Rattle.clap.specs.Faults.{fault_of};
 ghost use Rattle.fm_words.specs.Command.{command};
-ghost use Rattle.fm_words.specs.Settings.{has_flag, number_in, number_or, settings_in};
+ghost use Rattle.fm_words.specs.Settings.{has_flag, number_if_any, number_in, number_or, settings_in};
 ghost use Rattle.fm_words.specs.View.{HasRanges, IsRefusedBy, chosen_view};
 
 use crate::command::formula_command;
 use crate::limits::{
-    DEFAULT_LEAD, DEFAULT_ROOM, DEFAULT_WORKERS, MAX_LEAD, MAX_ROOM, MAX_WORKERS, MIN_ROOM,
+    DEFAULT_LEAD, DEFAULT_ROOM, DEFAULT_WORKERS, MAX_GENERATE, MAX_LEAD, MAX_ROOM, MAX_WORKERS,
+    MIN_ROOM,
 };
 use crate::name_fault::NameFault;
 use clap::ArgMatches;
@@ -23,6 +24,7 @@ pub struct Chosen<'a> {
     pub workers: u32,
     pub lead: u64,
     pub room: u32,
+    pub generate: Option<u32>,
     pub rounds: bool,
 }
 
@@ -62,6 +64,7 @@ pub fn chosen_in<'a>(matches: &ArgMatches<'a>) -> Option<Chosen<'a>>
     let workers = number_of(matches, "workers", 0, MAX_WORKERS, DEFAULT_WORKERS)?;
     let lead = number_of(matches, "lead", 0, MAX_LEAD, DEFAULT_LEAD)?;
     let room = number_of(matches, "room", MIN_ROOM, MAX_ROOM, DEFAULT_ROOM)?;
+    let generate = number_if_given(matches, "generate", MAX_GENERATE)?;
     let rounds = flag_of(matches, "rounds");
     Some(Chosen {
         source,
@@ -69,6 +72,7 @@ pub fn chosen_in<'a>(matches: &ArgMatches<'a>) -> Option<Chosen<'a>>
         workers: workers as u32,
         lead,
         room: room as u32,
+        generate,
         rounds,
     })
 }
@@ -101,6 +105,19 @@ fn number_of(matches: &ArgMatches<'_>, id: &str, low: u64, high: u64, default: u
         Some(text) => number(text, low, high),
         None => Some(default),
     }
+}
+
+// The number of an option that has no default, from 0 on; `Some(None)` where it was not given.
+fn number_if_given(matches: &ArgMatches<'_>, id: &str, high: u32) -> Option<Option<u32>>
+    ensures is { result
+        ≡ number_if_any 0 high (first_of id.now (rows_of (found_of matches.now))) }
+    ensures range { IfSome result (λ given. IfSome given (λ n. n ≤ high)) }
+{
+    let Some(text) = text_of(matches, id) else {
+        return Some(None);
+    };
+    let n = number(text, 0, u64::from(high))?;
+    Some(Some(n as u32))
 }
 
 // The number that a text spells, where it lies in the range.

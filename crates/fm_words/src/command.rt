@@ -6,7 +6,7 @@ ghost use Rattle.fm_words.specs.Command.{bare_command, command, flag_named, opti
 use clap::{Arg, ArgAction, Command};
 use std::alloc::{AllocError, Global};
 
-/// The command: two texts, three options with a value, and a flag; no help and no version.
+/// The command: two texts, four options with a value, and a flag; no help and no version.
 pub fn formula_command<'a>(alloc: Global) -> Result<Command<'a>, AllocError>
     ensures { IfOk result (λ c. app_of c ≡ command) }
 {
@@ -16,6 +16,7 @@ pub fn formula_command<'a>(alloc: Global) -> Result<Command<'a>, AllocError>
         .arg(option(alloc, "workers"))?
         .arg(option(alloc, "lead"))?
         .arg(option(alloc, "room"))?
+        .arg(option(alloc, "generate"))?
         .arg(flag(alloc, "rounds"))
 }
 

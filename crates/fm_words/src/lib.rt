@@ -1,4 +1,5 @@
-//! The words of the command line: `IN OUT [--workers N] [--lead T] [--room K] [--rounds]`.
+//! The words of the command line: `IN OUT [--workers N] [--lead T] [--room K] [--generate N]
+//! [--rounds]`.
 //!
 //! `read_options` reads the words after the program's name, and gives [`Options`] whose numbers lie
 //! in their ranges; `names` gives the two file names alone. Both refuse the same words, which are
@@ -15,7 +16,8 @@ mod options;
 mod tests;
 
 pub use limits::{
-    DEFAULT_LEAD, DEFAULT_ROOM, DEFAULT_WORKERS, MAX_LEAD, MAX_ROOM, MAX_WORKERS, MIN_ROOM,
+    DEFAULT_LEAD, DEFAULT_ROOM, DEFAULT_WORKERS, MAX_GENERATE, MAX_LEAD, MAX_ROOM, MAX_WORKERS,
+    MIN_ROOM,
 };
 pub use name_fault::NameFault;
 pub use options::{Options, names, read_options};

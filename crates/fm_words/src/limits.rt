@@ -20,3 +20,6 @@ pub const MAX_ROOM: u64 = 64;
 
 /// The room in events where the words do not say.
 pub const DEFAULT_ROOM: u64 = 32;
+
+/// The greatest number of a large score that is played in place of a text.
+pub const MAX_GENERATE: u32 = 999_999_999;

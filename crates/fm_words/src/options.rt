@@ -20,6 +20,9 @@ pub struct Options {
     pub lead: u64,
     /// The room of each process's event queue, 1 to 64 events; else 32.
     pub room: u32,
+    /// The number of the large score that is played in place of a text, 0 to 999,999,999; else
+    /// none.
+    pub generate: Option<u32>,
     /// Whether the threads play in rounds.
     pub rounds: bool,
 }
@@ -45,6 +48,7 @@ pub fn read_options(alloc: Global, words: &[String]) -> Result<Options, NameFaul
         workers: chosen.workers,
         lead: chosen.lead,
         room: chosen.room,
+        generate: chosen.generate,
         rounds: chosen.rounds,
     })
 }

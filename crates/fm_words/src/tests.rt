@@ -3,7 +3,7 @@ use std::alloc::{AllocError, Global};
 use std::test::Fail;
 
 /// Lines of words that are refused, with a `|` between two words.
-const REFUSED: [&str; 43] = [
+const REFUSED: [&str; 50] = [
     "a|b|--rounds=",
     "a|b|--rounds=1",
     "a|b|--rounds|--rounds",
@@ -40,7 +40,14 @@ const REFUSED: [&str; 43] = [
     "a|b|-w|5",
     "a|b|--ROUNDS",
     "a|b|-rounds",
-    "a|b|--generate|5",
+    "a|b|--generate",
+    "a|b|--generate=",
+    "a|b|--generate|--rounds",
+    "a|b|--generate|1000000000",
+    "a|b|--generate|-1",
+    "a|b|--generate|5|--generate|5",
+    "a|b|--gen|5",
+    "a|--generate|5",
     "-5|b",
     "a|b|--=5",
     "a|b|---",
@@ -93,6 +100,16 @@ const TAKEN: [Row; 21] = [
     ("help|b", "help", "b", 4, 7_680, 32, false),
 ];
 
+/// Lines of words, and the number of the large score that they ask for.
+const LARGE: [(&str, Option<u32>); 6] = [
+    ("a|b", None),
+    ("a|b|--generate|0", Some(0)),
+    ("a|b|--generate=999999999", Some(999_999_999)),
+    ("--generate|+007|a|b", Some(7)),
+    ("a|--rounds|--generate|124|b|--workers|0", Some(124)),
+    ("--|--generate|5", None),
+];
+
 fn words_of(alloc: Global, line: &str) -> Result<Vec<String>, AllocError> {
     let mut words = Vec::new(alloc);
     for word in line.split('|') {
@@ -124,6 +141,16 @@ fn words_ask_for_what_they_say(rt: HostRuntime) -> Result<(), Fail> {
         assert_eq!(rt; options.lead, lead, "{line}");
         assert_eq!(rt; options.room, room, "{line}");
         assert_eq!(rt; options.rounds, rounds, "{line}");
+    }
+    Ok(())
+}
+
+#[test]
+fn words_ask_for_the_number_of_a_large_score(rt: HostRuntime) -> Result<(), Fail> {
+    let alloc = rt.alloc();
+    for (line, number) in LARGE {
+        let options = read_options(alloc, &words_of(alloc, line)?)?;
+        assert_eq!(rt; options.generate, number, "{line}");
     }
     Ok(())
 }

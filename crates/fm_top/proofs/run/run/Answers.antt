@@ -1,12 +1,13 @@
-use Rattle.fm_top.proofs.Playing.{is_something, score_written, score_broken}
+use Rattle.fm_top.proofs.Playing.{summary_written, score_broken}
 use Rattle.fm_top.proofs.run.run.Goals as goal
 
 pub returns-in-Ok-play-clause-ok : goal.returns-in-Ok-play-clause-ok
 returns-in-Ok-play-clause-ok g c =
-    score_written _ _ _ _ _ _ _ _ _ _ c.plans_play_the_score.ensures c.scores_end_with_their_last_line.ensures _ _
-    (is_something _ _ c.in-Ok.ensures.ok) c.in_ok-plan.ensures.planned c.in_ok-rounds.ensures c.in-Ok-play.ensures.ok
+    summary_written _ _ _ _ _ _ _ _ _ _ _ c.in-Ok.ensures.ok c.plans_play_the_score.ensures
+    c.scores_end_with_their_last_line.ensures _ _ c.in_ok-plan.ensures.planned c.in_ok-rounds.ensures _ _ _
+    c.processes-processes.ensures.value c.in-Ok-play.ensures.played c.summary_of.ensures c.in-Ok-play.ensures.ok
 
 pub returns-clause-err : goal.returns-clause-err
 returns-clause-err g c =
-    score_broken _ _ _ _ _ _ _ _ _ _ c.plans_play_the_score.ensures c.scores_end_with_their_last_line.ensures _ _
-    (is_something _ _ c.in-Ok.ensures.ok) c.in_ok-plan.ensures.planned c.in_ok-rounds.ensures c.in-Err.ensures.err
+    score_broken _ _ _ _ _ _ _ _ _ _ _ c.in-Ok.ensures.ok c.plans_play_the_score.ensures
+    c.scores_end_with_their_last_line.ensures _ _ c.in_ok-plan.ensures.planned c.in_ok-rounds.ensures c.in-Err.ensures.err

@@ -7,6 +7,7 @@ pub returns-clause-stopped : goal.returns-clause-stopped
 returns-clause-stopped g c =
     IfErr-weaker c.judge.result (λ fault. IsJudged c.deref.result.now fault) _
     (λ fault.
-    judged_taken {S = g.row.S.Denot} g.S.Source.left g.S.Source.faults c.args.source.now c.read_text.new.source _ _ fault c.in-Ok.ensures.text
+    judged_taken {S = g.row.S.Denot} g.S.Source.left g.S.Source.faults c.args.asked c.args.source.now
+    c.take_text.new.source _ _ fault c.in-Ok.ensures.text
     c.deref.ensures.value)
     c.judge.ensures.refused

@@ -14,5 +14,6 @@ returns c =
     let three = c.in_ok-arg-3.ensures.shape (search rules) ∙ ap₂ with_rule two c.option.ensures.rule in
     let four = c.in_ok-arg-4.ensures.shape (search rules) ∙ ap₂ with_rule three c.option-2.ensures.rule in
     let five = c.in_ok-arg-5.ensures.shape (search rules) ∙ ap₂ with_rule four c.option-3.ensures.rule in
-    IfOk-weaker c.arg-6.result _ (λ (m : Command). app_of m ≡ command)
-    (λ m h. h.shape (search rules) ∙ ap₂ with_rule five c.flag.ensures.rule) c.arg-6.ensures
+    let six = c.in_ok-arg-6.ensures.shape (search rules) ∙ ap₂ with_rule five c.option-4.ensures.rule in
+    IfOk-weaker c.arg-7.result _ (λ (m : Command). app_of m ≡ command)
+    (λ m h. h.shape (search rules) ∙ ap₂ with_rule six c.flag.ensures.rule) c.arg-7.ensures
