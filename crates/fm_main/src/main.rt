@@ -1,5 +1,5 @@
-//! The program `formula IN OUT`: it writes the Standard MIDI File of the score in the file IN to
-//! the file OUT.
+//! The program `formula IN OUT`: it writes the Standard MIDI File of the score in the file IN, or
+//! of a large score, to the file OUT.
 //!
 //! `main` hands the words, the two files and standard output to `fm_top::formula`, whose clauses
 //! say what each exit status means, and ends with its answer. What a real file holds is left out.

@@ -18,7 +18,8 @@ fn hold_place<R: Files>(rt: &R) -> Option<R::File> {
 }
 
 /// Plays the file that the first word names into the one that the second names, and says the exit
-/// status. Where the words are refused, neither file is opened.
+/// status. Where the words are refused, neither file is opened; where they ask for a large score,
+/// the first is not.
 pub fn run<R: Threads + Wait + Sync + Env + Files + Print + AllocGlobal>(
     rt: &R,
 ) -> Result<u8, AllocError> {
