@@ -1,7 +1,7 @@
 -- What was written of a plan is the file of what the text means, and what is summed up of it are the score's totals.
 use Rattle.std.proofs.Common.{◌≡◌, ℕ, ◌-◌, List, length, Option, Some, None, ap, sym, ◌∙◌, subst, option_map}
 use Rattle.fm_line.specs.declared.line.Line.{Line}
-use Rattle.fm_line.specs.Line.{line, ValidLines}
+use Rattle.fm_line.specs.Line.{line}
 use Rattle.fm_line.specs.Piece.{piece}
 use Rattle.fm_grammar.specs.Score.{Score}
 use Rattle.fm_meaning.specs.Resolve.{resolved}
@@ -35,12 +35,6 @@ LastLinesEnd = (text : List ℕ) (s : Score) → Means text s
 lines_taken : PlansPlay → (o n : Option (List ℕ)) (plan : PlanParts) (t : TakesPlan o n plan)
     → plan_lines plan ≡ played_lines (resolved t.planned.score)
 lines_taken plays o n plan t = ap plan_lines t.planned.planned ∙ plays t.text t.planned.score t.planned.means
-
--- so they are valid
-pub valid_taken : PlansPlay → ((text : List ℕ) (s : Score) → Means text s → ValidLines (played_lines (resolved s)))
-    → (o n : Option (List ℕ)) (plan : PlanParts) → TakesPlan o n plan → ValidLines (plan_lines plan)
-valid_taken plays valid o n plan t =
-    subst ValidLines (sym (lines_taken plays o n plan t)) (valid t.text t.planned.score t.planned.means)
 
 -- the totals of lines, and of the tick at which they end
 abbrev summed : List Line → ℕ → Summary

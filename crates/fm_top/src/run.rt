@@ -12,7 +12,7 @@ use crate::score::read_score;
 use fm_edge::{Gate, Sink, Source};
 use fm_expansion::plans_play_the_score;
 use fm_gen::Summary;
-use fm_promise::{accepted_lines_are_valid, scores_end_with_their_last_line};
+use fm_promise::scores_end_with_their_last_line;
 use fm_round::{Played, Rounds};
 use fm_words::{NameFault, read_options};
 use std::alloc::Global;
@@ -48,7 +48,6 @@ pub fn run<R: Threads + Sync, S: Source, K: Sink, G: Gate + Sync>(
     };
     let plan = read_score(alloc, options.generate, source)?;
     plans_play_the_score();
-    accepted_lines_are_valid();
     scores_end_with_their_last_line();
     let processes = plan.processes();
     let rounds = Rounds::open(alloc, plan, options.room, options.lead)?;
