@@ -32,7 +32,7 @@ pub(crate) fn lengths(alloc: Global, list: &[Length]) -> Result<Vec<u32>, AllocE
     requires { each_faults (length_faults 1920) length_spot MAX_ENTRIES list.now ≡ [] }
     ensures { IfOk result (λ l. l.items ≡ map (length_ticks 1920) list.now) }
 {
-    let mut entries = Vec::new(alloc);
+    let mut entries = Vec::with_capacity(alloc, list.len())?;
     for length in list {
         entries.push(ticks(length))?;
     }
@@ -43,7 +43,7 @@ pub(crate) fn lengths(alloc: Global, list: &[Length]) -> Result<Vec<u32>, AllocE
 pub(crate) fn numbers(alloc: Global, list: &[Number]) -> Result<Vec<u32>, AllocError>
     ensures { IfOk result (λ l. l.items ≡ map Number.value list.now) }
 {
-    let mut entries = Vec::new(alloc);
+    let mut entries = Vec::with_capacity(alloc, list.len())?;
     for number in list {
         entries.push(number.value)?;
     }

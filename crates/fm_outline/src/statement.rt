@@ -131,7 +131,7 @@ pub(crate) fn outline_item(
             number: known.phrase(name.text),
         }),
         What::Par { branches } => {
-            let mut outlined = Vec::new(alloc);
+            let mut outlined = Vec::with_capacity(alloc, branches.len())?;
             for branch in branches {
                 outlined.push(outline_items(alloc, branch, known, tables)?)?;
             }
@@ -206,7 +206,7 @@ pub(crate) fn outline_items(
         numbered (block_view look steps.items) (tables_view tables.new)
         ≡ block_of k (items_view items.now) (tables_view tables.old)) }
 {
-    let mut steps = Vec::new(alloc);
+    let mut steps = Vec::with_capacity(alloc, items.len())?;
     for item in items {
         let what = outline_item(alloc, item, known, tables)?;
         steps.push(Step {

@@ -59,7 +59,7 @@ pub(crate) fn outline_keys(
     ensures { IfOk result (λ ds. numbered ds.items (tables_view tables.new)
         ≡ keys_numbered (map pitch_view pitches.now) (tables_view tables.old)) }
 {
-    let mut keys = Vec::new(alloc);
+    let mut keys = Vec::with_capacity(alloc, pitches.len())?;
     for pitch in pitches {
         keys.push(outline_key(alloc, pitch, tables)?)?;
     }
