@@ -1,5 +1,5 @@
 -- The walk over the entries, one more at a time.
-use Rattle.std.proofs.Common.{◌≡◌, ℕ, zero, suc, ◌+◌, ◌<◌, ◌≤◌, List, [], ◌∷◌, ◌++◌, map, drop, length, get_or, refl, ap, ap₂, sym, ◌∙◌, add-one, arith, Bool, true, false, cond, Option, Some, None, drop_of_length-le, subst}
+use Rattle.std.proofs.Common.{◌≡◌, ℕ, zero, suc, ◌+◌, ◌<◌, ◌≤◌, List, [], ◌∷◌, ◌++◌, map, drop, length, get_or, refl, ap, ap₂, sym, ◌∙◌, add-one, arith, Bool, true, false, cond, Option, Some, None, drop_of_length-le, subst, Vec, Global}
 use Rattle.std.specs.Prelude.{if◌then◌else◌, unwrap_or}
 use Rattle.std.specs.Str.{bytes_eq}
 use Rattle.std.proofs.Math.Seq.{drop-cons}
@@ -184,14 +184,14 @@ shape_walked score known shapes phrases block t u name parts rest p warp is at a
     }
 
 -- a phrase more
-pub phrase_walked : (score : text.Score) (known : Known) (names : table.Names ℕ) (phrases grown : List (List Step))
-    (block : List Step) (t u : plain.Tables) (name : text.Leaf) (body : text.Body) (rest : List text.Entry)
-    (p : ℕ) (steps : List Step) → p ≡ length phrases → grown ≡ phrases ++ steps ∷ []
+pub phrase_walked : (score : text.Score) (known : Known) (names : table.Names ℕ) (forking : Vec Bool Global)
+    (phrases grown : List (List Step)) (block : List Step) (t u : plain.Tables) (name : text.Leaf) (body : text.Body)
+    (rest : List text.Entry) (p : ℕ) (steps : List Step) → p ≡ length phrases → grown ≡ phrases ++ steps ∷ []
     → ((q : List ℕ) → named names q ≡ cond (bytes_eq q name.text) (Some p) (named known.phrases q))
     → ((k : Catalogue) (look : Look) → Knows known look k → numbered (block_view look steps) u ≡ block_of k body t)
     → WalkedBy score known phrases block t (text.phrase name body ∷ rest)
-    → WalkedBy score (record known { phrases = names }) grown block u rest
-phrase_walked score known names phrases grown block t u name body rest p steps at pushed defined is r =
+    → WalkedBy score (record known { phrases = names; forking = forking }) grown block u rest
+phrase_walked score known names forking phrases grown block t u name body rest p steps at pushed defined is r =
     let blocks = phrases_view phrases in
     let value = (block_of r.k body t).value in
     let k : Catalogue = record r.k { phrases = named_as name value ∷ r.k.phrases } in

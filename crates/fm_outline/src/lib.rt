@@ -6,6 +6,7 @@
 //! its number.
 #![tactic(auto)]
 
+mod fork;
 mod known;
 mod lasting;
 mod number;

@@ -9,6 +9,7 @@ ghost use Rattle.fm_outline.specs.View.{Look, tables_view, instruction_view, blo
 ghost use Rattle.fm_outline.specs.InRange.{StmtInRange, BodyInRange};
 ghost use Rattle.fm_outline.specs.Knows.{Knows};
 
+use crate::fork::before_fork_inside;
 use crate::known::Known;
 use crate::lasting::Lasting;
 use crate::number::{lengths, numbers};
@@ -211,6 +212,7 @@ pub(crate) fn outline_items(
         let what = outline_item(alloc, item, known, tables)?;
         steps.push(Step {
             spot: item.spot,
+            before_fork: before_fork_inside(&what, &known.forking),
             what,
         })?;
     }

@@ -10,6 +10,9 @@ use fm_program::{Count, Draw, Point};
 #[cycle(step)]
 pub struct Step {
     pub spot: Spot,
+    /// How many statements of its block stand before the first that forks, all of them where none
+    /// does. No clause speaks of it, so a caller asks the statement at this place.
+    pub before_fork: usize,
     pub what: Instruction,
 }
 

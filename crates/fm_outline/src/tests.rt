@@ -1,5 +1,5 @@
 use crate::*;
-use fm_grammar::{Entry, Item, Number, Score, What};
+use fm_grammar::{Entry, Item, Name, Number, Score, What};
 use fm_lex::Spot;
 use std::alloc::AllocError;
 
@@ -33,5 +33,47 @@ fn outlines_a_rest(rt: HostRuntime) -> Result<(), AllocError> {
         _ => None,
     };
     assert_eq!(rt; lasting, Some(Lasting::Beat));
+    Ok(())
+}
+
+#[test]
+fn a_fork_in_a_phrase_is_found_in_a_loop(rt: HostRuntime) -> Result<(), AllocError> {
+    let spot = Spot { line: 1, column: 1 };
+    let name = Name { text: b"p", spot };
+    let branch: Vec<Item> = Vec::new(rt.alloc());
+    let branches = vec![in rt.alloc(); branch]?;
+    let fork = Item {
+        spot,
+        what: What::Par { branches },
+    };
+    let rest = Item {
+        spot,
+        what: What::Skip,
+    };
+    let phrase = Item {
+        spot,
+        what: What::Do { name },
+    };
+    let looped = Item {
+        spot,
+        what: What::Repeat {
+            count: Number { value: 0, spot },
+            body: vec![in rt.alloc(); rest, phrase]?,
+        },
+    };
+    let mut entries = Vec::new(rt.alloc());
+    entries.push(Entry::Phrase {
+        name,
+        body: vec![in rt.alloc(); fork]?,
+    })?;
+    entries.push(Entry::Play { item: looped })?;
+    let score = Score {
+        version: Number { value: 1, spot },
+        seed: None,
+        entries,
+    };
+    let outline = outline_of(rt.alloc(), &score)?;
+    assert_eq!(rt; outline.block.len(), 1);
+    assert_eq!(rt; outline.block[0].before_fork, 1);
     Ok(())
 }

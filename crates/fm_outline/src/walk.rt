@@ -13,6 +13,7 @@ ghost use Rattle.fm_outline.specs.View.{outline_view};
 ghost use Rattle.fm_outline.specs.Phrases.{PhrasesStand};
 ghost use Rattle.fm_outline.specs.Walked.{Walked, played};
 
+use crate::fork::{before_fork, before_fork_inside};
 use crate::known::Known;
 use crate::outline::Outline;
 use crate::shape::warp_of;
@@ -42,6 +43,7 @@ impl<'s> Walk<'s> {
         let what = outline_item(alloc, item, &self.known, &mut self.tables)?;
         self.block.push(Step {
             spot: item.spot,
+            before_fork: before_fork_inside(&what, &self.known.forking),
             what,
         })?;
         Ok(())
@@ -61,7 +63,9 @@ impl<'s> Walk<'s> {
     {
         let steps = outline_items(alloc, body, &self.known, &mut self.tables)?;
         let number = place(self.phrases.len())?;
+        let forks = before_fork(&steps, &self.known.forking) < steps.len();
         self.phrases.push(steps)?;
+        self.known.forking.push(forks)?;
         self.known.phrases.define(name.text, number)
     }
 
@@ -117,6 +121,7 @@ pub fn outline_of(alloc: Global, score: &Score) -> Result<Outline, AllocError>
         known: Known {
             shapes: Names::new(alloc),
             phrases: Names::new(alloc),
+            forking: Vec::new(alloc),
         },
         tables: Tables::new(alloc),
         phrases: Vec::new(alloc),

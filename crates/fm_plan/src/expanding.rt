@@ -36,13 +36,14 @@ fn written_rounds(count: Count) -> u32
     }
 }
 
-/// Whether a loop is written out: it forks, and stands where statements may.
-fn is_written_out(body: &[Step], forks: &[bool], forking: bool) -> bool
+/// Whether a loop is written out: it forks, and stands where statements may. The statement of its
+/// body at the place `first` is asked before all others.
+fn is_written_out(body: &[Step], first: usize, forks: &[bool], forking: bool) -> bool
     ensures { (look : Look) → ((n : ℕ) → slice_index_or forks.now n false ≡ emission.forks_in (look n)) →
         result ≡ (forking && emission.forks_in (block_view look body.now)) }
 {
     if forking {
-        steps_fork(body, forks)
+        steps_fork(body, first, forks)
     } else {
         false
     }
@@ -91,7 +92,7 @@ fn expand_step(
             expand_choice(m, earlier, forks, *expr, yes, no, inside)
         }
         Instruction::Loop { count, body } => {
-            if is_written_out(body, forks, forking) {
+            if is_written_out(body, step.before_fork, forks, forking) {
                 expand_rounds(m, earlier, forks, *count, body, inside)
             } else {
                 expand_loop(m, earlier, forks, *count, body, inside)

@@ -18,23 +18,28 @@ fn step_forks(step: &Step, phrases: &[bool]) -> bool
         Instruction::Rest { .. } => false,
         Instruction::Send { .. } => false,
         Instruction::Set { .. } => false,
-        Instruction::Choice { yes, no, .. } => steps_fork(yes, phrases) || steps_fork(no, phrases),
-        Instruction::Loop { body, .. } => steps_fork(body, phrases),
+        Instruction::Choice { yes, no, .. } => {
+            steps_fork(yes, yes.len(), phrases) || steps_fork(no, no.len(), phrases)
+        }
+        Instruction::Loop { body, .. } => steps_fork(body, step.before_fork, phrases),
         Instruction::Phrase { number } => phrase_forks(*number, phrases),
         Instruction::Par { .. } => true,
-        Instruction::Warp { body, .. } => steps_fork(body, phrases),
-        Instruction::Channel { body, .. } => steps_fork(body, phrases),
-        Instruction::Steady { body, .. } => steps_fork(body, phrases),
-        Instruction::Under { body, .. } => steps_fork(body, phrases),
+        Instruction::Warp { body, .. } => steps_fork(body, step.before_fork, phrases),
+        Instruction::Channel { body, .. } => steps_fork(body, step.before_fork, phrases),
+        Instruction::Steady { body, .. } => steps_fork(body, step.before_fork, phrases),
+        Instruction::Under { body, .. } => steps_fork(body, step.before_fork, phrases),
     }
 }
 
-/// Whether one of the statements does.
+/// Whether one of the statements does. The one at the place `first` is asked before all others.
 #[cycle(forks)]
-pub(crate) fn steps_fork(steps: &[Step], phrases: &[bool]) -> bool
+pub(crate) fn steps_fork(steps: &[Step], first: usize, phrases: &[bool]) -> bool
     ensures { (look : Look) → ((n : ℕ) → slice_index_or phrases.now n false ≡ emission.forks_in (look n)) →
         result ≡ emission.forks_in (block_view look steps.now) }
 {
+    if first < steps.len() && step_forks(&steps[first], phrases) {
+        return true;
+    }
     for step in steps {
         if step_forks(step, phrases) {
             return true;
@@ -64,7 +69,7 @@ pub(crate) fn phrases_fork(alloc: Global, phrases: &[Vec<Step>]) -> Result<Vec<b
 {
     let mut forks = Vec::new(alloc);
     for phrase in phrases {
-        let own = steps_fork(phrase, forks.as_slice());
+        let own = steps_fork(phrase, phrase.len(), forks.as_slice());
         forks.push(own)?;
     }
     Ok(forks)

@@ -9,6 +9,7 @@ use std::alloc::{AllocError, Global};
 fn step(what: Instruction) -> Step {
     Step {
         spot: Spot { line: 1, column: 1 },
+        before_fork: 0,
         what,
     }
 }
@@ -91,5 +92,33 @@ fn a_fork_makes_processes_and_what_follows_waits(rt: HostRuntime) -> Result<(), 
         assert!(rt; expanded.programs[i].predecessors.as_slice() == *wait);
     }
     assert_eq!(rt; expanded.programs[3].ops.len(), 1);
+    Ok(())
+}
+
+/// A loop over statements of which so many stand before the first that forks.
+fn loop_that_forks(rounds: u32, before_fork: usize, body: Vec<Step>) -> Step {
+    Step {
+        spot: Spot { line: 1, column: 1 },
+        before_fork,
+        what: Instruction::Loop {
+            count: Count::Fixed { count: rounds },
+            body,
+        },
+    }
+}
+
+#[test]
+fn a_forking_loop_of_no_rounds_adds_nothing(rt: HostRuntime) -> Result<(), AllocError> {
+    let alloc = rt.alloc();
+    let branch: Vec<Step> = Vec::new(alloc);
+    let branches = vec![in alloc; branch]?;
+    let fork = vec![in alloc; note(), step(Instruction::Par { branches })]?;
+    let body = vec![in alloc; loop_that_forks(0, 1, fork), note()]?;
+    let block = vec![in alloc; loop_that_forks(2, 0, body)]?;
+    let expanded = expand(alloc, &outline(alloc, block)?)?;
+    assert_eq!(rt; expanded.programs.len(), 1);
+    let ops = [note_in(1), note_in(2)];
+    assert!(rt; expanded.programs[0].ops.as_slice() == ops.as_slice());
+    assert_eq!(rt; expanded.scopes.len(), 3);
     Ok(())
 }

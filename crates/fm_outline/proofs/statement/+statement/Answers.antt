@@ -310,7 +310,7 @@ outline_items-outline_item-requires t c =
 pub outline_items-loop-item-preserved : goal.outline_items-loop-item-preserved
 outline_items-loop-item-preserved t c = λ k look knows.
     let x = c.item-item.result in
-    let s : Step = record { spot = x.spot; what = c.in_ok-what.what } in
+    let s : Step = record { spot = x.spot; before_fork = c.before_fork_inside.result; what = c.in_ok-what.what } in
     let pushed : c.push.new.self.items ≡ c.loop-item.steps.items ++ s ∷ [] = search rules in
     steps_more k look c.args.items.now c.loop-item.item-index x c.loop-item.steps.items c.push.new.self.items s
     (block_of k (items_view c.args.items.now) (tables_view c.args.tables.now)) (tables_view c.loop-item.tables)

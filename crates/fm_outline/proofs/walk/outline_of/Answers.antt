@@ -7,9 +7,9 @@ use Rattle.fm_outline.proofs.walk.outline_of.Goals as goal
 
 pub loop-entry-init : goal.loop-entry-init
 loop-entry-init c =
-    rw (c.new-4.ensures.items, c.new-5.ensures.items)
-    (begun (score_view c.args.score.now) (record { shapes = c.new.result; phrases = c.new-2.result })
-    (tables_view c.new-3.result) c.new.ensures c.new-2.ensures c.new-3.ensures c.requires)
+    rw (c.new-5.ensures.items, c.new-6.ensures.items)
+    (begun (score_view c.args.score.now) (record { shapes = c.new.result; phrases = c.new-2.result; forking = c.new-3.result })
+    (tables_view c.new-4.result) c.new.ensures c.new-2.ensures c.new-4.ensures c.requires)
 
 pub enter-requires : goal.enter-requires
 enter-requires c =

@@ -6,6 +6,7 @@ use Rattle.fm_expansion.specs.Outline as plain
 use Rattle.fm_outline.specs.View.{block_view, step_view, quality_view}
 use Rattle.fm_outline.specs.declared.step.Step.{the_lemmas}
 use Rattle.fm_plan.proofs.MadeLemmas.{drop_at}
+use Rattle.fm_plan.proofs.ForkLemmas.{fork_at}
 use Rattle.fm_plan.proofs.forks.+forks.Goals as goal
 
 pub step_forks-returns-in-Loop : goal.step_forks-returns-in-Loop
@@ -58,13 +59,18 @@ step_forks-returns-else-steps_fork t c = λ look known.
 
 pub steps_fork-returns-then-step_forks : goal.steps_fork-returns-then-step_forks
 steps_fork-returns-then-step_forks t c = λ look known.
+    sym (fork_at look c.args.steps.now c.args.first _ c.if-first-steps.true c.index-steps-first.is
+    (sym (c.step_forks.ensures look known) ∙ c.if-step_forks.true))
+
+pub steps_fork-returns-then-step_forks-2 : goal.steps_fork-returns-then-step_forks-2
+steps_fork-returns-then-step_forks-2 t c = λ look known.
     let at = drop_at c.args.steps.now c.loop-step.step-index c.step-item.result c.loop-step-test.true c.step-item.is in
     sym (c.loop-step.invariant look known ∙ ap (λ l. forks_in (block_view look l)) at
-    ∙ or_left _ _ (sym (c.step_forks.ensures look known) ∙ c.if-step_forks.true))
+    ∙ or_left _ _ (sym (c.step_forks-in-loop-step.ensures look known) ∙ c.if-step_forks-2.true))
 
 pub steps_fork-loop-step-preserved : goal.steps_fork-loop-step-preserved
 steps_fork-loop-step-preserved t c = λ look known.
     let at = drop_at c.args.steps.now c.loop-step.step-index c.step-item.result c.loop-step-test.true c.step-item.is in
     c.loop-step.invariant look known ∙ ap (λ l. forks_in (block_view look l)) at
     ∙ ap (λ a. a || forks_in (block_view look (drop (c.loop-step.step-index + 1) c.args.steps.now)))
-    (sym (c.step_forks.ensures look known) ∙ c.if-step_forks.false)
+    (sym (c.step_forks-in-loop-step.ensures look known) ∙ c.if-step_forks-2.false)

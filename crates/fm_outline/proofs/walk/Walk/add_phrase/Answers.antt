@@ -17,7 +17,7 @@ returns c =
     let at : c.in_ok-number.number ≡ length (map vec_items w.phrases.items) = search (rules, length-map) in
     on_ok_weaker c.define.result
     (λ defined score rest r.
-    phrase_walked score w.known c.define.new.self (map vec_items w.phrases.items)
+    phrase_walked score w.known c.define.new.self c.push-2.new.self (map vec_items w.phrases.items)
     (map vec_items c.push.new.self.items) w.block.items (tables_view w.tables)
     (tables_view c.outline_items.new.tables) (name_view c.args.name.now) (items_view c.args.body.now) rest
     c.in_ok-number.number steps.items at grown defined (λ k look knows. c.in_ok-steps.ensures k look knows) r)
