@@ -1,4 +1,7 @@
 mod large;
+mod lines;
+mod rows;
+mod ways;
 
 use super::*;
 use fm_edge::{MemorySink, MemorySource, NullSink, OpenGate, SureSource};
@@ -12,10 +15,6 @@ const BEGUN: [u8; 29] = [
     0x4D, 0x54, 0x68, 0x64, 0, 0, 0, 6, 0, 0, 0, 1, 1, 0xE0, 0x4D, 0x54, 0x72, 0x6B, 0, 0, 0, 0, 0,
     0xFF, 0x51, 3, 7, 0xA1, 0x20,
 ];
-
-const NO_NOTE: [u8; 4] = [0, 0xFF, 0x2F, 0];
-
-const NO_LENGTH: [u8; 12] = [0, 0x90, 0x3C, 0x40, 0, 0x80, 0x3C, 0x40, 0, 0xFF, 0x2F, 0];
 
 const QUARTER: [u8; 13] = [
     0, 0x90, 0x3C, 0x40, 0x83, 0x30, 0x80, 0x3C, 0x40, 0x30, 0xFF, 0x2F, 0,
@@ -32,7 +31,7 @@ const THREE_BRANCHES: &str = "formula 1; par { branch { note c4 1/4; } branch { 
     branch { note g4 1/2; } }";
 
 /// More bytes than any file of these tests has.
-const CAPACITY: usize = 1_000;
+const CAPACITY: usize = 40_000;
 
 fn some_words(alloc: Global, count: usize) -> Result<Vec<String>, AllocError> {
     let mut words = Vec::new(alloc);
@@ -99,6 +98,17 @@ fn run_with_faults<R: Threads + Wait + Sync>(
     faults: (&[u64], &[(u64, u32)], &[(u64, u32)]),
 ) -> Result<Ran, AllocError> {
     let words = some_words(alloc, count)?;
+    run_on(rt, alloc, &words, text, faults)
+}
+
+// The same on these words.
+fn run_on<R: Threads + Wait + Sync>(
+    rt: &R,
+    alloc: Global,
+    words: &[String],
+    text: &[u8],
+    faults: (&[u64], &[(u64, u32)], &[(u64, u32)]),
+) -> Result<Ran, AllocError> {
     let text = text.to_vec(alloc)?;
     let mut source = MemorySource::new(text, 5_000, faults.0.to_vec(alloc)?);
     let mut sink = MemorySink::new(alloc, CAPACITY, faults.1.to_vec(alloc)?)?;
@@ -106,7 +116,7 @@ fn run_with_faults<R: Threads + Wait + Sync>(
     let status = formula(
         rt,
         alloc,
-        &words,
+        words,
         &mut source,
         &mut sink,
         &mut console,
@@ -132,35 +142,6 @@ fn repeated(
     }
     text.push_str(ends.1)?;
     Ok(text)
-}
-
-// A program that always answers want of memory is refused here.
-#[test]
-fn texts_become_files(rt: HostRuntime) -> Result<(), Fail> {
-    let alloc = rt.alloc();
-    for (text, tail) in [
-        ("formula 1;", NO_NOTE.as_slice()),
-        (NOTE, QUARTER.as_slice()),
-        ("formula 1; note c4 ticks 0;", NO_LENGTH.as_slice()),
-        (
-            THREE_BRANCHES,
-            &[
-                0, 0x90, 0x3C, 0x40, 0, 0x90, 0x40, 0x40, 0, 0x90, 0x43, 0x40, 0x81, 0x58, 0x80,
-                0x40, 0x40, 0x81, 0x58, 0x80, 0x3C, 0x40, 0x83, 0x30, 0x80, 0x43, 0x40, 0x60, 0xFF,
-                0x2F, 0,
-            ],
-        ),
-        (
-            "formula 1; note key (60 + pick(12)) 1/4;",
-            &[
-                0, 0x90, 0x47, 0x40, 0x83, 0x30, 0x80, 0x47, 0x40, 0x30, 0xFF, 0x2F, 0,
-            ],
-        ),
-    ] {
-        let file = file_of(&rt, alloc, text)?;
-        assert_eq!(rt; file, Some(file_with(alloc, tail, 4)?), "at {text}");
-    }
-    Ok(())
 }
 
 // The text is longer than one piece of the source.
@@ -194,56 +175,6 @@ fn statuses_and_texts_that_leave_the_sink(rt: HostRuntime) -> Result<(), Fail> {
         assert_eq!(rt; ran.status, status, "at {count} words and the text {text}");
         assert_eq!(rt; ran.console.content(), said.as_bytes());
         assert_eq!(rt; ran.sink.content().len(), 0);
-    }
-    Ok(())
-}
-
-#[test]
-fn places_of_faults(rt: HostRuntime) -> Result<(), Fail> {
-    let alloc = rt.alloc();
-    let head = "formula 1; ";
-    let deep = repeated(alloc, (head, ""), "if 1 {", 65)?;
-    let negated = repeated(alloc, ("formula 1; set r0 = ", "1;"), "-", 64)?;
-    let lines = repeated(alloc, ("", "x"), "\n", 41_000)?;
-    for (text, place) in [
-        ("formula 1; Note", "1:12 fault 1"),
-        ("formula 1x;", "1:9 fault 2"),
-        ("formula 1; note c4,", "1:20 fault 3"),
-        ("", "1:1 fault 3"),
-        ("formula 1; note c4 1/4; }", "1:25 fault 3"),
-        (lines.as_str(), "41001:1 fault 3"),
-        (deep.as_str(), "1:396 fault 4"),
-        (negated.as_str(), "1:84 fault 4"),
-        ("formula 1; note c4 1/7;", "1:20 fault 8"),
-        ("formula 1; do x;", "1:15 fault 6"),
-        ("formula 2;", "1:9 fault 7"),
-        ("formula 1; play c4;", "1:12 fault 10"),
-        ("formula 1; rest ticks (n0) max 5;", "1:12 fault 11"),
-        (
-            "formula 1; shape a = pause ticks 1; phrase a { }",
-            "1:44 fault 5",
-        ),
-        (
-            "formula 1; repeat (pick(4)) max 4 { par { branch { } } }",
-            "1:37 fault 9",
-        ),
-        (
-            "formula 1; repeat 2048 { par { branch { } } }",
-            "1:12 fault 13",
-        ),
-        (
-            "formula 1; repeat 1000000 { note c4, d4, e4 ticks 0; }",
-            "1:12 fault 16",
-        ),
-        (
-            "formula 1; repeat 1000000 { repeat 16 { } }",
-            "1:12 fault 17",
-        ),
-    ] {
-        let ran = run_with_faults(&rt, alloc, text.as_bytes(), 2, (&[], &[], &[]))?;
-        let said = format!(in alloc; "formula: score refused: {place}\n")?;
-        assert_eq!(rt; ran.status, 3);
-        assert_eq!(rt; ran.console.content(), said.as_bytes());
     }
     Ok(())
 }
