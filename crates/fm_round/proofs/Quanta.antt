@@ -1,7 +1,7 @@
 -- What one quantum makes of one slot.
-use Rattle.std.proofs.Common.{◌≡◌, ◌⊎◌, ℕ, ◌+◌, ◌-◌, ◌<◌, ◌≤◌, List, [], ◌∷◌, ◌++◌, length, Bool, true, false, Option, Some, None, refl, sym, ap, ap₂, ◌∙◌, subst, inl, inr, arith, length-append}
+use Rattle.std.proofs.Common.{◌≡◌, ◌⊎◌, ℕ, ◌+◌, ◌-◌, ◌<◌, ◌≤◌, List, [], ◌∷◌, ◌++◌, length, Bool, true, false, Option, Some, None, refl, sym, ap, ap₂, ◌∙◌, subst, inl, inr, arith, append-nil, length-append}
 use Rattle.std.proofs.lemmas.Bool.{cases_eq}
-use Rattle.std.proofs.lemmas.List.Elements.{All-append, All-weaker}
+use Rattle.std.proofs.lemmas.List.Elements.{All-append, All-nil, All-weaker}
 use Rattle.std.specs.List.{All}
 use Rattle.fm_msg.specs.Event.{TimedMessage}
 use Rattle.fm_buffer.specs.Outbox.{EventQueue}
@@ -9,6 +9,7 @@ use Rattle.fm_program.specs.Parts.{PlanParts}
 use Rattle.fm_strand.specs.declared.strand.Strand.{Strand}
 use Rattle.fm_strand.specs.declared.answers.Quantum.{Quantum}
 use Rattle.fm_strand.specs.declared.answers.Quantum.TheVariants as quantum
+use Rattle.fm_strand.specs.declared.answers.TheConstants.{MAX_QUANTUM}
 use Rattle.fm_strand.specs.Course.{steps_of, standing, tick_of, to_come}
 use Rattle.fm_strand.specs.Strand.{InCourse, MakesQuantum, QuantumIs, clock_of, rest, steps_left}
 use Rattle.fm_round.specs.declared.slot.Slot.{Slot}
@@ -121,6 +122,13 @@ module _ (p : PlanParts) (j limit : ℕ) (old new : Slot) (s t : Strand) (answer
   load_within true = omega arith
   load_within false = let steps = makes.steps in omega arith
 
+  few_steps : (a : Quantum) → QuantumIs p limit makes.made a t new.outbox
+      → steps_left p s + 1 ≤ run_load p j (has_ended a) (Some t) + MAX_QUANTUM + 1
+  few_steps quantum.Ended is = let steps = makes.steps in let few = makes.few in omega arith
+  few_steps quantum.Spent is = let steps = makes.steps in let few = makes.few in omega arith
+  few_steps quantum.Full is = let steps = makes.steps in let few = makes.few in omega arith
+  few_steps quantum.Limit is = let steps = makes.steps in let few = makes.few in omega arith
+
   pub ran : Runs p j limit old new
   ran = record {
     same = λ events. rw (now, was) makes.stays;
@@ -128,6 +136,8 @@ module _ (p : PlanParts) (j limit : ℕ) (old new : Slot) (s t : Strand) (answer
     room = makes.room;
     less = rw (load_before, load_after) (load_within (has_ended answer));
     moves = λ can. rw (load_before, load_after) (moved can answer refl makes.is);
+    few = rw (load_before, load_after) (few_steps answer makes.is);
+    puts = record { put = makes.put; events = makes.events; in_time = makes.in_time };
   }
 
 -- a slot that is left as it was, since it has not started or has ended
@@ -138,4 +148,10 @@ rests p j limit s fits idle = record {
   room = refl;
   less = omega arith;
   moves = λ can. let never : Some can.clock ≡ None = sym can.live ∙ idle in cc;
+  few = omega arith;
+  puts = record {
+    put = [];
+    events = sym (append-nil s.outbox.events);
+    in_time = All-nil (λ (e : TimedMessage). e.time ≤ limit);
+  };
 }

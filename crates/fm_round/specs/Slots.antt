@@ -7,6 +7,7 @@ use Rattle.fm_program.specs.Parts.{PlanParts, process_program}
 use Rattle.fm_strand.specs.declared.strand.Strand.{Strand}
 use Rattle.fm_strand.specs.declared.answers.Quantum.{Quantum}
 use Rattle.fm_strand.specs.declared.answers.Quantum.TheVariants as quantum
+use Rattle.fm_strand.specs.declared.answers.TheConstants.{MAX_QUANTUM}
 use Rattle.fm_strand.specs.Course.{steps_of}
 use Rattle.fm_strand.specs.Strand.{InCourse, clock_of, rest, steps_left}
 use Rattle.fm_round.specs.declared.slot.Slot.{Slot}
@@ -96,6 +97,26 @@ run_clock p false (Some t) = Some (clock_of p t)
 abbrev pub live_clock : PlanParts → Slot → Option ℕ
 live_clock p s = run_clock p s.ended s.strand
 
+-- whether a process has started and not ended, by whether it has ended, and by its strand where it has started
+abbrev pub run_is_live : Bool → Option Strand → Bool
+run_is_live true t = false
+run_is_live false None = false
+run_is_live false (Some t) = true
+
+-- whether the process of a slot has started and not ended
+abbrev pub is_running : Slot → Bool
+is_running s = run_is_live s.ended s.strand
+
+-- one of them has
+pub record SomeRuns (ss : List Slot) : Type 0 where
+  pub at : ℕ
+  pub there : at < length ss
+  pub live : is_running (slot ss at) ≡ true
+
+-- none of them has
+abbrev pub NoneRuns : List Slot → Type 0
+NoneRuns ss = (k : ℕ) → k < length ss → is_running (slot ss k) ≡ false
+
 -- the pair of the time c and the process m is at most the pair of the time t and the process j
 abbrev pub IsNotPast : ℕ → ℕ → ℕ → ℕ → Type 0
 IsNotPast c m t j = (c < t) ⊎ ((c ≡ t) × (m ≤ j))
@@ -179,6 +200,12 @@ pub record CanRun (p : PlanParts) (limit : ℕ) (s : Slot) : Type 0 where
   pub in_time : clock ≤ limit
   pub room : length s.outbox.events < s.outbox.room
 
+-- behind the events that wait others were put, none later than the limit
+pub record PutsInTime (limit : ℕ) (old new : Slot) : Type 0 where
+  pub put : List TimedMessage
+  pub events : new.outbox.events ≡ old.outbox.events ++ put
+  pub in_time : All (λ e. e.time ≤ limit) put
+
 -- what a quantum makes of the slot of the process j
 pub record Runs (p : PlanParts) (j limit : ℕ) (old new : Slot) : Type 0 where
   pub same : (events : List TimedMessage) → left p events new ≡ left p events old
@@ -186,6 +213,9 @@ pub record Runs (p : PlanParts) (j limit : ℕ) (old new : Slot) : Type 0 where
   pub room : new.outbox.room ≡ old.outbox.room
   pub less : load p j new ≤ load p j old
   pub moves : CanRun p limit old → load p j new < load p j old
+  -- at most as many steps are made as a quantum has, and the end is found
+  pub few : load p j old ≤ load p j new + MAX_QUANTUM + 1
+  pub puts : PutsInTime limit old new
 
 -- of each of the processes from `first` on
 abbrev pub RunsEach : PlanParts → (first limit : ℕ) → List Slot → List Slot → Type 0

@@ -1,10 +1,10 @@
 //! One quantum of each process, on one thread or on several.
-ghost use Rattle.std.specs.Prelude.{◌≡◌, ◌+◌, ◌<◌, ◌≤◌, length};
+ghost use Rattle.std.specs.Prelude.{◌≡◌, ◌+◌, ◌*◌, ◌<◌, ◌≤◌, true, false, length};
 ghost use Rattle.std.specs.Thread.{IsSync};
-ghost use Rattle.fm_round.specs.Slots.{AllSlots, AreSlots, RunsAll, RunsEach};
+ghost use Rattle.fm_round.specs.Slots.{AllSlots, AreSlots, NoneRuns, RunsAll, RunsEach, SomeRuns};
 
 use crate::limits::{MAX_PROCESSES, MAX_WORKERS};
-use crate::slot::{Slot, run_slot};
+use crate::slot::{Slot, is_live, run_slot};
 use fm_edge::{Gate, OpenGate};
 use fm_strand::Plan;
 use std::thread::{Threads, join_mut};
@@ -92,15 +92,19 @@ fn share<R: Threads + Sync, G: Gate + Sync>(
 // How many slots of all so many of the workers have.
 fn part(all: usize, low: u32, workers: u32) -> usize
     requires { (low < workers) × (workers ≤ MAX_WORKERS) × (all ≤ MAX_PROCESSES) }
-    ensures { result ≤ all }
+    ensures within { result ≤ all }
+    ensures share { (result * workers ≤ all * low) × (all * low < result * workers + workers) }
 {
     all * low as usize / workers as usize
 }
 
 // Whether one of the processes has started and not ended.
-fn has_live(slots: &[Slot]) -> bool {
+fn has_live(slots: &[Slot]) -> bool
+    ensures yes { result ≡ true → SomeRuns slots.now }
+    ensures no { result ≡ false → NoneRuns slots.now }
+{
     for slot in slots {
-        if slot.strand.is_some() && !slot.ended {
+        if is_live(slot) {
             return true;
         }
     }

@@ -1,5 +1,5 @@
 //! A process between two rounds.
-ghost use Rattle.fm_round.specs.Slots.{IsSlotOf, Runs, has_ended, live_clock};
+ghost use Rattle.fm_round.specs.Slots.{IsSlotOf, Runs, has_ended, is_running, live_clock};
 ghost use Rattle.std.specs.Prelude.{◌≡◌};
 
 use fm_buffer::Outbox;
@@ -28,6 +28,19 @@ pub fn clock(plan: &Plan, process: u32, slot: &Slot) -> Option<u64>
     match &slot.strand {
         Some(strand) => Some(strand.clock()),
         None => None,
+    }
+}
+
+/// Whether a process has started and not ended.
+pub fn is_live(slot: &Slot) -> bool
+    ensures { result ≡ is_running slot.now }
+{
+    if slot.ended {
+        return false;
+    }
+    match &slot.strand {
+        Some(_) => true,
+        None => false,
     }
 }
 
