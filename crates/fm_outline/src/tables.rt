@@ -1,6 +1,6 @@
 //! The tables that statements name.
 
-ghost use Rattle.std.specs.Prelude.{◌≡◌, ◌∷◌, ◌++◌, length, IfOk, OnOk};
+ghost use Rattle.std.specs.Prelude.{◌≡◌, [], ◌∷◌, ◌++◌, length, IfOk, OnOk};
 ghost use Rattle.fm_program.specs.Parts.{expr_nodes};
 ghost use Rattle.fm_expansion.specs.Numbering.{no_tables, expr_added, list_added, chord_added, warp_added};
 ghost use Rattle.fm_outline.specs.View.{tables_view};
@@ -36,7 +36,8 @@ pub(crate) fn place(entries: usize) -> Result<u32, AllocError>
 
 /// A copy of an expression without the places of its nodes in the text.
 fn nodes_alone(alloc: Global, expr: &Expr) -> Result<Expr, AllocError>
-    ensures { IfOk result (λ e. expr_nodes e ≡ expr_nodes expr.now) }
+    ensures nodes { IfOk result (λ e. expr_nodes e ≡ expr_nodes expr.now) }
+    ensures alone { IfOk result (λ e. e.spots.items ≡ []) }
 {
     let nodes = expr.nodes.clone()?;
     Ok(Expr {
