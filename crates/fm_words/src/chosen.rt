@@ -44,7 +44,8 @@ pub fn matches_in<'a>(alloc: Global, words: &'a [String]) -> Result<ArgMatches<'
 
 // What an error of the command means: every kind but want of memory is a refusal.
 fn fault_by(kind: ErrorKind) -> NameFault
-    ensures { kind ≡ ErrorKind.OutOfMemory → result ≡ NameFault.Memory }
+    ensures memory { kind ≡ ErrorKind.OutOfMemory → result ≡ NameFault.Memory }
+    ensures words { result ≡ NameFault.Memory → kind ≡ ErrorKind.OutOfMemory }
 {
     if kind == ErrorKind::OutOfMemory {
         NameFault::Memory

@@ -27,6 +27,6 @@ returns-in-Err-clause-err c =
     subst (λ (a : App). HasKind (fault_of a texts) c.in-Err.error) built
     (c.in-Err.ensures.kinds (subst (λ (a : App). is_simple_and_free a ≡ true) (sym built) simple_and_free)) in
     elim has [
-      | inl memory ↦ rw (c.fault_by.ensures (rw c.kind.ensures memory)) tt
+      | inl memory ↦ rw (c.fault_by.ensures.memory (rw c.kind.ensures memory)) tt
       | inr some ↦ among c.fault_by.result _ kinds some
     ]
