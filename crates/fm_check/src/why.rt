@@ -1,10 +1,10 @@
 //! Why a score is refused.
 
-ghost use Rattle.std.specs.Prelude.{◌≡◌};
+ghost use Rattle.std.specs.Prelude.{◌≡◌, Some};
 ghost use Rattle.fm_ranges.specs.Found.{range_number};
 ghost use Rattle.fm_places.specs.Found.{place_number};
 ghost use Rattle.fm_bounds.specs.Excess.{number_of};
-ghost use Rattle.fm_check.specs.Why.{why_number};
+ghost use Rattle.fm_check.specs.Why.{why_number, why_text};
 
 use fm_bounds::Excess;
 use fm_places::PlaceWhy;
@@ -66,6 +66,8 @@ impl Why {
 }
 
 impl fmt::Display for Why {
+    ghost output = { λ why. Some (why_text why) };
+
     fn fmt<W: fmt::Write>(&self, f: &mut fmt::Formatter<W>) -> fmt::Result {
         f.write_str(match self {
             Why::DoubleName => "a shape or phrase of this name was defined before",
