@@ -1,5 +1,5 @@
 -- What the code's values stand for while programs are made.
-use Rattle.std.specs.Prelude.{◌≡◌, ◌<◌, List, [], map, length, reverse, vec_items, slice_index_or}
+use Rattle.std.specs.Prelude.{◌≡◌, ◌<◌, List, [], map, length, reverse, slice_index_or}
 use Rattle.fm_program.specs.declared.op.Span.{Span}
 use Rattle.fm_program.specs.declared.op.Span.TheVariants as span
 use Rattle.fm_program.specs.declared.op.Turn.{Turn}
@@ -24,7 +24,7 @@ abbrev pub emitting_of : Emitter → Emitting
 emitting_of m = record {
   finished = map program_parts m.finished.items;
   current = program_parts m.current;
-  scopes = map vec_items m.scopes.items;
+  scopes = m.scopes;
 }
 
 -- an emitter came to these programs, and has the same open

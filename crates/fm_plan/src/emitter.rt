@@ -6,7 +6,7 @@ ghost use Rattle.fm_plan.specs.Made.{patched, next_begun};
 ghost use Rattle.fm_plan.specs.Seen.{emitting_of, Makes};
 
 use crate::inside::place;
-use fm_program::{Op, Program, Slot};
+use fm_program::{Op, Program, Scopes, Slot};
 use std::alloc::{AllocError, Global};
 use std::mem;
 
@@ -17,22 +17,19 @@ pub(crate) struct Emitter {
     pub(crate) alloc: Global,
     pub(crate) finished: Vec<Program>,
     pub(crate) current: Program,
-    pub(crate) scopes: Vec<Vec<Slot>>,
+    pub(crate) scopes: Scopes,
     pub(crate) cycles: Vec<u32>,
     pub(crate) levels: Vec<u32>,
 }
 
 impl Emitter {
     /// Before the first statement: one program, and the scope without loops.
-    pub(crate) fn new(alloc: Global) -> Result<Emitter, AllocError>
-        ensures programs { IfOk result (λ m. emitting_of m ≡ nothing_made) }
-        ensures cycles { IfOk result (λ m. m.cycles.items ≡ []) }
-        ensures levels { IfOk result (λ m. m.levels.items ≡ []) }
+    pub(crate) fn new(alloc: Global) -> Emitter
+        ensures programs { emitting_of result ≡ nothing_made }
+        ensures cycles { result.cycles.items ≡ [] }
+        ensures levels { result.levels.items ≡ [] }
     {
-        let outer: Vec<Slot> = Vec::new(alloc);
-        let mut scopes = Vec::new(alloc);
-        scopes.push(outer)?;
-        Ok(Emitter {
+        Emitter {
             alloc,
             finished: Vec::new(alloc),
             current: Program {
@@ -41,10 +38,10 @@ impl Emitter {
                 levels: Vec::new(alloc),
                 predecessors: Vec::new(alloc),
             },
-            scopes,
+            scopes: Scopes::new(alloc),
             cycles: Vec::new(alloc),
             levels: Vec::new(alloc),
-        })
+        }
     }
 
     /// An operation at the end of the program that grows.
@@ -85,20 +82,7 @@ impl Emitter {
             (with_scopes ((slot ∷ slice_index_or (emitting_of self.old).scopes parent []) ∷ [])
             (emitting_of self.old))) }
     {
-        let number = place(self.scopes.len())?;
-        let scope = scope_behind(self.alloc, slot, self.outer_scope(parent))?;
-        self.scopes.push(scope)?;
-        Ok(number)
-    }
-
-    /// A scope of the table, empty where there is none.
-    fn outer_scope(&self, scope: u32) -> &[Slot]
-        ensures { result.now ≡ slice_index_or (emitting_of self.now).scopes scope [] }
-    {
-        match self.scopes.get(scope as usize) {
-            Some(slots) => slots.as_slice(),
-            None => &[],
-        }
+        self.scopes.push(slot, parent)
     }
 
     /// The program that grows is whole, and one begins that waits for these.
@@ -117,22 +101,12 @@ impl Emitter {
             levels: copy(&self.levels)?,
             predecessors,
         };
-        let whole = mem::replace(&mut self.current, next);
+        let mut whole = mem::replace(&mut self.current, next);
+        // Programs may be many: none keeps room for operations that it does not have.
+        whole.ops.shrink_to_fit();
         self.finished.push(whole)?;
         Ok(())
     }
-}
-
-/// The slot of a loop before those of the loops round it.
-fn scope_behind(alloc: Global, slot: Slot, outer: &[Slot]) -> Result<Vec<Slot>, AllocError>
-    ensures { IfOk result (λ s. s.items ≡ slot ∷ outer.now) }
-{
-    let mut scope = Vec::new(alloc);
-    scope.push(slot)?;
-    for outer_slot in outer {
-        scope.push(*outer_slot)?;
-    }
-    Ok(scope)
 }
 
 fn copy(list: &Vec<u32>) -> Result<Vec<u32>, AllocError>

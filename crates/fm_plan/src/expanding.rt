@@ -16,14 +16,14 @@ use crate::emitter::Emitter;
 use crate::forks::{phrases_fork, steps_fork};
 use crate::inside::{Inside, place};
 use fm_outline::{Instruction, Outline, Quality, Step};
-use fm_program::{Count, Op, Program, Slot};
+use fm_program::{Count, Op, Program, Scopes, Slot};
 use std::alloc::{AllocError, Global};
 
 /// The programs of all processes, and the scopes of their operations.
 #[derive(Drop)]
 pub struct Expanded {
     pub programs: Vec<Program>,
-    pub scopes: Vec<Vec<Slot>>,
+    pub scopes: Scopes,
 }
 
 /// How often a loop goes round that is written out.
@@ -372,10 +372,10 @@ pub fn expand(alloc: Global, outline: &Outline) -> Result<Expanded, AllocError>
     ensures programs { IfOk result (λ x.
         map program_parts x.programs.items ≡ expansion.whole (expansion.expanded (outline_view outline.now).value)) }
     ensures scopes { IfOk result (λ x.
-        map vec_items x.scopes.items ≡ (expansion.expanded (outline_view outline.now).value).scopes) }
+        x.scopes ≡ (expansion.expanded (outline_view outline.now).value).scopes) }
 {
     let forks = phrases_fork(alloc, &outline.phrases)?;
-    let mut m = Emitter::new(alloc)?;
+    let mut m = Emitter::new(alloc);
     expand_steps(
         &mut m,
         &outline.phrases,

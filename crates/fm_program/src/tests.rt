@@ -1,5 +1,5 @@
 //! Plans that are made, read and copied.
-use crate::{Draw, Op, Plan, Program, Slot, Span, Stock, Turn};
+use crate::{Draw, Op, Plan, Program, Scopes, Span, Stock, Turn};
 use fm_msg::Profile;
 use fm_value::{Expr, Node, Spot2};
 use fm_warp::{Part, Warp};
@@ -23,12 +23,11 @@ const REST: Op = Op::Rest {
 fn a_plan_of_one_note_fits(rt: HostRuntime) -> Result<(), Fail> {
     let alloc = rt.alloc();
     let chord = vec![in alloc; Draw::Fixed { value: 60 }]?;
-    let no_loops: Vec<Slot> = Vec::new(alloc);
     let stock = Stock {
         exprs: Vec::new(alloc),
         lists: Vec::new(alloc),
         chords: vec![in alloc; chord]?,
-        scopes: vec![in alloc; no_loops]?,
+        scopes: Scopes::new(alloc),
         warps: Vec::new(alloc),
     };
     let program = Program {
@@ -55,12 +54,11 @@ fn a_plan_is_read_and_copied(rt: HostRuntime) -> Result<(), Fail> {
     };
     let list = vec![in alloc; 480, 240]?;
     let chord = vec![in alloc; Draw::Fixed { value: 60 }]?;
-    let no_loops: Vec<Slot> = Vec::new(alloc);
     let stock = Stock {
         exprs: vec![in alloc; expr]?,
         lists: vec![in alloc; list]?,
         chords: vec![in alloc; chord]?,
-        scopes: vec![in alloc; no_loops]?,
+        scopes: Scopes::new(alloc),
         warps: vec![in alloc; warp]?,
     };
     let first = Program {

@@ -5,7 +5,7 @@ ghost use Rattle.fm_msg.specs.declared.profile.TheConstants.{DIVISION};
 use crate::Rounds;
 use fm_edge::{MemorySink, OpenGate};
 use fm_msg::Profile;
-use fm_program::{Draw, Op, Plan, Program, Slot, Span, Stock, Turn};
+use fm_program::{Draw, Op, Plan, Program, Scopes, Span, Stock, Turn};
 use std::alloc::{AllocError, Global};
 use std::test::Fail;
 
@@ -42,12 +42,11 @@ fn plan_of_two_voices(alloc: Global) -> Result<Plan, AllocError>
 {
     let first = vec![in alloc; Draw::Fixed { value: 60 }]?;
     let second = vec![in alloc; Draw::Fixed { value: 64 }]?;
-    let no_loops: Vec<Slot> = Vec::new(alloc);
     let stock = Stock {
         exprs: Vec::new(alloc),
         lists: Vec::new(alloc),
         chords: vec![in alloc; first, second]?,
-        scopes: vec![in alloc; no_loops]?,
+        scopes: Scopes::new(alloc),
         warps: Vec::new(alloc),
     };
     let root = Program {

@@ -11,7 +11,7 @@ ghost use Rattle.fm_program.specs.Needs.{loops_back};
 ghost use Rattle.fm_program.specs.State.{OpenFrame, Standing, counting, cycle_entry, cycle_moved, cycling, duration_drawn, entry_drawn, expr_drawn, index_at, nearest_to as nearest, number_drawn, pitches_drawn, repeats_drawn, slot_index, turn_drawn};
 ghost use Rattle.fm_program.specs.Process.{cycles_opened};
 ghost use Rattle.fm_program.specs.Run.{round_over};
-ghost use Rattle.fm_program.specs.Fit.{count_fits, draw_fits, expr_fits, loops_of, scope_fits, slot_fits, span_fits, stock_fits};
+ghost use Rattle.fm_program.specs.Fit.{count_fits, draw_fits, expr_fits, loops_of, slot_fits, span_fits, stock_fits};
 ghost use Rattle.fm_strand.specs.Drawing.{FramesStand, IsFrame};
 
 use crate::frame::Frame;
@@ -77,7 +77,7 @@ impl Draws {
         ensures frames { self.new.frames ≡ self.old.frames }
         ensures within { IsWithin result }
     {
-        let indices = self.indices(stock, stock.scopes[scope as usize].as_slice());
+        let indices = self.indices(stock, scope);
         value(
             &stock.exprs[expr as usize],
             &self.registers,
@@ -86,18 +86,21 @@ impl Draws {
         )
     }
 
-    /// The indices that slots give, in turn.
-    fn indices(&self, stock: &Stock, slots: &[Slot]) -> ArrayVec<u32, MAX_LOOPS>
+    /// The indices of the slots of a scope, in turn.
+    fn indices(&self, stock: &Stock, scope: u32) -> ArrayVec<u32, MAX_LOOPS>
+        requires stock { stock_fits (stock_parts stock.now) ≡ true }
         requires frames { All (IsFrame (stock_parts stock.now)) self.now.frames.items }
-        requires slots { scope_fits slots.now ≡ true }
-        ensures count { length result.items ≡ length slots.now }
+        requires scope { scope < length (stock_parts stock.now).scopes }
+        ensures count { length result.items ≡ loops_of (stock_parts stock.now) scope }
         ensures within { All (λ i. i < MAX_INDEX) result.items }
         ensures indices { (s : Standing) → DrawsStand (stock_parts stock.now) self.now s
-            → result.items ≡ map (slot_index s.frames) slots.now }
+            → result.items ≡ map (slot_index s.frames) (scope_at (stock_parts stock.now) scope) }
     {
         let mut indices = ArrayVec::new();
-        for slot in slots {
-            indices.push(self.index(stock, *slot));
+        let mut rest = scope;
+        while let Some((slot, outer)) = stock.scopes.innermost(rest) {
+            indices.push(self.index(stock, slot));
+            rest = outer;
         }
         indices
     }

@@ -6,7 +6,7 @@ mod rests;
 
 use crate::{Outbox, Plan, Quantum, Stepped, Strand, first};
 use fm_msg::{Event, Msg, Profile};
-use fm_program::{Draw, Op, Program, Slot, Span, Stock, Turn};
+use fm_program::{Draw, Op, Program, Scopes, Span, Stock, Turn};
 use std::test::Fail;
 
 const NOTE: Op = Op::Note {
@@ -30,12 +30,11 @@ fn begun(plan: &Plan) -> Strand
 fn a_note_sounds_and_ends(rt: HostRuntime) -> Result<(), Fail> {
     let alloc = rt.alloc();
     let chord = vec![in alloc; Draw::Fixed { value: 60 }]?;
-    let no_loops: Vec<Slot> = Vec::new(alloc);
     let stock = Stock {
         exprs: Vec::new(alloc),
         lists: Vec::new(alloc),
         chords: vec![in alloc; chord]?,
-        scopes: vec![in alloc; no_loops]?,
+        scopes: Scopes::new(alloc),
         warps: Vec::new(alloc),
     };
     let program = Program {
