@@ -1,12 +1,14 @@
 -- Texts and their tokens, by computing.
 use Rattle.std.proofs.Common.{◌≡◌, ℕ, List, [], ◌∷◌, ◌++◌, Ok, Err, map, refl}
 use Rattle.std.specs.Prelude.{codes}
+use Rattle.std.specs.Fmt.{digits}
 use Rattle.fm_lex.specs.declared.kind.Kind.{Kind}
 use Rattle.fm_lex.specs.declared.kind.Kind.TheVariants.{Name, Number, Pitch, Register, Index, Symbol, End}
 use Rattle.fm_lex.specs.declared.kind.Kind.TheVariants as kinds
 use Rattle.fm_lex.specs.declared.keyword.Keyword.TheVariants.{Formula, Note, Key, Min}
 use Rattle.fm_lex.specs.declared.token.LexFault.{LexFault}
 use Rattle.fm_lex.specs.declared.token.LexFault.TheVariants.{BadByte, BadNumber}
+use Rattle.fm_lex.specs.Bytes.{spot_text}
 use Rattle.fm_lex.specs.Tokens.{Lexed, tokens, walk}
 
 data Seen : Type 0 where
@@ -87,3 +89,12 @@ ends_in_return = refl
 nothing : tokens_of [] ≡ seen End 1 1 ∷ []
 unfolding walk
 nothing = refl
+
+-- spots as they are written, the greatest of 32 bits among them
+spots_written :
+    map spot_text
+    (record { line = 1; column = 1 } ∷ record { line = 12; column = 305 }
+    ∷ record { line = 1000; column = 4294967295 } ∷ [])
+    ≡ codes "1:1" ∷ codes "12:305" ∷ codes "1000:4294967295" ∷ []
+unfolding digits
+spots_written = refl

@@ -1,6 +1,7 @@
 -- The classes of bytes in a text, and the spot at which each byte stands.
-use Rattle.std.specs.Prelude.{ℕ, ◌+◌, ◌-◌, ◌*◌, ◌^◌, Bool, false, ◌&&◌, ◌||◌, ◌==◌, if◌then◌else◌, nat_le, codes, List, [], ◌∷◌, length, drop}
+use Rattle.std.specs.Prelude.{ℕ, ◌+◌, ◌-◌, ◌*◌, ◌^◌, Bool, false, ◌&&◌, ◌||◌, ◌==◌, if◌then◌else◌, nat_le, codes, List, [], ◌∷◌, ◌++◌, length, drop}
 use Rattle.std.specs.List.{prefix_len}
+use Rattle.std.specs.Fmt as written
 use Rattle.fm_lex.specs.declared.spot.Spot.{Spot}
 
 -- 0 to 9
@@ -45,3 +46,7 @@ first_spot = record { line = 1; column = 1 }
 abbrev pub after_byte : ℕ → Spot → Spot
 after_byte x s =
     if x == 10 then record { line = s.line + 1; column = 1 } else record { line = s.line; column = s.column + 1 }
+
+-- how a spot is written: its line, a colon and its column
+abbrev pub spot_text : Spot → List ℕ
+spot_text s = written.decimal s.line ++ (codes ":" ++ written.decimal s.column)

@@ -1,7 +1,7 @@
 //! Where a byte stands in a text.
 
-ghost use Rattle.std.specs.Prelude.{◌≡◌, ◌+◌, ◌<◌, ◌^◌};
-ghost use Rattle.fm_lex.specs.Bytes.{after_byte};
+ghost use Rattle.std.specs.Prelude.{◌≡◌, ◌+◌, ◌<◌, ◌^◌, Some};
+ghost use Rattle.fm_lex.specs.Bytes.{after_byte, spot_text};
 
 use std::fmt;
 
@@ -35,7 +35,10 @@ impl Spot {
     }
 }
 
+/// The line and the column in decimal, with a colon between them.
 impl fmt::Display for Spot {
+    ghost output = { λ spot. Some (spot_text spot) };
+
     fn fmt<W: fmt::Write>(&self, f: &mut fmt::Formatter<W>) -> fmt::Result {
         write!(f, "{}:{}", self.line, self.column)
     }
