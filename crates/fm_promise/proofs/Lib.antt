@@ -21,3 +21,4 @@ mod Forms
 mod Promises
 mod Writable
 mod InTime
+mod Rows
