@@ -58,7 +58,8 @@ impl<'s> Tables<'s> {
         body: &[Item<'s>],
     ) -> Result<(), AllocError>
         ensures { OnOk result ((longest : ℕ) (known : Known) → Stands self.old longest known →
-            Stands self.new longest (with_phrase (name_view name.now) (items_view body.now) known)) }
+            Stands self.new longest
+            (with_phrase (name_view name.now) (items_view body.now) known)) }
     {
         let sums = weigh_items(self, body);
         self.phrases.define(name.text, sums)
