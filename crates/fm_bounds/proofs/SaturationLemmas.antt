@@ -1,5 +1,5 @@
 -- Sums, products and greatest numbers up to the ceiling: what is cut off before counts for nothing.
-use Rattle.std.proofs.Common.{◌≡◌, ℕ, zero, suc, ◌+◌, ◌*◌, ◌≤◌, max, refl, sym, ap, ◌∙◌, arith, ⊎_elim}
+use Rattle.std.proofs.Common.{◌≡◌, ℕ, zero, suc, ◌+◌, ◌*◌, ◌≤◌, max, refl, sym, ◌∙◌, arith, ⊎_elim}
 use Rattle.std.proofs.lemmas.Bool.{cases_lt}
 use Rattle.fm_bounds.specs.declared.sums.TheConstants.{CEILING}
 use Rattle.fm_bounds.specs.Saturation.{capped}

@@ -1,11 +1,11 @@
 -- Totals up to the ceiling, from those of parts.
-use Rattle.std.proofs.Common.{◌≡◌, ℕ, ◌+◌, ◌*◌, ◌<◌, ◌≤◌, max, Bool, true, false, refl, ap, ◌∙◌, arith}
+use Rattle.std.proofs.Common.{◌≡◌, ℕ, ◌<◌, ◌≤◌, Bool, true, false, refl, ap, ◌∙◌, arith}
 use Rattle.std.proofs.lemmas.Bool.{lt-leb, le-leb}
-use Rattle.std.specs.Prelude.{◌||◌, List}
+use Rattle.std.specs.Prelude.{List}
 use Rattle.fm_tick.specs.declared.tick.TheConstants.{MAX_TICK}
 use Rattle.fm_warp.specs.declared.part.Part.{Part}
 use Rattle.fm_warp.specs.Deformation.{at}
-use Rattle.fm_meaning.specs.Bounds.{Totals, totals, either, repeated, warped_length}
+use Rattle.fm_meaning.specs.Bounds.{Totals, totals, warped_length}
 use Rattle.fm_bounds.specs.declared.sums.Sums.{Sums}
 use Rattle.fm_bounds.specs.declared.sums.TheConstants.{CEILING}
 use Rattle.fm_bounds.specs.Saturation.{capped, saturated}
