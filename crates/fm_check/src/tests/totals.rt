@@ -1,4 +1,5 @@
-//! The totals of texts, and both sides of each of their limits. The numbers were worked out by hand.
+//! The totals of texts, and both sides of each of their limits. The numbers were worked out by
+//! hand.
 
 use super::{bounds, verdict};
 use crate::Bounds;
