@@ -1,9 +1,8 @@
 //! What a performance meets outside itself, as traits: a source of text (`Source`), a sink for
 //! the file (`Sink`), a console (`Console`) and a hook round each time slice (`Gate`), with forms
-//! in memory.
-//! `Failed` comes only where the object's count of faults rose in the call (`HasCause`, `Breaks`).
-//! `Puts` and `Breaks` say what a run of calls leaves of a sink, and chain from call to call.
-//! What a real file or terminal gives or holds is left out: the adapters tell no content.
+//! in memory. `Failed` comes only where the object's count of faults rose in the call (`HasCause`,
+//! `Breaks`). `Puts` and `Breaks` say what a run of calls leaves of a sink, and chain from call to
+//! call. What a real file or terminal gives or holds is left out: the adapters tell no content.
 #![tactic(auto)]
 
 mod console;
