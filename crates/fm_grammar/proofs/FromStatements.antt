@@ -2,7 +2,7 @@
 use Rattle.std.proofs.Common.{◌≡◌, ◌+◌, ◌≤◌, false, List, [], ◌∷◌, ◌++◌, Some, refl, arith}
 use Rattle.fm_lex.specs.Tokens.{Lexed}
 use Rattle.fm_lex.specs.declared.kind.Kind.{Kind}
-use Rattle.fm_lex.specs.declared.kind.Kind.TheVariants.{Name, Number, Pitch, Register, Index, End}
+use Rattle.fm_lex.specs.declared.kind.Kind.TheVariants.{Name, Number, Register, End}
 use Rattle.fm_lex.specs.declared.kind.Kind.TheVariants as kinds
 use Rattle.fm_lex.specs.declared.keyword.Keyword.TheVariants.{Formula, Seed, Shape, Phrase, Note, Play, Rest, Skip, Control, Set, If, Else, Repeat, Max, Do, Par, Branch, Warp, Rhythm}
 use Rattle.fm_grammar.specs.Score.{Leaf}
@@ -10,7 +10,7 @@ use Rattle.fm_grammar.specs.Grammar.{Sending, program, bend, Scoping, channel, v
 use Rattle.fm_grammar.specs.Signs.{semicolon, open_brace, close_brace, open_parenthesis, close_parenthesis, open_bracket, close_bracket, equals, tok, key, num}
 use Rattle.fm_grammar.specs.Spelling.{listed_text, num_text, length_text, part_text, expr_text, amount_text, duration_text, pitch_text, sending_word, scoping_word, cycling_word, stmts_text, block_text, else_text, branches_text, stmt_text, entries_text, seed_text, score_text}
 use Rattle.fm_grammar.specs.Within.{Limits, expr_size, StmtsWithin, BlockWithin, ElseWithin, BranchesWithin, StmtWithin, EntriesWithin}
-use Rattle.fm_grammar.specs.Rules.{Sym, one, inner, Item, Rule, any_number, any_register, any_index, any_pitch, kind_code, rules_of, may_end, inside}
+use Rattle.fm_grammar.specs.Rules.{Sym, one, Rule, any_number, any_register, kind_code, rules_of, inside}
 use Rattle.fm_grammar.specs.Table.{taking, opened}
 use Rattle.fm_grammar.specs.Rules as table
 use Rattle.fm_grammar.proofs.Fits.{Derives}

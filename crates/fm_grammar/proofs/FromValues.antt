@@ -2,16 +2,16 @@
 use Rattle.std.proofs.Common.{◌+◌, ◌≤◌, List, [], ◌∷◌, refl, arith}
 use Rattle.fm_lex.specs.Tokens.{Lexed}
 use Rattle.fm_lex.specs.declared.kind.Kind.{Kind}
-use Rattle.fm_lex.specs.declared.kind.Kind.TheVariants.{Name, Number, Pitch, Register, Index, End}
+use Rattle.fm_lex.specs.declared.kind.Kind.TheVariants.{Number, Pitch}
 use Rattle.fm_lex.specs.declared.kind.Kind.TheVariants as kinds
 use Rattle.fm_lex.specs.declared.keyword.Keyword.TheVariants.{Flat, By, Slope, To, Pause, Breath, Ticks, Max, Key}
 use Rattle.fm_grammar.specs.Score.{Leaf}
-use Rattle.fm_grammar.specs.Grammar.{NumForm, Mores, no_more, more, Listed, LengthForm, share, ticks, PartForm, flat, slope, pause, breath, Scaling, times, over, modulo, Adding, plus, minus, Comparing, least, greatest, below, equal, ExprForm, expr, FactorForm, register, index, negate, group, pick, compare, TermsForm, no_term, term, SumsForm, no_sum, sum, AmountForm, negative, DurationForm, fixed, PitchForm, named, keyed, Sending, program, bend, Scoping, channel, volume, gate, Cycling, artic, loud, StmtsForm, no_stmt, stmt, BlockForm, block, ElseForm, no_else, otherwise, BranchesForm, no_branch, branch, StmtForm, note, play, rest, skip, control, send, set, choice, repeat, again, call, warp, par, scope, rhythm, cycling, EntryForm, shape, phrase, plays, EntriesForm, no_entry, entry, SeedForm, no_seed, seed, ScoreForm}
+use Rattle.fm_grammar.specs.Grammar.{NumForm, Mores, no_more, more, Listed, LengthForm, share, ticks, PartForm, flat, slope, pause, breath, ExprForm, expr, AmountForm, negative, DurationForm, fixed, PitchForm, named, keyed}
 use Rattle.fm_grammar.specs.Grammar as forms
 use Rattle.fm_grammar.specs.Signs.{open_parenthesis, close_parenthesis, comma, slash, minus_sign, tok, key, num}
 use Rattle.fm_grammar.specs.Spelling.{mores_text, listed_text, num_text, length_text, part_text, expr_text, amount_text, duration_text, pitch_text}
 use Rattle.fm_grammar.specs.Within.{Limits, expr_size, AmountWithin, DurationWithin, PitchWithin, MoresWithin, ListedWithin}
-use Rattle.fm_grammar.specs.Rules.{Sym, one, inner, Item, any_number, any_register, any_index, any_pitch, kind_code, rules_of, may_end, inside}
+use Rattle.fm_grammar.specs.Rules.{Sym, one, Item, any_number}
 use Rattle.fm_grammar.specs.Table.{opened}
 use Rattle.fm_grammar.specs.Rules as table
 use Rattle.fm_grammar.proofs.Fits.{Derives}

@@ -8,7 +8,7 @@ use Rattle.fm_grammar.specs.Grammar.{BlockForm, block, StmtForm, repeat, again}
 use Rattle.fm_grammar.specs.Signs.{open_brace, close_brace, tok, key}
 use Rattle.fm_grammar.specs.Spelling.{stmts_text, block_text, else_text, branches_text, stmt_text}
 use Rattle.fm_grammar.specs.Within.{Limits, StmtsWithin, BlockWithin, ElseWithin, BranchesWithin, StmtWithin}
-use Rattle.fm_grammar.specs.Rules.{Sym, one, inner, Item, Rule, any_number, any_register, any_index, any_pitch, kind_code, rules_of, may_end, inside}
+use Rattle.fm_grammar.specs.Rules.{Sym, one, any_register, kind_code, rules_of}
 use Rattle.fm_grammar.specs.Table.{opened}
 use Rattle.fm_grammar.specs.Rules as table
 use Rattle.fm_grammar.proofs.Fits.{Fits, more_steps, fits_opens}

@@ -1,7 +1,7 @@
 -- What fits the symbol of a count is the tokens of one.
 use Rattle.std.proofs.Common.{◌≡◌, ℕ, zero, suc, ◌≤◌, inl, inr, List, [], ◌∷◌, ◌++◌, Ok, refl, ap, ◌∙◌}
 use Rattle.fm_lex.specs.Tokens.{Lexeme, Lexed}
-use Rattle.fm_lex.specs.declared.kind.Kind.TheVariants.{Name, Number, Pitch, Register, Index, End}
+use Rattle.fm_lex.specs.declared.kind.Kind.TheVariants.{Number}
 use Rattle.fm_lex.specs.declared.kind.Kind.TheVariants as kinds
 use Rattle.fm_lex.specs.declared.keyword.Keyword.TheVariants.{Max}
 use Rattle.fm_grammar.specs.Score.{Leaf}
@@ -9,7 +9,7 @@ use Rattle.fm_grammar.specs.Grammar.{NumForm, ExprForm}
 use Rattle.fm_grammar.specs.Signs.{open_parenthesis, close_parenthesis, tok, key, num}
 use Rattle.fm_grammar.specs.Spelling.{expr_text}
 use Rattle.fm_grammar.specs.Within.{Limits, expr_size}
-use Rattle.fm_grammar.specs.Rules.{Sym, one, inner, Item, any_number, any_register, any_index, any_pitch, kind_code, rules_of, may_end, inside}
+use Rattle.fm_grammar.specs.Rules.{Sym, one, any_number, kind_code, rules_of}
 use Rattle.fm_grammar.specs.Rules as table
 use Rattle.fm_grammar.proofs.Fits.{Fits, more_steps}
 use Rattle.fm_grammar.proofs.Alive.{In}

@@ -2,16 +2,16 @@
 use Rattle.std.proofs.Common.{◌≡◌, ℕ, zero, suc, ◌+◌, ◌≤◌, inl, inr, List, [], ◌∷◌, ◌++◌, Ok, refl, ap, ◌∙◌, subst, arith}
 use Rattle.fm_lex.specs.Tokens.{Lexeme, Lexed}
 use Rattle.fm_lex.specs.declared.kind.Kind.{Kind}
-use Rattle.fm_lex.specs.declared.kind.Kind.TheVariants.{Name, Number, Pitch, Register, Index, End}
+use Rattle.fm_lex.specs.declared.kind.Kind.TheVariants.{Number, Register, Index}
 use Rattle.fm_lex.specs.declared.kind.Kind.TheVariants as kinds
 use Rattle.fm_lex.specs.declared.keyword.Keyword.TheVariants.{Max, Pick, Min, Less, Same}
 use Rattle.fm_grammar.specs.Score.{Leaf}
-use Rattle.fm_grammar.specs.Grammar.{NumForm, Mores, no_more, more, Listed, LengthForm, share, ticks, PartForm, flat, slope, pause, breath, Scaling, times, over, modulo, Adding, plus, minus, Comparing, least, greatest, below, equal, ExprForm, expr, FactorForm, register, index, negate, group, pick, compare, TermsForm, no_term, term, SumsForm, no_sum, sum, AmountForm, negative, DurationForm, fixed, PitchForm, named, keyed, Sending, program, bend, Scoping, channel, volume, gate, Cycling, artic, loud, StmtsForm, no_stmt, stmt, BlockForm, block, ElseForm, no_else, otherwise, BranchesForm, no_branch, branch, StmtForm, note, play, rest, skip, control, send, set, choice, repeat, again, call, warp, par, scope, rhythm, cycling, EntryForm, shape, phrase, plays, EntriesForm, no_entry, entry, SeedForm, no_seed, seed, ScoreForm}
+use Rattle.fm_grammar.specs.Grammar.{Scaling, times, over, modulo, Adding, plus, minus, Comparing, least, greatest, below, equal, ExprForm, expr, FactorForm, register, index, negate, group, pick, compare, no_term, term, no_sum, sum, rest}
 use Rattle.fm_grammar.specs.Grammar as forms
 use Rattle.fm_grammar.specs.Signs.{open_parenthesis, close_parenthesis, comma, minus_sign, tok}
 use Rattle.fm_grammar.specs.Spelling.{scaling_kind, adding_kind, comparing_word, expr_text, factor_text, terms_text, sums_text}
 use Rattle.fm_grammar.specs.Within.{Limits, expr_size, factor_size, terms_size, sums_size}
-use Rattle.fm_grammar.specs.Rules.{Sym, one, inner, Item, any_number, any_register, any_index, any_pitch, kind_code, rules_of, may_end, inside}
+use Rattle.fm_grammar.specs.Rules.{Sym, inner, kind_code, rules_of}
 use Rattle.fm_grammar.specs.Rules as table
 use Rattle.fm_grammar.proofs.Fits.{Fits, more_steps, fits_counts}
 use Rattle.fm_grammar.proofs.Alive.{In}

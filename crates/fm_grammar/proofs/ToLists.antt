@@ -5,7 +5,7 @@ use Rattle.fm_grammar.specs.Grammar.{no_more, more}
 use Rattle.fm_grammar.specs.Signs.{comma}
 use Rattle.fm_grammar.specs.Spelling.{mores_text, listed_text, num_text, length_text, part_text, pitch_text}
 use Rattle.fm_grammar.specs.Within.{Limits, PitchWithin, MoresWithin, ListedWithin}
-use Rattle.fm_grammar.specs.Rules.{Sym, one, inner, Item, any_number, any_register, any_index, any_pitch, kind_code, rules_of, may_end, inside}
+use Rattle.fm_grammar.specs.Rules.{Sym, Item, kind_code, rules_of}
 use Rattle.fm_grammar.specs.Rules as table
 use Rattle.fm_grammar.proofs.Fits.{Fits}
 use Rattle.fm_grammar.proofs.Alive.{In}

@@ -1,14 +1,14 @@
 -- What fits the symbols of a whole text is the tokens of a score.
 use Rattle.std.proofs.Common.{◌≡◌, ℕ, zero, suc, ◌⊎◌, inl, inr, List, [], ◌∷◌, ◌++◌, Ok, refl, ap, ◌∙◌}
 use Rattle.fm_lex.specs.Tokens.{Lexeme, Lexed}
-use Rattle.fm_lex.specs.declared.kind.Kind.TheVariants.{Name, Number, Pitch, Register, Index, End}
+use Rattle.fm_lex.specs.declared.kind.Kind.TheVariants.{Name, End}
 use Rattle.fm_lex.specs.declared.kind.Kind.TheVariants as kinds
 use Rattle.fm_lex.specs.declared.keyword.Keyword.TheVariants.{Formula, Seed, Shape, Phrase}
 use Rattle.fm_grammar.specs.Grammar.{shape, phrase, plays, no_entry, entry, no_seed, seed, ScoreForm}
 use Rattle.fm_grammar.specs.Signs.{semicolon, equals, tok, key, num}
 use Rattle.fm_grammar.specs.Spelling.{listed_text, part_text, entry_text, entries_text, seed_text, score_text}
 use Rattle.fm_grammar.specs.Within.{Limits, EntryWithin, EntriesWithin}
-use Rattle.fm_grammar.specs.Rules.{Sym, one, inner, Item, Rule, any_number, any_register, any_index, any_pitch, kind_code, rules_of, may_end, inside}
+use Rattle.fm_grammar.specs.Rules.{Sym, one, Rule, any_number, kind_code, rules_of}
 use Rattle.fm_grammar.specs.Rules as table
 use Rattle.fm_grammar.proofs.Fits.{Fits, more_steps}
 use Rattle.fm_grammar.proofs.Alive.{In}

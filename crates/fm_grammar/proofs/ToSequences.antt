@@ -1,13 +1,12 @@
 -- What fits the symbols of sequences of statements is the tokens of one.
 use Rattle.std.proofs.Common.{ℕ, zero, suc, ◌⊎◌, inl, inr, List, [], ◌∷◌, refl, ap, ◌∙◌}
 use Rattle.fm_lex.specs.Tokens.{Lexed}
-use Rattle.fm_lex.specs.declared.kind.Kind.TheVariants.{Name, Number, Pitch, Register, Index, End}
 use Rattle.fm_lex.specs.declared.kind.Kind.TheVariants as kinds
 use Rattle.fm_lex.specs.declared.keyword.Keyword.TheVariants.{Else, Branch}
 use Rattle.fm_grammar.specs.Grammar.{no_stmt, stmt, no_else, otherwise, no_branch, branch}
 use Rattle.fm_grammar.specs.Spelling.{stmts_text, block_text, else_text, branches_text, stmt_text}
 use Rattle.fm_grammar.specs.Within.{Limits, StmtsWithin, ElseWithin, BranchesWithin}
-use Rattle.fm_grammar.specs.Rules.{Sym, one, inner, Item, Rule, any_number, any_register, any_index, any_pitch, kind_code, rules_of, may_end, inside}
+use Rattle.fm_grammar.specs.Rules.{Sym, kind_code, rules_of}
 use Rattle.fm_grammar.specs.Table.{opened}
 use Rattle.fm_grammar.specs.Rules as table
 use Rattle.fm_grammar.proofs.Fits.{Fits, more_steps}

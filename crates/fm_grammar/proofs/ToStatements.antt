@@ -1,14 +1,14 @@
 -- What fits the symbols of a statement is the tokens of one.
 use Rattle.std.proofs.Common.{◌≡◌, ℕ, ◌⊎◌, inl, inr, List, [], ◌∷◌, ◌++◌, Ok, ap, ◌∙◌}
 use Rattle.fm_lex.specs.Tokens.{Lexeme, Lexed}
-use Rattle.fm_lex.specs.declared.kind.Kind.TheVariants.{Name, Number, Pitch, Register, Index, End}
+use Rattle.fm_lex.specs.declared.kind.Kind.TheVariants.{Name, Register}
 use Rattle.fm_lex.specs.declared.kind.Kind.TheVariants as kinds
 use Rattle.fm_lex.specs.declared.keyword.Keyword.TheVariants.{Note, Play, Rest, Skip, Control, Program, Bend, Set, If, Repeat, Do, Par, Branch, Warp, Channel, Volume, Gate, Rhythm, Artic, Loud}
 use Rattle.fm_grammar.specs.Grammar.{program, bend, channel, volume, gate, artic, loud, note, play, rest, skip, control, send, set, choice, call, warp, par, scope, rhythm, cycling}
 use Rattle.fm_grammar.specs.Signs.{semicolon, open_brace, close_brace, open_bracket, close_bracket, equals, tok, key, num}
 use Rattle.fm_grammar.specs.Spelling.{listed_text, num_text, length_text, expr_text, amount_text, duration_text, pitch_text, block_text, branches_text}
 use Rattle.fm_grammar.specs.Within.{Limits}
-use Rattle.fm_grammar.specs.Rules.{Sym, one, inner, Item, Rule, any_number, any_register, any_index, any_pitch, kind_code, rules_of, may_end, inside}
+use Rattle.fm_grammar.specs.Rules.{Sym, one, Rule, any_number, any_register, kind_code}
 use Rattle.fm_grammar.specs.Table.{opened}
 use Rattle.fm_grammar.specs.Rules as table
 use Rattle.fm_grammar.proofs.Fits.{Fits, fits_opens}

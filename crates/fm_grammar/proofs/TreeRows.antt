@@ -11,7 +11,7 @@ use Rattle.fm_grammar.specs.declared.length.Length.TheVariants.{Share, Ticks}
 use Rattle.fm_grammar.specs.declared.part_text.PartText.TheVariants.{Flat, Slope, Pause, Breath}
 use Rattle.fm_grammar.specs.Score.{Leaf, Postfix, Score}
 use Rattle.fm_grammar.specs.Score as tree
-use Rattle.fm_grammar.specs.Grammar.{NumForm, Mores, no_more, more, Listed, share, ticks, flat, slope, pause, breath, times, over, modulo, plus, minus, least, greatest, below, equal, expr, register, index, negate, group, pick, compare, no_term, term, no_sum, sum, negative, fixed, named, keyed, program, bend, channel, volume, gate, artic, loud, no_stmt, stmt, block, no_else, otherwise, no_branch, branch, note, play, rest, skip, control, send, set, choice, repeat, again, call, warp, par, scope, rhythm, cycling, shape, phrase, plays, no_entry, entry, no_seed, seed, ScoreForm}
+use Rattle.fm_grammar.specs.Grammar.{NumForm, Mores, no_more, more, Listed, share, ticks, flat, slope, pause, breath, times, over, modulo, plus, minus, least, greatest, below, equal, expr, register, index, negate, pick, compare, no_term, term, no_sum, sum, negative, fixed, named, keyed, program, bend, channel, volume, gate, artic, loud, no_stmt, stmt, block, no_else, otherwise, no_branch, branch, note, play, rest, skip, control, send, set, choice, repeat, again, call, warp, par, scope, rhythm, cycling, shape, phrase, plays, no_entry, entry, no_seed, seed, ScoreForm}
 use Rattle.fm_grammar.specs.Grammar as forms
 use Rattle.fm_grammar.specs.Within.{limits}
 use Rattle.fm_grammar.specs.Reads.{Reads}

@@ -2,10 +2,10 @@
 use Rattle.std.proofs.Common.{◌≡◌, ℕ, ◌||◌, List, [], ◌∷◌, refl, sym, ap, ◌∙◌, arith, true, false, Bool}
 use Rattle.fm_lex.specs.Bytes.{one_of}
 use Rattle.fm_lex.specs.Tokens.{Lexed}
-use Rattle.fm_lex.specs.declared.kind.Kind.TheVariants.{Name, Number, Pitch, Register, Index, End}
+use Rattle.fm_lex.specs.declared.kind.Kind.TheVariants.{Register, Index}
 use Rattle.fm_lex.specs.declared.kind.Kind.TheVariants as kinds
 use Rattle.fm_lex.specs.declared.keyword.Keyword.TheVariants.{Pick}
-use Rattle.fm_grammar.specs.Grammar.{NumForm, Mores, no_more, more, Listed, LengthForm, share, ticks, PartForm, flat, slope, pause, breath, Scaling, times, over, modulo, Adding, plus, minus, Comparing, least, greatest, below, equal, ExprForm, expr, FactorForm, register, index, negate, group, pick, compare, TermsForm, no_term, term, SumsForm, no_sum, sum, AmountForm, negative, DurationForm, fixed, PitchForm, named, keyed, Sending, program, bend, Scoping, channel, volume, gate, Cycling, artic, loud, StmtsForm, no_stmt, stmt, BlockForm, block, ElseForm, no_else, otherwise, BranchesForm, no_branch, branch, StmtForm, note, play, rest, skip, control, send, set, choice, repeat, again, call, warp, par, scope, rhythm, cycling, EntryForm, shape, phrase, plays, EntriesForm, no_entry, entry, SeedForm, no_seed, seed, ScoreForm}
+use Rattle.fm_grammar.specs.Grammar.{Scaling, times, over, modulo, Adding, plus, minus, Comparing, least, greatest, below, equal, ExprForm, expr, FactorForm, register, index, negate, group, pick, compare, TermsForm, no_term, term, SumsForm, no_sum, sum}
 use Rattle.fm_grammar.specs.Grammar as forms
 use Rattle.fm_grammar.specs.Signs.{open_parenthesis, close_parenthesis, comma, slash, plus_sign, minus_sign, asterisk, percent, tok}
 use Rattle.fm_grammar.specs.Spelling.{scaling_kind, adding_kind, comparing_word, expr_text, factor_text, terms_text, sums_text}

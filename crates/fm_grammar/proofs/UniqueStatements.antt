@@ -1,7 +1,7 @@
 -- Each statement is the only one of its tokens.
 use Rattle.std.proofs.Common.{◌≡◌, List, ◌∷◌, refl, sym, arith}
 use Rattle.fm_lex.specs.Tokens.{Lexed}
-use Rattle.fm_lex.specs.declared.kind.Kind.TheVariants.{Name, Number, Pitch, Register, Index, End}
+use Rattle.fm_lex.specs.declared.kind.Kind.TheVariants.{Name, Register}
 use Rattle.fm_lex.specs.declared.kind.Kind.TheVariants as kinds
 use Rattle.fm_lex.specs.declared.keyword.Keyword.TheVariants.{Note, Play, Rest, Skip, Control, Set, If, Else, Repeat, Do, Par, Branch, Warp, Rhythm}
 use Rattle.fm_grammar.specs.Grammar.{StmtsForm, no_stmt, stmt, BlockForm, block, ElseForm, no_else, otherwise, BranchesForm, no_branch, branch, StmtForm, note, play, rest, skip, control, send, set, choice, repeat, again, call, warp, par, scope, rhythm, cycling}
