@@ -113,7 +113,8 @@ There ps = list_all (λ p. node_there p.node) ps ≡ true
 -- those of nodes, and of nodes behind them
 there_both : (xs ys : List PlacedNode) → There xs → There ys → There (xs ++ ys)
 there_both xs ys first second =
-    list_all-append (λ p. node_there p.node) xs ys ∙ and_from (list_all (λ p. node_there p.node) xs) (list_all (λ p. node_there p.node) ys) first second
+    list_all-append (λ p. node_there p.node) xs ys
+    ∙ and_from (list_all (λ p. node_there p.node) xs) (list_all (λ p. node_there p.node) ys) first second
 
 -- the same without the spots
 there_bare : (ps : List PlacedNode) → There ps → list_all node_there (map (λ p. p.node) ps) ≡ true
