@@ -8,7 +8,7 @@ use Rattle.fm_grammar.specs.declared.number.Number.{Number}
 use Rattle.fm_grammar.specs.declared.part_text.PartText.{PartText}
 use Rattle.fm_grammar.specs.declared.part_text.PartText.TheVariants.{Flat, Slope, Pause, Breath}
 use Rattle.fm_grammar.specs.Score as text
-use Rattle.fm_grammar.specs.Score.{Duration, fixed, Amount, literal, named, keyed, note, play, rest, skip, control, program, bend, set, choice, repeat, again, call, par, warp, channel, volume, gate, rhythm, artic, loud, none, branch, shape, phrase}
+use Rattle.fm_grammar.specs.Score.{Duration, fixed, Amount, literal, named, keyed, note, play, rest, control, program, bend, set, choice, repeat, again, call, par, warp, channel, volume, gate, rhythm, artic, loud, none, branch, shape, phrase}
 use Rattle.fm_meaning.specs.Fault.{NumberedFault}
 use Rattle.fm_meaning.specs.Ranges.{second_walk}
 use Rattle.fm_meaning.proofs.Notation.{column, number_at, word_at, expr_at, put, within, stmt_at, version_at, fault_at, verdict, fault, verdict_on}
