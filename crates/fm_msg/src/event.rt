@@ -20,9 +20,11 @@ pub struct Event {
 impl Model for Event {
     ghost Value = { TimedMessage };
 
-    ghost view = { λ e. record { time = e.time; process = e.process; index = e.index; msg = e.msg } };
+    ghost view = { λ e.
+        record { time = e.time; process = e.process; index = e.index; msg = e.msg } };
 
-    ghost inverse = { λ v. record { time = v.time; process = v.process; index = v.index; msg = v.msg } };
+    ghost inverse = { λ v.
+        record { time = v.time; process = v.process; index = v.index; msg = v.msg } };
 
     ghost invariant = { λ e. IsTrue (is_in_range e.msg) };
 }
