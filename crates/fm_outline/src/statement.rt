@@ -30,8 +30,10 @@ fn outline_note(
 ) -> Result<Instruction, AllocError>
     requires pitches { pitches_faults (map pitch_view pitches.now) ≡ [] }
     requires duration { duration_faults 1920 (duration_view duration.now) ≡ [] }
-    ensures { IfOk result (λ i. (look : Look) → numbered (instruction_view look i) (tables_view tables.new)
-        ≡ note_numbered (map pitch_view pitches.now) (span_numbered 1920 (duration_view duration.now)) (tables_view tables.old)) }
+    ensures { IfOk result (λ i. (look : Look) →
+        numbered (instruction_view look i) (tables_view tables.new)
+        ≡ note_numbered (map pitch_view pitches.now)
+        (span_numbered 1920 (duration_view duration.now)) (tables_view tables.old)) }
 {
     let keys = outline_keys(alloc, pitches, tables)?;
     let lasting = outline_duration(alloc, duration, tables)?;
@@ -46,7 +48,8 @@ fn outline_play(
     tables: &mut Tables,
 ) -> Result<Instruction, AllocError>
     requires { pitches_faults (map pitch_view pitches.now) ≡ [] }
-    ensures { IfOk result (λ i. (look : Look) → numbered (instruction_view look i) (tables_view tables.new)
+    ensures { IfOk result (λ i. (look : Look) →
+        numbered (instruction_view look i) (tables_view tables.new)
         ≡ note_numbered (map pitch_view pitches.now) (numbered beat) (tables_view tables.old)) }
 {
     let keys = outline_keys(alloc, pitches, tables)?;

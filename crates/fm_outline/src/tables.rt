@@ -62,7 +62,8 @@ impl Tables {
     /// Appends a copy of an expression and gives its place.
     pub(crate) fn add_expr(&mut self, alloc: Global, expr: &Expr) -> Result<u32, AllocError>
         ensures at { IfOk result (λ p. p ≡ length (tables_view self.old).exprs) }
-        ensures added { OnOk result (tables_view self.new ≡ expr_added (expr_nodes expr.now) (tables_view self.old)) }
+        ensures added { OnOk result
+            (tables_view self.new ≡ expr_added (expr_nodes expr.now) (tables_view self.old)) }
     {
         let place = place(self.exprs.len())?;
         self.exprs.push(nodes_alone(alloc, expr)?)?;
@@ -72,7 +73,8 @@ impl Tables {
     /// Appends a list and gives its place.
     pub(crate) fn add_list(&mut self, list: Vec<u32>) -> Result<u32, AllocError>
         ensures at { IfOk result (λ p. p ≡ length (tables_view self.old).lists) }
-        ensures added { OnOk result (tables_view self.new ≡ list_added list.items (tables_view self.old)) }
+        ensures added { OnOk result
+            (tables_view self.new ≡ list_added list.items (tables_view self.old)) }
     {
         let place = place(self.lists.len())?;
         self.lists.push(list)?;
@@ -82,7 +84,8 @@ impl Tables {
     /// Appends a chord and gives its place.
     pub(crate) fn add_chord(&mut self, chord: Vec<Draw>) -> Result<u32, AllocError>
         ensures at { IfOk result (λ p. p ≡ length (tables_view self.old).chords) }
-        ensures added { OnOk result (tables_view self.new ≡ chord_added chord.items (tables_view self.old)) }
+        ensures added { OnOk result
+            (tables_view self.new ≡ chord_added chord.items (tables_view self.old)) }
     {
         let place = place(self.chords.len())?;
         self.chords.push(chord)?;
@@ -92,7 +95,8 @@ impl Tables {
     /// Appends a deformation and gives its place.
     pub(crate) fn add_warp(&mut self, warp: Warp) -> Result<u32, AllocError>
         ensures at { IfOk result (λ p. p ≡ length (tables_view self.old).warps) }
-        ensures added { OnOk result (tables_view self.new ≡ warp_added warp (tables_view self.old)) }
+        ensures added { OnOk result
+            (tables_view self.new ≡ warp_added warp (tables_view self.old)) }
     {
         let place = place(self.warps.len())?;
         self.warps.push(warp)?;

@@ -78,7 +78,8 @@ impl<'s> Walk<'s> {
     ) -> Result<(), AllocError>
         requires { each_faults (part_faults 1920) (λ p. length_spot (part_length p)) MAX_PARTS parts.now ≡ [] }
         ensures { OnOk result ((score : tree.Score) (rest : List tree.Entry) →
-            Walked score self.old (tree.shape (name_view name.now) parts.now ∷ rest) → Walked score self.new rest) }
+            Walked score self.old (tree.shape (name_view name.now) parts.now ∷ rest) →
+            Walked score self.new rest) }
     {
         let number = self.tables.add_warp(warp_of(alloc, parts)?)?;
         self.known.shapes.define(name.text, number)
