@@ -5,7 +5,7 @@ use Rattle.std.specs.declared.alloc.Global.{Global}
 use Rattle.std.proofs.lemmas.List.{map-append}
 use Rattle.fm_lex.specs.Tokens.{Lexed}
 use Rattle.fm_grammar.specs.declared.item.Item.{Item}
-use Rattle.fm_grammar.specs.Score.{Leaf, Stmt, Body, done, then, Branches, none}
+use Rattle.fm_grammar.specs.Score.{Leaf, Body, done, then, Branches, none}
 use Rattle.fm_grammar.specs.Score as tree
 use Rattle.fm_grammar.specs.View.{PlacedStmt, body_of, branches_of, item_view, items_view}
 use Rattle.fm_grammar.specs.Grammar.{StmtsForm, no_stmt, stmt, StmtForm, BlockForm, BranchesForm, no_branch, branch}

@@ -13,7 +13,7 @@ use Rattle.fm_grammar.specs.declared.duration.Duration as code_duration
 use Rattle.fm_grammar.specs.declared.item.Item.{Item, the_lemmas}
 use Rattle.fm_grammar.specs.declared.item.What.{What}
 use Rattle.fm_grammar.specs.declared.item.What.TheVariants as code
-use Rattle.fm_grammar.specs.Score.{Stmt, Body, Branches, Postfix, Leaf}
+use Rattle.fm_grammar.specs.Score.{Body, Branches, Postfix, Leaf}
 use Rattle.fm_grammar.specs.Score as tree
 use Rattle.fm_grammar.specs.View.{PlacedStmt, pitch_view, duration_view, amount_view, expr_view, name_view, item_view, items_view}
 use Rattle.fm_parse.specs.Statements.{bodies_view, placed}

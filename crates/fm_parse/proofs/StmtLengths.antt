@@ -2,7 +2,7 @@
 use Rattle.std.proofs.Common.{◌<◌, ◌≤◌, List, ◌∷◌, length, arith}
 use Rattle.fm_lex.specs.declared.keyword.Keyword.TheVariants.{Max}
 use Rattle.fm_lex.specs.Tokens.{Lexed}
-use Rattle.fm_grammar.specs.Grammar.{Mores, no_more, more, Listed, LengthForm, DurationForm, fixed, StmtsForm, no_stmt, stmt, BlockForm, block, ElseForm, no_else, otherwise, BranchesForm, no_branch, branch, StmtForm, note, play, rest, skip, control, send, set, choice, repeat, again, call, warp, par, scope, rhythm, cycling}
+use Rattle.fm_grammar.specs.Grammar.{Mores, no_more, more, Listed, DurationForm, fixed, StmtsForm, no_stmt, stmt, BlockForm, block, ElseForm, no_else, otherwise, BranchesForm, no_branch, branch, StmtForm, note, play, rest, skip, control, send, set, choice, repeat, again, call, warp, par, scope, rhythm, cycling}
 use Rattle.fm_grammar.specs.Grammar as forms
 use Rattle.fm_grammar.specs.Signs.{semicolon, close_brace, close_bracket, close_parenthesis, tok, key, num}
 use Rattle.fm_grammar.specs.Spelling.{mores_text, listed_text, num_text, length_text, duration_text, pitch_text, stmts_text, block_text, else_text, branches_text, stmt_text}

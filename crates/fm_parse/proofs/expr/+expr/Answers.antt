@@ -1,7 +1,6 @@
 -- Each function of an expression follows the table, and grows the draft by the nodes of its form.
 use Rattle.std.proofs.Common.{◌≡◌, ◌+◌, Err, refl, ap, ◌∙◌, arith}
 use Rattle.std.proofs.lemmas.Grind.{common_steps}
-use Rattle.fm_lex.specs.declared.kind.Kind.TheVariants.{Symbol}
 use Rattle.fm_lex.specs.declared.kind.Kind.TheVariants as kinds
 use Rattle.fm_grammar.specs.Signs.{close_parenthesis}
 use Rattle.fm_grammar.specs.Grammar.{negate, group, pick, compare, no_term, term, no_sum, sum, expr}
