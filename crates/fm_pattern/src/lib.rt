@@ -1,8 +1,8 @@
 //! Repeated lists of durations, articulations and dynamics, and where a note ends.
 //!
 //! [`Rhythm`], [`Artic`] and [`Loud`] are cursors that go round a list, and [`Cursor`] is one for
-//! a list of either kind: the k-th `next` is the entry at k modulo the list's length. [`end_of`] is where a note ends. Which list is in force
-//! at a statement is left out.
+//! a list of either kind: the k-th `next` is the entry at k modulo the list's length. [`end_of`] is
+//! where a note ends. Which list is in force at a statement is left out.
 #![tactic(auto)]
 
 mod artic;
