@@ -8,7 +8,7 @@ use Rattle.fm_program.specs.declared.op.Slot.TheVariants as slot
 use Rattle.fm_meaning.specs.Rules.{usual_gate, usual_velocity}
 use Rattle.fm_meaning.specs.Resolved as meaning
 use Rattle.fm_expansion.specs.Homes as homes
-use Rattle.fm_expansion.specs.Homes.{loop_frame, loop_round, list_frame, list_of_one, frames_of, slots_of, cycles_of, span_for, turn_for}
+use Rattle.fm_expansion.specs.Homes.{loop_frame, loop_round, list_frame, list_of_one, frames_of, slots_of, span_for, turn_for}
 use Rattle.fm_expansion.specs.Homes.{at_home, in_scope, in_warp}
 use Rattle.fm_expansion.specs.Expansion.{Emitting, with_scopes, nothing_made, outermost}
 use Rattle.fm_expansion.proofs.Programs.{at_first, at_seam, reverse_cons}

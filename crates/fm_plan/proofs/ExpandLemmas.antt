@@ -15,7 +15,7 @@ use Rattle.fm_program.specs.Parts.{ProgramParts}
 use Rattle.fm_meaning.specs.Rules.{usual_gate, usual_velocity}
 use Rattle.fm_expansion.specs.Outline.{Instruction, choice, loop, warp, under, Block, done, item, Arms, arm}
 use Rattle.fm_expansion.specs.Homes as homes
-use Rattle.fm_expansion.specs.Homes.{Inside as Open, loop_frame, loop_round, frames_of, slots_of, cycles_of, in_scope}
+use Rattle.fm_expansion.specs.Homes.{Inside as Open, loop_frame, loop_round, frames_of, slots_of, in_scope}
 use Rattle.fm_expansion.specs.Emission.{forks_in, size_in, emit_in}
 use Rattle.fm_expansion.specs.Expansion.{Emitting, with_ops, with_scopes, straight, begun, whole, Joined, unrolled, written_rounds}
 use Rattle.fm_expansion.specs.Expansion.{expand_in, expand_arms, nothing_made, outermost, expanded}
