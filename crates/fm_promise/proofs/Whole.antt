@@ -263,7 +263,10 @@ whole_valid b births ms end w few soon many = record {
       let e = numbers p first_pen ms (at_first p) (omega arith) w.numbered k (process_end p ms) inside in
       (e.process, omega (arith, e.index)))
       (λ k inside. absurd (omega (arith, inside)));
-  ends = λ p. (omega (arith, whole_ends b births ms end w p, soon), omega (arith, whole_ends b births ms end w p, w.ends_last, last_line b births ms end w));
+  ends = λ p. (
+    omega (arith, whole_ends b births ms end w p, soon),
+    omega (arith, whole_ends b births ms end w p, w.ends_last, last_line b births ms end w),
+  );
   events = omega (arith, whole_total b births ms end w, many);
 }
   where
