@@ -233,7 +233,9 @@ module _ {K : Type 0} (content : K → Option (List ℕ)) (sure : K → Option �
               first writer after between.writes wrote;
           at_end = still_at_end (content now) (content then) (events_bytes writer.last (sorted (joined (map (due (Some (c, m))) ss))))
               writer.put after.put between.at_end wrote.puts.whole wrote.put;
-          count = let taken : length released_slots ≡ length ss = simp length-map at (ap length took) in omega (arith, again, long, taken, between.count);
+          count =
+              let taken : length released_slots ≡ length ss = simp length-map at (ap length took) in
+              omega (arith, again, long, taken, between.count);
           slots = starts.slots;
           started = starts.started;
           rooms = subst (All (λ r. 0 < r)) (sym rooms_kept) between.rooms;
@@ -282,7 +284,8 @@ module _ {K : Type 0} (content : K → Option (List ℕ)) (sure : K → Option �
   release_breaks key before then breaks =
       let after = released p key (plan_lines p) ss between.done same_count between.playing before in
       let more = sorted (joined (map (due key) ss)) in
-      let part = writes_breaks content sure faults start now then between.done (sorted (joined (map (due key) ss))) first writer between.writes breaks in
+      let part = writes_breaks content sure faults start now then between.done (sorted (joined (map (due key) ss))) first writer
+      between.writes breaks in
       let whole = breaks_more content sure faults start then (events_bytes first.last (between.done ++ sorted (joined (map (due key) ss))))
       (events_bytes (last_time first.last (between.done ++ sorted (joined (map (due key) ss))))
       (sorted (joined (lefts p (plan_lines p) (map (without_due key) ss))))) part in

@@ -19,7 +19,8 @@ fresh_more n room ss s before new = record {
         let long = length-append ss (s ∷ []) in
         subst (IsFresh room) (sym (slot-right ss (s ∷ []) k 0 (omega arith))) new
 
-sum_fresh : (room : ℕ) (ss : List Slot) → ((k : ℕ) → k < length ss → IsFresh room (slot ss k)) → room_sum (map room_of ss) ≡ room * length ss
+sum_fresh : (room : ℕ) (ss : List Slot) → ((k : ℕ) → k < length ss → IsFresh room (slot ss k))
+    → room_sum (map room_of ss) ≡ room * length ss
 sum_fresh room [] fresh = omega arith
 sum_fresh room (s ∷ ss) fresh =
     let here = (fresh 0 (omega arith)).room in

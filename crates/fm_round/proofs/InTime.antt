@@ -78,9 +78,11 @@ pub record CanWrite (events : List TimedMessage) (tick : ℕ) : Type 0 where
 pub can_write : (ls : List Line) → ValidLines ls → CanWrite (piece ls) (piece_end ls)
 can_write ls valid =
     let whole = is_piece ls valid in
-    let falls : NeverFalls 0 (piece ls) = rises_falls 0 (piece ls) whole.rises (in_each (λ y. 0 ≤ y.time) (piece ls) (λ y i. omega arith)) in
+    let falls : NeverFalls 0 (piece ls) =
+    rises_falls 0 (piece ls) whole.rises (in_each (λ y. 0 ≤ y.time) (piece ls) (λ y i. omega arith)) in
     let last : last_time 0 (piece ls) ≤ piece_end ls =
-    last_to 0 (piece_end ls) (piece ls) (omega arith) (in_each (λ y. y.time ≤ piece_end ls) (piece ls) (λ x i. in_time x (whole.only x i))) in
+    last_to 0 (piece_end ls) (piece ls) (omega arith)
+    (in_each (λ y. y.time ≤ piece_end ls) (piece ls) (λ x i. in_time x (whole.only x i))) in
     let end : piece_end ls ≤ MAX_TIME = let to = (valid.ends (length ls - 1)).0 in omega (arith, to) in
     record {
       falls = falls;
@@ -138,7 +140,8 @@ pub record FollowsAt (w : Written) (events : List TimedMessage) (k : ℕ) (e : T
   pub parts : (take k events ++ e ∷ []) ++ drop (k + 1) events ≡ events
   pub later : last_time w.last (take k events) ≤ e.time
   pub in_time : e.time ≤ MAX_TIME
-  pub fits : w.put + length (events_bytes w.last (take k events)) + length (event_bytes (last_time w.last (take k events)) e) ≤ BEFORE_TRACK + MAX_TRACK
+  pub fits : w.put + length (events_bytes w.last (take k events)) + length (event_bytes (last_time w.last (take k events)) e)
+      ≤ BEFORE_TRACK + MAX_TRACK
 
 pub follows_at : (w : Written) (events : List TimedMessage) (k : ℕ) (e : TimedMessage) → CanFollow w events → k < length events
     → e ≡ get_or events k e → FollowsAt w events k e
@@ -146,7 +149,8 @@ follows_at w events k e can within is =
     let parts = parts_at events k e within is in
     let front = take k events in
     let back = drop (k + 1) events in
-    let split : take k events ++ (e ∷ drop (k + 1) events) ≡ events = sym (append_assoc (take k events) (e ∷ []) (drop (k + 1) events)) ∙ parts in
+    let split : take k events ++ (e ∷ drop (k + 1) events) ≡ events =
+    sym (append_assoc (take k events) (e ∷ []) (drop (k + 1) events)) ∙ parts in
     let behind : NeverFalls (last_time w.last (take k events)) (e ∷ drop (k + 1) events) =
     falls_right w.last (take k events) (e ∷ drop (k + 1) events) (subst (NeverFalls w.last) (sym split) can.later) in
     record {

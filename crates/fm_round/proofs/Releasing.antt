@@ -148,7 +148,8 @@ module _ (p : PlanParts) (ss : List Slot) (valid : ValidLines (plan_lines p)) (c
       let s = slot ss j in
       let events = (line (plan_lines p) j).events in
       let all : IsOwn j (left p (line (plan_lines p) j).events (slot ss j)) =
-      subst (λ (n : ℕ). IsOwn n (left p (line (plan_lines p) j).events (slot ss j))) zero_add (own_at p 0 (plan_lines p) ss j own (omega arith) there) in
+      subst (λ (n : ℕ). IsOwn n (left p (line (plan_lines p) j).events (slot ss j))) zero_add
+      (own_at p 0 (plan_lines p) ss j own (omega arith) there) in
       let front = own_front j (slot ss j).outbox.events (yet p (line (plan_lines p) j).events (slot ss j).strand) all in
       let back = own_back j (slot ss j).outbox.events (yet p (line (plan_lines p) j).events (slot ss j).strand) all in
       ⊎_elim

@@ -39,7 +39,8 @@ module _ {K : Type 0} (content : K → Option (List ℕ)) (sure : K → Option �
       broken_beginning content sure faults begin a events end
       (subst (Breaks content sure faults begin a) (start_is division usual) breaks)
 
-  module _ (w : Written) (is : w ≡ record { last = 0; put = START_LENGTH }) (puts : Puts content sure faults begin a (start_of division)) where
+  module _ (w : Written) (is : w ≡ record { last = 0; put = START_LENGTH })
+      (puts : Puts content sure faults begin a (start_of division)) where
     -- a file is begun
     pub begun : IsWritten content sure faults begin a [] w
     begun =

@@ -40,7 +40,8 @@ played_of p = record {
 
 module _ {K : Type 0} (content : K → Option (List ℕ)) (sure : K → Option ℕ) (faults : K → ℕ) where
   -- between two rounds: so many events of the piece are written since the sink was as in `begin`, and the rest is left
-  pub record Between (p : PlanParts) (begin now : K) (first writer : Written) (ss : List Slot) (gather : EventGather) (events : ℕ) : Type 0 where
+  pub record Between (p : PlanParts) (begin now : K) (first writer : Written) (ss : List Slot) (gather : EventGather)
+      (events : ℕ) : Type 0 where
     pub done : List TimedMessage
     pub many : events ≡ length done
     pub playing : Playing (plan_lines p) done (lefts p (plan_lines p) ss)

@@ -17,20 +17,24 @@ bounds-slots-before-in-loop-before c =
 -- this predecessor has not ended
 pub returns-then-not-slots-before-clause-no : goal.returns-then-not-slots-before-clause-no
 returns-then-not-slots-before-clause-no c =
-    let there = predecessor_there c.args.plan.now c.args.slots.now c.predecessors-before-items.result.now c.args.process c.loop-before.before-index
+    let there = predecessor_there c.args.plan.now c.args.slots.now c.predecessors-before-items.result.now c.args.process
+    c.loop-before.before-index
     c.requires.fits c.requires.count c.requires.process c.predecessors-before-items.ensures c.loop-before-test.true in
     λ _ _. record {
       at = c.loop-before.before-index;
       there = rw (← c.predecessors-before-items.ensures) c.loop-before-test.true;
-      live = ended_at c.args.plan.now c.args.slots.now c.predecessors-before-items.result.now c.args.process c.loop-before.before-index _ false
+      live = ended_at c.args.plan.now c.args.slots.now c.predecessors-before-items.result.now c.args.process
+          c.loop-before.before-index _ false
           there c.predecessors-before-items.ensures c.if-not-slots-before.true;
     }
 
 pub loop-before-preserved : goal.loop-before-preserved
 loop-before-preserved c =
-    let there = predecessor_there c.args.plan.now c.args.slots.now c.predecessors-before-items.result.now c.args.process c.loop-before.before-index
+    let there = predecessor_there c.args.plan.now c.args.slots.now c.predecessors-before-items.result.now c.args.process
+    c.loop-before.before-index
     c.requires.fits c.requires.count c.requires.process c.predecessors-before-items.ensures c.loop-before-test.true in
-    let here = ended_at c.args.plan.now c.args.slots.now c.predecessors-before-items.result.now c.args.process c.loop-before.before-index _ true
+    let here = ended_at c.args.plan.now c.args.slots.now c.predecessors-before-items.result.now c.args.process
+    c.loop-before.before-index _ true
     there c.predecessors-before-items.ensures c.if-not-slots-before.false in
     λ i below. by_place c i below here (cases_eq i c.loop-before.before-index)
   where

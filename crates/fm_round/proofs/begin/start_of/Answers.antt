@@ -18,19 +18,23 @@ bounds-slots-before c =
 pub end_of-end-requires-clause-slot : goal.end_of-end-requires-clause-slot
 end_of-end-requires-clause-slot c =
     let q = get_or c.predecessors-before-items.result.now c.loop-before.before-index 0 in
-    let there = predecessor_there c.args.plan.now c.args.slots.now c.predecessors-before-items.result.now c.args.process c.loop-before.before-index
+    let there = predecessor_there c.args.plan.now c.args.slots.now c.predecessors-before-items.result.now c.args.process
+    c.loop-before.before-index
     c.requires.fits c.requires.count c.requires.process c.predecessors-before-items.ensures c.loop-before-test.true in
     let at = c.index-slots-before.is
-    ∙ any_default c.args.slots.now (get_or c.predecessors-before-items.result.now c.loop-before.before-index 0) c.index-slots-before.result no_slot there in
+    ∙ any_default c.args.slots.now (get_or c.predecessors-before-items.result.now c.loop-before.before-index 0) c.index-slots-before.result
+    no_slot there in
     subst (IsSlotOf c.args.plan.now (get_or c.predecessors-before-items.result.now c.loop-before.before-index 0)) (sym at)
     (c.requires.slots (get_or c.predecessors-before-items.result.now c.loop-before.before-index 0) there)
 
 pub end_of-end-requires-clause-ended : goal.end_of-end-requires-clause-ended
 end_of-end-requires-clause-ended c =
-    let there = predecessor_there c.args.plan.now c.args.slots.now c.predecessors-before-items.result.now c.args.process c.loop-before.before-index
+    let there = predecessor_there c.args.plan.now c.args.slots.now c.predecessors-before-items.result.now c.args.process
+    c.loop-before.before-index
     c.requires.fits c.requires.count c.requires.process c.predecessors-before-items.ensures c.loop-before-test.true in
     let at = c.index-slots-before.is
-    ∙ any_default c.args.slots.now (get_or c.predecessors-before-items.result.now c.loop-before.before-index 0) c.index-slots-before.result no_slot there in
+    ∙ any_default c.args.slots.now (get_or c.predecessors-before-items.result.now c.loop-before.before-index 0) c.index-slots-before.result
+    no_slot there in
     let inside : c.loop-before.before-index < length (predecessors c.args.plan.now c.args.process) =
     rw (← c.predecessors-before-items.ensures) c.loop-before-test.true in
     ap (λ s. s.ended) at
@@ -41,7 +45,8 @@ pub met-requires : goal.met-requires
 met-requires c = levels_of_end c.loop-before.latest c.end_of-end.result (start_place c.args.plan.now c.args.process)
     c.loop-before.invariant.levels
     (subst (λ (e : Place). HasLevelsOf e (start_place c.args.plan.now c.args.process))
-    (sym (c.end_of-end.ensures ∙ ap (λ (xs : List ℕ). end_place c.args.plan.now (get_or xs c.loop-before.before-index 0)) c.predecessors-before-items.ensures))
+    (sym (c.end_of-end.ensures
+    ∙ ap (λ (xs : List ℕ). end_place c.args.plan.now (get_or xs c.loop-before.before-index 0)) c.predecessors-before-items.ensures))
     (ends_in_levels c.args.plan.now c.args.process c.loop-before.before-index c.requires.fits c.requires.process
     (rw (← c.predecessors-before-items.ensures) c.loop-before-test.true)))
 
@@ -49,19 +54,25 @@ pub loop-before-preserved : goal.loop-before-preserved
 loop-before-preserved c =
     let inside : c.loop-before.before-index < length (predecessors c.args.plan.now c.args.process) =
     rw (← c.predecessors-before-items.ensures) c.loop-before-test.true in
-    let end : c.end_of-end.result ≡ end_place c.args.plan.now (get_or (predecessors c.args.plan.now c.args.process) c.loop-before.before-index 0) =
-    c.end_of-end.ensures ∙ ap (λ (xs : List ℕ). end_place c.args.plan.now (get_or xs c.loop-before.before-index 0)) c.predecessors-before-items.ensures in
+    let end : c.end_of-end.result
+    ≡ end_place c.args.plan.now (get_or (predecessors c.args.plan.now c.args.process) c.loop-before.before-index 0) =
+    c.end_of-end.ensures
+    ∙ ap (λ (xs : List ℕ). end_place c.args.plan.now (get_or xs c.loop-before.before-index 0)) c.predecessors-before-items.ensures in
     let more : map (end_place c.args.plan.now) (take (c.loop-before.before-index + 1) (predecessors c.args.plan.now c.args.process))
-    ≡ map (end_place c.args.plan.now) (take c.loop-before.before-index (predecessors c.args.plan.now c.args.process)) ++ c.end_of-end.result ∷ [] =
+    ≡ map (end_place c.args.plan.now) (take c.loop-before.before-index (predecessors c.args.plan.now c.args.process))
+    ++ c.end_of-end.result ∷ [] =
     ap (map (end_place c.args.plan.now)) (take_more (predecessors c.args.plan.now c.args.process) c.loop-before.before-index 0 inside)
     ∙ map-push (end_place c.args.plan.now) (take c.loop-before.before-index (predecessors c.args.plan.now c.args.process))
     (get_or (predecessors c.args.plan.now c.args.process) c.loop-before.before-index 0)
-    ∙ ap (λ (e : Place). map (end_place c.args.plan.now) (take c.loop-before.before-index (predecessors c.args.plan.now c.args.process)) ++ e ∷ []) (sym end) in
+    ∙ ap (λ (e : Place). map (end_place c.args.plan.now) (take c.loop-before.before-index (predecessors c.args.plan.now c.args.process))
+    ++ e ∷ []) (sym end) in
     record {
       latest =
           ap (λ x. Some x) (c.met.ensures ∙ ap (λ o. met_place o c.end_of-end.result) c.loop-before.invariant.latest)
           ∙ sym (ap latest_of more
-          ∙ latest_of-append (map (end_place c.args.plan.now) (take c.loop-before.before-index (predecessors c.args.plan.now c.args.process))) c.end_of-end.result);
+          ∙ latest_of-append
+          (map (end_place c.args.plan.now) (take c.loop-before.before-index (predecessors c.args.plan.now c.args.process)))
+          c.end_of-end.result);
       levels = subst (λ (e : Place). HasLevelsOf e (start_place c.args.plan.now c.args.process)) (sym c.met.ensures)
           (later_levels c.loop-before.latest c.end_of-end.result (start_place c.args.plan.now c.args.process) c.loop-before.invariant.levels
           (subst (λ (e : Place). HasLevelsOf e (start_place c.args.plan.now c.args.process)) (sym end)
@@ -72,7 +83,8 @@ pub returns-in-Some : goal.returns-in-Some
 returns-in-Some c =
     let to_end : length (predecessors c.args.plan.now c.args.process) ≤ c.loop-before.before-index =
     rw (← c.predecessors-before-items.ensures) c.loop-before-test.false in
-    let all = ap (λ (xs : List ℕ). latest_of (map (end_place c.args.plan.now) xs)) (take_all c.loop-before.before-index (predecessors c.args.plan.now c.args.process) to_end) in
+    let all = ap (λ (xs : List ℕ). latest_of (map (end_place c.args.plan.now) xs))
+    (take_all c.loop-before.before-index (predecessors c.args.plan.now c.args.process) to_end) in
     let latest = sym all ∙ sym c.loop-before.invariant.latest ∙ c.in-Some.is in
     sym (latest_meets (map (end_place c.args.plan.now) (predecessors c.args.plan.now c.args.process)) c.in-Some.place latest)
     ∙ sym (starts_where_ends_meet c.args.plan.now c.args.process c.requires.fits c.requires.process)
@@ -81,7 +93,8 @@ pub returns-in-None : goal.returns-in-None
 returns-in-None c =
     let to_end : length (predecessors c.args.plan.now c.args.process) ≤ c.loop-before.before-index =
     rw (← c.predecessors-before-items.ensures) c.loop-before-test.false in
-    let all = ap (λ (xs : List ℕ). latest_of (map (end_place c.args.plan.now) xs)) (take_all c.loop-before.before-index (predecessors c.args.plan.now c.args.process) to_end) in
+    let all = ap (λ (xs : List ℕ). latest_of (map (end_place c.args.plan.now) xs))
+    (take_all c.loop-before.before-index (predecessors c.args.plan.now c.args.process) to_end) in
     let none = sym all ∙ sym c.loop-before.invariant.latest ∙ c.in-None.is in
     c.first.ensures
     ∙ sym (none_meets (map (end_place c.args.plan.now) (predecessors c.args.plan.now c.args.process)) none)

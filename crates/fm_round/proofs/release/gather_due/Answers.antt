@@ -26,7 +26,8 @@ taken_here : (c : goal.After-take_due) (j : ℕ) → (j ≡ c.loop-slot.slot-ind
 taken_here c j (inl same) below at new =
     let long = c.loop-slot.auto.slots in
     let within = c.loop-slot-test.true in
-    subst (λ (k : ℕ). slot (set c.loop-slot.slots c.loop-slot.slot-index c.take_due.new.slot) k ≡ without_due c.args.key (slot c.args.slots.now k))
+    subst (λ (k : ℕ). slot (set c.loop-slot.slots c.loop-slot.slot-index c.take_due.new.slot) k
+    ≡ without_due c.args.key (slot c.args.slots.now k))
     (sym same)
     (get_or-set_same c.loop-slot.slots c.loop-slot.slot-index c.take_due.new.slot no_slot (omega arith) ∙ new)
 taken_here c j (inr apart) below at new =

@@ -35,12 +35,14 @@ loop-event-preserved g c =
     let before = c.loop-event.invariant in
     let one = writes_one g.K.Sink.content g.K.Sink.sure g.K.Sink.faults c.loop-event.sink c.event.new.sink c.event-item.result
     c.loop-event.writer c.event.new.self (rw before.writes.last at.later) c.in_ok-event.ensures.ok c.in_ok-event.ensures.writer in
-    let more : take (c.loop-event.event-index + 1) c.args.events.now ≡ take c.loop-event.event-index c.args.events.now ++ c.event-item.result ∷ [] =
+    let more : take (c.loop-event.event-index + 1) c.args.events.now ≡ take c.loop-event.event-index c.args.events.now
+    ++ c.event-item.result ∷ [] =
     take_more c.args.events.now c.loop-event.event-index c.event-item.result c.loop-event-test.true
     ∙ ap (λ e. take c.loop-event.event-index c.args.events.now ++ e ∷ []) (sym c.event-item.is) in
     record {
       writes = rw more (writes_after g.K.Sink.content g.K.Sink.sure g.K.Sink.faults c.args.sink.now c.loop-event.sink c.event.new.sink
-          (take c.loop-event.event-index c.args.events.now) (c.event-item.result ∷ []) c.args.writer.now c.loop-event.writer c.event.new.self
+          (take c.loop-event.event-index c.args.events.now) (c.event-item.result ∷ []) c.args.writer.now c.loop-event.writer
+          c.event.new.self
           before.writes one);
       at_end = still_at_end (g.K.Sink.content c.loop-event.sink) (g.K.Sink.content c.event.new.sink)
           (events_bytes c.loop-event.writer.last (c.event-item.result ∷ [])) c.loop-event.writer.put c.event.new.self.put

@@ -6,6 +6,7 @@ use Rattle.fm_round.proofs.rounds.fresh_slots.Goals as goal
 pub loop-process-preserved : goal.loop-process-preserved
 loop-process-preserved c = record {
   fresh = subst (AreFresh _ c.args.room) (sym c.push_reserved.ensures.items)
-      (fresh_more c.loop-process._process c.args.room c.loop-process.slots.items _ c.loop-process.invariant.fresh c.in_ok-fresh_slot.ensures);
+      (fresh_more c.loop-process._process c.args.room c.loop-process.slots.items _ c.loop-process.invariant.fresh
+      c.in_ok-fresh_slot.ensures);
   capacity = let kept = c.push_reserved.ensures.capacity in let before = c.loop-process.invariant.capacity in omega arith;
 }

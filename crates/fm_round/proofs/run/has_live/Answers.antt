@@ -25,4 +25,5 @@ returns-then-is_live-clause-yes c =
 pub loop-slot-preserved : goal.loop-slot-preserved
 loop-slot-preserved c =
     let at = c.slot-item.is ∙ any_default c.args.slots.now c.loop-slot.slot-index c.slot-item.result no_slot c.loop-slot-test.true in
-    idle_more c.args.slots.now c.loop-slot.slot-index c.loop-slot.invariant (sym (c.is_live.ensures ∙ ap is_running at) ∙ c.if-is_live.false)
+    idle_more c.args.slots.now c.loop-slot.slot-index c.loop-slot.invariant (sym (c.is_live.ensures ∙ ap is_running at)
+    ∙ c.if-is_live.false)
