@@ -1,5 +1,5 @@
 -- From round to round: the first one, the next one, and the end.
-use Rattle.std.proofs.Common.{◌≡◌, ◌⊎◌, ℕ, zero, suc, ◌+◌, ◌<◌, ◌≤◌, List, [], ◌∷◌, ◌++◌, length, map, drop, get_or, Bool, true, false, Option, Some, None, IfSome, refl, sym, ap, ap₂, ◌∙◌, subst, inl, inr, arith, append_assoc, append-nil, length-append}
+use Rattle.std.proofs.Common.{◌≡◌, ◌⊎◌, ℕ, ◌+◌, ◌<◌, ◌≤◌, List, [], ◌∷◌, ◌++◌, length, map, drop, get_or, Bool, true, false, Option, Some, None, IfSome, refl, sym, ap, ◌∙◌, subst, inl, inr, arith, append_assoc, length-append}
 use Rattle.std.proofs.lemmas.List.{length-map}
 use Rattle.std.proofs.lemmas.Bool.{cases_lt}
 use Rattle.std.specs.List.{All}
@@ -9,8 +9,7 @@ use Rattle.fm_edge.specs.Runs.{Breaks}
 use Rattle.fm_edge.proofs.Chains.{breaks_more}
 use Rattle.fm_smf.proofs.Tracks.{events_bytes-append}
 use Rattle.fm_msg.specs.Event.{TimedMessage}
-use Rattle.fm_line.specs.declared.line.Line.{Line}
-use Rattle.fm_line.specs.Line.{line, ValidLines, most_events, total}
+use Rattle.fm_line.specs.Line.{line, most_events}
 use Rattle.fm_line.specs.Piece.{In, piece, sorted}
 use Rattle.fm_line.proofs.Members.{in_at}
 use Rattle.fm_line.proofs.Pieces.{length-piece}
@@ -31,13 +30,13 @@ use Rattle.fm_round.specs.declared.slot.Slot.{Slot}
 use Rattle.fm_round.specs.Ends.{CanFollow, piece_end}
 use Rattle.fm_round.specs.Lefts.{IsOwn, OwnFrom, Playing, joined}
 use Rattle.fm_round.specs.Rounds.{Between, Opened}
-use Rattle.fm_round.specs.Slots.{AllAtEnd, AllSlots, AllStarted, CanRun, IsAtEnd, IsFresh, IsLeast, IsRun, IsSlotOf, LeastOf, RunsAll, due, left, lefts, live_clock, loads, no_slot, room_sum, run_clock, room_of, slot, without_due, yet}
+use Rattle.fm_round.specs.Slots.{AllAtEnd, AllSlots, CanRun, IsAtEnd, IsFresh, IsLeast, IsRun, LeastOf, RunsAll, due, left, lefts, loads, no_slot, room_sum, run_clock, room_of, slot, without_due, yet}
 use Rattle.fm_round.specs.Starts.{Starts}
 use Rattle.fm_round.proofs.Ending.{all_at_end, end_first, ends_piece}
 use Rattle.fm_round.proofs.InTime.{can_follow, can_write}
 use Rattle.fm_round.proofs.Opening.{opens}
 use Rattle.fm_round.proofs.Order.{IsDue, none_stays}
-use Rattle.fm_round.proofs.Parting.{FrontsFirst, front_of, own_front, own_fronts, whole_of}
+use Rattle.fm_round.proofs.Parting.{FrontsFirst, own_front, own_fronts, whole_of}
 use Rattle.fm_round.proofs.Releasing.{least_first, own_at, parts, parts-front, parts-whole, released}
 use Rattle.fm_round.proofs.Running.{any_default, loads-release, rooms-release, slot-map}
 use Rattle.fm_round.proofs.StrandFacts.{plan_valid}

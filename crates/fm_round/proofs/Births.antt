@@ -1,6 +1,6 @@
 -- Who has not started waits for a process that is live, earlier and not past its start.
-use Rattle.std.proofs.Common.{◌≡◌, ℕ, zero, suc, ◌<◌, ◌≤◌, List, [], ◌∷◌, length, get_or, Bool, true, false, Option, Some, None, refl, sym, ap, subst, arith}
-use Rattle.std.specs.Prelude.{max, map}
+use Rattle.std.proofs.Common.{◌≡◌, ℕ, zero, suc, ◌<◌, ◌≤◌, List, [], ◌∷◌, length, get_or, Bool, true, false, Option, Some, None, refl, ap, subst, arith}
+use Rattle.std.specs.Prelude.{map}
 use Rattle.fm_line.specs.declared.line.Line.{Line}
 use Rattle.fm_line.specs.Line.{greatest, line, event_at, start, ValidLines}
 use Rattle.fm_program.specs.Parts.{PlanParts}
@@ -8,7 +8,7 @@ use Rattle.fm_program.specs.Process.{plan_lines}
 use Rattle.fm_program.proofs.Lines.{plan-lines-waits}
 use Rattle.fm_strand.specs.declared.strand.Strand.{Strand}
 use Rattle.fm_strand.specs.Strand.{clock_of}
-use Rattle.fm_round.specs.Slots.{AllSlots, AllStarted, IsRun, IsWaiting, live_clock, predecessors, run_clock, slot}
+use Rattle.fm_round.specs.Slots.{AllSlots, AllStarted, IsRun, live_clock, predecessors, slot}
 use Rattle.fm_round.specs.declared.slot.Slot.{Slot}
 use Rattle.fm_round.proofs.InTime.{past_last}
 use Rattle.fm_round.proofs.StrandFacts.{clock_to_end}

@@ -1,16 +1,15 @@
 -- Once no process is live, all have ended, and the last release is the rest of the piece.
-use Rattle.std.proofs.Common.{◌≡◌, ℕ, ◌<◌, List, [], ◌∷◌, ◌++◌, length, map, drop, get_or, Bool, true, false, Option, Some, None, refl, sym, ap, ◌∙◌, subst, inl, append-nil, arith}
+use Rattle.std.proofs.Common.{◌≡◌, ℕ, ◌<◌, List, [], ◌∷◌, ◌++◌, length, map, drop, Bool, true, false, Option, Some, None, refl, sym, ap, ◌∙◌, subst, inl, append-nil, arith}
 use Rattle.fm_msg.specs.Event.{TimedMessage}
-use Rattle.fm_line.specs.declared.line.Line.{Line}
 use Rattle.fm_line.specs.Line.{line, ValidLines}
 use Rattle.fm_line.specs.Piece.{In, piece, sorted}
 use Rattle.fm_buffer.specs.Outbox.{count_through}
 use Rattle.fm_program.specs.Parts.{PlanParts}
 use Rattle.fm_program.specs.Process.{plan_lines}
 use Rattle.fm_strand.specs.declared.strand.Strand.{Strand}
-use Rattle.fm_strand.specs.Strand.{clock_of, rest}
+use Rattle.fm_strand.specs.Strand.{clock_of}
 use Rattle.fm_round.specs.declared.slot.Slot.{Slot}
-use Rattle.fm_round.specs.Lefts.{OwnFrom, Playing, joined}
+use Rattle.fm_round.specs.Lefts.{Playing, joined}
 use Rattle.fm_round.specs.Slots.{AllSlots, AllStarted, IsAtEnd, IsRun, LeastOf, due, lefts, live_clock, slot, without_due, yet}
 use Rattle.fm_round.proofs.Parting.{FrontsFirst, back_of}
 use Rattle.fm_round.proofs.Order.{none_stays_at_all}

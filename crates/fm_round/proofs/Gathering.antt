@@ -1,11 +1,10 @@
 -- Taking what is due, slot by slot.
-use Rattle.std.proofs.Common.{◌≡◌, ◌⊎◌, ℕ, zero, suc, ◌+◌, ◌<◌, ◌≤◌, List, [], ◌∷◌, ◌++◌, length, map, take, drop, get_or, Option, refl, sym, ap, ap₂, ◌∙◌, arith, append-nil, add-one}
+use Rattle.std.proofs.Common.{◌≡◌, ℕ, suc, ◌+◌, ◌<◌, List, [], ◌∷◌, ◌++◌, length, map, take, drop, Option, refl, ap, ap₂, ◌∙◌, arith, append-nil, add-one}
 use Rattle.std.proofs.Math.Seq.{drop-cons}
-use Rattle.std.proofs.lemmas.List.{length-map, take_more}
-use Rattle.fm_msg.specs.Event.{TimedMessage}
+use Rattle.std.proofs.lemmas.List.{take_more}
 use Rattle.fm_round.specs.declared.slot.Slot.{Slot}
 use Rattle.fm_round.specs.Lefts.{joined}
-use Rattle.fm_round.specs.Slots.{due, no_slot, room_of, room_sum, slot, without_due}
+use Rattle.fm_round.specs.Slots.{due, no_slot, room_of, room_sum, slot}
 use Rattle.fm_round.proofs.Opening.{joined-append}
 
 -- the room of the slots from a place on is that of the slot there and of those behind it

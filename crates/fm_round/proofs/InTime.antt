@@ -1,13 +1,13 @@
 -- The piece of valid lines can be written, part by part.
-use Rattle.std.proofs.Common.{◌≡◌, ℕ, ◌+◌, ◌-◌, ◌<◌, ◌≤◌, ◌^◌, List, [], ◌∷◌, ◌++◌, length, take, drop, get_or, refl, sym, ap, ◌∙◌, subst, inl, inr, arith, length-append, append_assoc}
+use Rattle.std.proofs.Common.{◌≡◌, ℕ, ◌+◌, ◌-◌, ◌<◌, ◌≤◌, List, [], ◌∷◌, ◌++◌, length, take, drop, get_or, refl, sym, ap, ◌∙◌, subst, inl, inr, arith, length-append, append_assoc}
 use Rattle.std.specs.Prelude.{slice_index_or}
 use Rattle.fm_msg.specs.Event.{TimedMessage}
 use Rattle.fm_line.specs.declared.line.Line.{Line}
-use Rattle.fm_line.specs.Line.{event_at, line, event, ValidLines, last_tick, most_events, total}
-use Rattle.fm_line.specs.Piece.{Before, In, Above, Rises, piece}
+use Rattle.fm_line.specs.Line.{event_at, line, event, ValidLines}
+use Rattle.fm_line.specs.Piece.{Before, Above, Rises, piece}
 use Rattle.fm_line.proofs.Members.{Each, in_each}
 use Rattle.fm_line.proofs.Pieces.{is_piece, length-piece}
-use Rattle.fm_smf.specs.Track.{event_bytes, events_bytes, end_bytes, last_time, NeverFalls, track}
+use Rattle.fm_smf.specs.Track.{event_bytes, events_bytes, last_time, NeverFalls, track}
 use Rattle.fm_smf.specs.Writing.{Written}
 use Rattle.fm_smf.specs.declared.limits.TheConstants.{BEFORE_TRACK, MAX_TIME, MAX_TRACK, START_LENGTH}
 use Rattle.fm_smf.proofs.Tracks.{events_bytes-append, last_time-append, length-track, track_fits}

@@ -1,11 +1,11 @@
 -- At first all of the piece is left.
-use Rattle.std.proofs.Common.{◌≡◌, ◌⊎◌, ℕ, zero, suc, ◌+◌, ◌<◌, ◌≤◌, List, [], ◌∷◌, ◌++◌, length, map, take, get_or, None, refl, sym, ap, ap₂, ◌∙◌, subst, inl, inr, arith, append_assoc, append-nil, add-one}
+use Rattle.std.proofs.Common.{◌≡◌, ◌⊎◌, ℕ, zero, suc, ◌+◌, ◌<◌, ◌≤◌, List, [], ◌∷◌, ◌++◌, length, map, take, get_or, refl, sym, ap, ap₂, ◌∙◌, subst, inl, inr, arith, append_assoc, append-nil, add-one}
 use Rattle.std.proofs.lemmas.Bool.{cases_eq}
 use Rattle.std.proofs.lemmas.List.{take_more, take_all}
 use Rattle.fm_msg.specs.Event.{TimedMessage}
 use Rattle.fm_line.specs.declared.line.Line.{Line}
 use Rattle.fm_line.specs.Line.{event, event_at, line, no_line, upper, ValidLines}
-use Rattle.fm_line.specs.Piece.{Before, In, Rises, events_below, piece, sorted}
+use Rattle.fm_line.specs.Piece.{Before, In, Rises, events_below, sorted}
 use Rattle.fm_line.proofs.Members.{in_at}
 use Rattle.fm_line.proofs.Rising.{in_above}
 use Rattle.fm_program.specs.Parts.{PlanParts}

@@ -1,5 +1,5 @@
 -- What is due up to a key is before all that is behind it.
-use Rattle.std.proofs.Common.{◌≡◌, ◌⊎◌, ℕ, suc, ◌<◌, ◌≤◌, Bool, true, false, List, [], ◌∷◌, length, take, drop, refl, sym, subst, ◌∙◌, inl, inr, arith}
+use Rattle.std.proofs.Common.{◌≡◌, ◌⊎◌, ℕ, suc, ◌<◌, ◌≤◌, Bool, true, false, List, [], ◌∷◌, take, drop, refl, sym, subst, ◌∙◌, inl, inr, arith}
 use Rattle.std.specs.Prelude.{Some, None, ◌&&◌, nat_lt, nat_le, nat_eq, if◌then◌else◌}
 use Rattle.std.proofs.lemmas.Bool.{both_ways, cases_lt, cases_order, ltb-true, eqb-true, leb-true, lt-ltb, eq-eqb, le-leb, and_parts, and_from, or_cases, or_left, or_right}
 use Rattle.fm_msg.specs.Event.{TimedMessage}

@@ -1,10 +1,9 @@
 -- What one quantum makes of one slot.
-use Rattle.std.proofs.Common.{◌≡◌, ◌⊎◌, ℕ, ◌+◌, ◌-◌, ◌<◌, ◌≤◌, List, [], ◌∷◌, ◌++◌, length, Bool, true, false, Option, Some, None, refl, sym, ap, ap₂, ◌∙◌, subst, inl, inr, arith, append-nil, length-append}
+use Rattle.std.proofs.Common.{◌≡◌, ◌⊎◌, ℕ, ◌+◌, ◌-◌, ◌<◌, ◌≤◌, [], length, Bool, true, false, Some, None, refl, sym, ap, ap₂, ◌∙◌, subst, inl, inr, arith, append-nil, length-append}
 use Rattle.std.proofs.lemmas.Bool.{cases_eq}
 use Rattle.std.proofs.lemmas.List.Elements.{All-append, All-nil, All-weaker}
 use Rattle.std.specs.List.{All}
 use Rattle.fm_msg.specs.Event.{TimedMessage}
-use Rattle.fm_buffer.specs.Outbox.{EventQueue}
 use Rattle.fm_program.specs.Parts.{PlanParts}
 use Rattle.fm_strand.specs.declared.strand.Strand.{Strand}
 use Rattle.fm_strand.specs.declared.answers.Quantum.{Quantum}
@@ -13,7 +12,7 @@ use Rattle.fm_strand.specs.declared.answers.TheConstants.{MAX_QUANTUM}
 use Rattle.fm_strand.specs.Course.{steps_of, standing, tick_of, to_come}
 use Rattle.fm_strand.specs.Strand.{InCourse, MakesQuantum, QuantumIs, clock_of, rest, steps_left}
 use Rattle.fm_round.specs.declared.slot.Slot.{Slot}
-use Rattle.fm_round.specs.Slots.{CanRun, IsSlotOf, IsStrandOf, IsRun, Runs, has_ended, left, live_clock, load, run_clock, run_load}
+use Rattle.fm_round.specs.Slots.{CanRun, IsSlotOf, IsStrandOf, Runs, has_ended, live_clock, load, run_load}
 use Rattle.fm_round.proofs.StrandFacts.{clock_at_event, put_early}
 
 -- ---- no step, no change

@@ -1,11 +1,11 @@
 -- What a release takes out of the outboxes is the next part of the piece.
-use Rattle.std.proofs.Common.{◌≡◌, ◌⊎◌, ℕ, zero, suc, ◌+◌, ◌<◌, ◌≤◌, List, [], ◌∷◌, ◌++◌, length, map, take, drop, get_or, Bool, true, false, Option, Some, None, refl, sym, ap, ap₂, ◌∙◌, subst, inl, inr, ⊎_elim, arith, append_assoc, append-nil}
+use Rattle.std.proofs.Common.{◌≡◌, ◌⊎◌, ℕ, zero, suc, ◌+◌, ◌<◌, ◌≤◌, List, [], ◌∷◌, ◌++◌, length, map, take, drop, Bool, true, false, Option, Some, None, refl, sym, ap, ap₂, ◌∙◌, subst, inl, inr, ⊎_elim, arith, append_assoc}
 use Rattle.std.proofs.lemmas.List.{take-append-drop}
 use Rattle.fm_msg.specs.Event.{TimedMessage}
 use Rattle.fm_line.specs.declared.line.Line.{Line}
-use Rattle.fm_line.specs.Line.{line, event, event_at, start, ValidLines}
-use Rattle.fm_line.specs.Piece.{Before, In, Rises, piece, sorted}
-use Rattle.fm_line.proofs.Members.{in_at, in_left, in_right, in_either}
+use Rattle.fm_line.specs.Line.{line, event_at, start, ValidLines}
+use Rattle.fm_line.specs.Piece.{In, Rises, sorted}
+use Rattle.fm_line.proofs.Members.{in_at, in_either}
 use Rattle.fm_line.proofs.Rising.{above_in}
 use Rattle.fm_buffer.specs.Outbox.{count_through}
 use Rattle.fm_program.specs.Parts.{PlanParts}
@@ -14,10 +14,10 @@ use Rattle.fm_strand.specs.declared.strand.Strand.{Strand}
 use Rattle.fm_strand.specs.Strand.{InCourse, clock_of, rest}
 use Rattle.fm_round.specs.declared.slot.Slot.{Slot}
 use Rattle.fm_round.specs.Lefts.{IsOwn, OwnFrom, Playing, joined}
-use Rattle.fm_round.specs.Slots.{AllSlots, AllStarted, IsLeast, IsNotPast, IsRun, due, left, lefts, live_clock, slot, without_due, yet}
+use Rattle.fm_round.specs.Slots.{AllSlots, AllStarted, IsLeast, IsNotPast, IsRun, due, left, lefts, slot, without_due, yet}
 use Rattle.fm_round.proofs.InTime.{before_time}
 use Rattle.fm_round.proofs.Parting.{Parted, FrontsFirst, back_of, front_of, own_back, own_backs, own_front, sorted_parts, whole_of}
-use Rattle.fm_round.proofs.Order.{IsDue, due_first, none_stays_at_all, past_time, stays_past, taken_due}
+use Rattle.fm_round.proofs.Order.{IsDue, due_first, past_time, stays_past, taken_due}
 use Rattle.fm_round.proofs.Births.{ahead}
 use Rattle.fm_round.proofs.StrandFacts.{clock_first, rest_ended}
 

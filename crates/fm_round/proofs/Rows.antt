@@ -7,7 +7,7 @@ use Rattle.fm_program.specs.declared.op.Span.TheVariants as span
 use Rattle.fm_program.specs.declared.op.Turn.TheVariants as turn
 use Rattle.fm_program.specs.declared.op.Op.{Op}
 use Rattle.fm_program.specs.declared.op.Op.TheVariants as op
-use Rattle.fm_program.specs.Parts.{PlanParts, ProgramParts, StockParts}
+use Rattle.fm_program.specs.Parts.{PlanParts, ProgramParts}
 use Rattle.fm_program.specs.Process.{plan_lines, plan_played}
 use Rattle.fm_program.specs.Fit.{PartsFit, all_steps}
 use Rattle.fm_program.proofs.Rows.{fits_by, plain_profile}

@@ -1,23 +1,17 @@
 -- What one quantum of each process leaves of all.
-use Rattle.std.proofs.Common.{◌≡◌, ◌⊎◌, ℕ, zero, suc, ◌+◌, ◌-◌, ◌<◌, ◌≤◌, List, [], ◌∷◌, ◌++◌, length, map, take, drop, get_or, Bool, true, false, Option, Some, None, refl, sym, ap, ap₂, ◌∙◌, subst, inl, inr, arith, append-nil, length-append}
+use Rattle.std.proofs.Common.{◌≡◌, ◌⊎◌, ℕ, zero, suc, ◌+◌, ◌-◌, ◌<◌, ◌≤◌, List, [], ◌∷◌, ◌++◌, length, map, drop, get_or, Bool, Option, Some, None, refl, sym, ap, ap₂, ◌∙◌, subst, inl, inr, arith, length-append}
 use Rattle.std.proofs.Math.ListN.{get_or-map}
 use Rattle.std.proofs.lemmas.Bool.{cases_lt}
 use Rattle.std.proofs.lemmas.List.{length-map}
 use Rattle.std.proofs.lemmas.List.Elements.{All-drop}
 use Rattle.fm_msg.specs.Event.{TimedMessage}
 use Rattle.fm_line.specs.declared.line.Line.{Line}
-use Rattle.fm_line.specs.Piece.{In}
-use Rattle.fm_line.proofs.Members.{in_at}
-use Rattle.fm_buffer.specs.Outbox.{EventQueue, count_through}
+use Rattle.fm_buffer.specs.Outbox.{count_through}
 use Rattle.fm_program.specs.Parts.{PlanParts}
 use Rattle.fm_strand.specs.declared.strand.Strand.{Strand}
-use Rattle.fm_strand.specs.declared.answers.Quantum.{Quantum}
-use Rattle.fm_strand.specs.declared.answers.Quantum.TheVariants as quantum
-use Rattle.fm_strand.specs.declared.answers.TheConstants.{MAX_QUANTUM}
-use Rattle.fm_strand.specs.Strand.{InCourse, MakesQuantum, clock_of, rest, steps_left}
+use Rattle.fm_strand.specs.Strand.{clock_of, rest}
 use Rattle.fm_round.specs.declared.slot.Slot.{Slot}
-use Rattle.fm_round.specs.Slots.{AllSlots, CanRun, IsRun, IsSlotOf, Runs, RunsAll, RunsEach, due, left, lefts, live_clock, load, loads, no_slot, room_of, run_clock, run_load, slot, without_due}
-use Rattle.fm_round.proofs.Order.{IsDue, none_stays}
+use Rattle.fm_round.specs.Slots.{AllSlots, IsRun, IsSlotOf, Runs, RunsAll, RunsEach, left, lefts, load, loads, no_slot, room_of, slot, without_due}
 
 -- ---- slot by slot
 

@@ -1,5 +1,5 @@
 -- What it changes to start a process.
-use Rattle.std.proofs.Common.{◌≡◌, ◌≢◌, ◌⊎◌, ℕ, zero, suc, ◌+◌, ◌<◌, ◌≤◌, List, [], ◌∷◌, ◌++◌, length, map, take, get_or, set, Bool, true, false, Option, Some, None, IfSome, refl, sym, ap, ap₂, ◌∙◌, subst, inl, inr, ⊎_elim, arith, get_or-set_same, get_or-set_other}
+use Rattle.std.proofs.Common.{◌≡◌, ◌⊎◌, ℕ, suc, ◌+◌, ◌<◌, ◌≤◌, List, [], ◌∷◌, ◌++◌, length, map, get_or, set, Bool, true, false, Option, Some, None, IfSome, refl, sym, ap, ap₂, ◌∙◌, subst, inl, inr, arith, get_or-set_same, get_or-set_other}
 use Rattle.std.specs.Prelude.{nat_lt, if◌then◌else◌}
 use Rattle.std.proofs.lemmas.Bool.{cases_eq}
 use Rattle.std.proofs.lemmas.List.Elements.{All-nil}
@@ -14,7 +14,7 @@ use Rattle.fm_strand.specs.declared.strand.Strand.{Strand}
 use Rattle.fm_strand.specs.Course.{latest_place, later_place, meeting_place, first_place, steps_of}
 use Rattle.fm_strand.specs.Strand.{InCourse, clock_of, rest, steps_left}
 use Rattle.fm_round.specs.declared.slot.Slot.{Slot}
-use Rattle.fm_round.specs.Slots.{AllEnded, AllSlots, AllStarted, IsRun, IsSlotOf, IsStrandOf, IsWaiting, left, lefts, load, loads, no_slot, predecessors, room_of, run_load, slot, yet}
+use Rattle.fm_round.specs.Slots.{AllSlots, AllStarted, IsRun, IsSlotOf, IsWaiting, left, lefts, load, loads, no_slot, predecessors, room_of, run_load, slot, yet}
 use Rattle.fm_round.specs.Starts.{HasLevelsOf, latest_of, met_place}
 use Rattle.fm_program.specs.Fit.{PartsFit}
 use Rattle.fm_round.proofs.Births.{predecessor_below}

@@ -1,5 +1,5 @@
 -- What is known of strands, in the form in which rounds need it.
-use Rattle.std.proofs.Common.{◌≡◌, ◌<◌, ◌≤◌, ℕ, List, [], ◌∷◌, map, length, get_or, Some, ap, subst, arith}
+use Rattle.std.proofs.Common.{◌≡◌, ◌<◌, ◌≤◌, ℕ, List, [], ◌∷◌, map, length, get_or, Some, subst, arith}
 use Rattle.std.specs.List.{All}
 use Rattle.fm_msg.specs.Event.{TimedMessage}
 use Rattle.fm_buffer.specs.Outbox.{EventQueue}

@@ -1,23 +1,21 @@
 -- A file from its start to its end.
-use Rattle.std.proofs.Common.{◌≡◌, ℕ, ◌+◌, ◌≤◌, List, [], ◌++◌, length, Option, IfSome, refl, sym, ap, ◌∙◌, subst, arith, append-nil}
+use Rattle.std.proofs.Common.{◌≡◌, ℕ, ◌≤◌, List, [], length, Option, refl, sym, subst, append-nil}
 use Rattle.fm_edge.specs.Content.{IsNew}
 use Rattle.fm_edge.specs.Runs.{Breaks, Puts}
 use Rattle.fm_msg.specs.Event.{TimedMessage}
 use Rattle.fm_msg.specs.declared.profile.TheConstants.{DIVISION}
-use Rattle.fm_line.specs.Line.{ValidLines}
 use Rattle.fm_line.specs.Piece.{piece}
 use Rattle.fm_program.specs.Parts.{PlanParts}
 use Rattle.fm_program.specs.Fit.{PartsFit}
 use Rattle.fm_program.specs.Process.{plan_lines}
 use Rattle.fm_smf.specs.File.{file, file_start, start_of, with_length}
-use Rattle.fm_smf.specs.Track.{end_bytes, events_bytes, last_time}
-use Rattle.fm_smf.specs.Writing.{BreaksFinish, Finishes, HasSpace, IsBroken, IsFinished, IsWritten, Writes, Written, patch_after}
+use Rattle.fm_smf.specs.Track.{end_bytes, events_bytes}
+use Rattle.fm_smf.specs.Writing.{HasSpace, IsBroken, IsWritten, Writes, Written}
 use Rattle.fm_smf.specs.declared.limits.TheConstants.{MAX_TIME, START_LENGTH}
 use Rattle.fm_smf.proofs.InTime.{end_fits}
-use Rattle.fm_smf.proofs.Writing.{broken_beginning, broken_end, broken_more, finished_length, written_begun, written_finished, written_more}
+use Rattle.fm_smf.proofs.Writing.{broken_beginning, broken_more, written_begun, written_more}
 use Rattle.fm_round.specs.Ends.{piece_end}
 use Rattle.fm_round.specs.Rounds.{played_of}
-use Rattle.fm_round.specs.declared.played.Played.{Played}
 use Rattle.fm_round.proofs.InTime.{CanWrite, can_write}
 use Rattle.fm_round.proofs.StrandFacts.{plan_valid}
 

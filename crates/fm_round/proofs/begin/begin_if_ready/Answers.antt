@@ -1,5 +1,5 @@
-use Rattle.std.proofs.Common.{◌≡◌, ◌<◌, length, refl, ap, arith}
-use Rattle.fm_round.specs.Slots.{no_slot, slot}
+use Rattle.std.proofs.Common.{◌<◌, length, refl, ap, arith}
+use Rattle.fm_round.specs.Slots.{no_slot}
 use Rattle.fm_round.specs.declared.slot.Slot.{Slot}
 use Rattle.fm_round.proofs.Running.{any_default}
 use Rattle.fm_round.proofs.Starting.{started_below, started_lefts, started_loads, started_rooms, started_slots}

@@ -1,4 +1,4 @@
-use Rattle.std.proofs.Common.{Some, refl, sym, ap, ◌∙◌, subst}
+use Rattle.std.proofs.Common.{ap, ◌∙◌, subst}
 use Rattle.fm_strand.specs.Course.{end_place}
 use Rattle.fm_round.specs.Slots.{IsRun}
 use Rattle.fm_round.proofs.StrandFacts.{place_ended}

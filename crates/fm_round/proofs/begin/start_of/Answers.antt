@@ -1,7 +1,7 @@
-use Rattle.std.proofs.Common.{◌≡◌, ℕ, ◌+◌, ◌<◌, ◌≤◌, List, [], ◌∷◌, ◌++◌, length, map, take, get_or, Some, None, IfSome, refl, sym, ap, ◌∙◌, subst, arith}
+use Rattle.std.proofs.Common.{◌≡◌, ℕ, ◌+◌, ◌<◌, ◌≤◌, List, [], ◌∷◌, ◌++◌, length, map, take, get_or, Some, sym, ap, ◌∙◌, subst}
 use Rattle.std.proofs.lemmas.List.{take_all, take_more}
 use Rattle.fm_nest.specs.declared.place.Place.{Place}
-use Rattle.fm_strand.specs.Course.{end_place, meeting_place, start_place}
+use Rattle.fm_strand.specs.Course.{end_place, start_place}
 use Rattle.fm_round.specs.Slots.{IsSlotOf, no_slot, predecessors, slot}
 use Rattle.fm_round.specs.Starts.{HasLevelsOf, latest_of, met_place}
 use Rattle.fm_round.proofs.Gathering.{map-push}

@@ -1,9 +1,8 @@
-use Rattle.std.proofs.Common.{◌≡◌, ◌+◌, ◌++◌, ◌∷◌, [], take, drop, sym, ap, ◌∙◌, subst, arith, length-append}
+use Rattle.std.proofs.Common.{◌≡◌, ◌+◌, ◌++◌, ◌∷◌, [], take, drop, sym, ap, ◌∙◌}
 use Rattle.std.proofs.lemmas.List.{take_more}
-use Rattle.fm_edge.proofs.Chains.{on_err, breaks_more}
-use Rattle.fm_smf.specs.Track.{events_bytes, event_bytes}
-use Rattle.fm_smf.proofs.Tracks.{events_bytes-append}
-use Rattle.fm_smf.proofs.Writing.{writes_after, writes_breaks, writes_one}
+use Rattle.fm_edge.proofs.Chains.{on_err}
+use Rattle.fm_smf.specs.Track.{events_bytes}
+use Rattle.fm_smf.proofs.Writing.{writes_after, writes_one}
 use Rattle.fm_round.proofs.InTime.{follows_at}
 use Rattle.fm_round.proofs.Between.{event_breaks, still_at_end}
 use Rattle.fm_round.proofs.release.write_all.Goals as goal

@@ -1,4 +1,4 @@
-use Rattle.std.proofs.Common.{◌≡◌, ◌-◌, length, sym, ap, ◌∙◌}
+use Rattle.std.proofs.Common.{◌-◌, sym, ap, ◌∙◌}
 use Rattle.fm_line.specs.Line.{line}
 use Rattle.fm_program.specs.Process.{plan_lines}
 use Rattle.fm_program.proofs.Lines.{plan-lines-length}

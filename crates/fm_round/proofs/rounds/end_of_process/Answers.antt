@@ -1,7 +1,6 @@
 use Rattle.std.proofs.Common.{◌≡◌, Some, sym, ap, ◌∙◌, subst}
 use Rattle.fm_line.specs.Line.{line}
 use Rattle.fm_program.specs.Process.{plan_lines}
-use Rattle.fm_strand.specs.declared.strand.Strand.{Strand}
 use Rattle.fm_strand.specs.Strand.{InCourse, clock_of}
 use Rattle.fm_round.proofs.StrandFacts.{clock_ended}
 use Rattle.fm_round.proofs.rounds.end_of_process.Goals as goal

@@ -1,4 +1,3 @@
-use Rattle.std.proofs.Common.{arith}
 use Rattle.fm_round.proofs.Running.{runs_joined}
 use Rattle.fm_round.proofs.run.+shares.Goals as goal
 
