@@ -1,9 +1,8 @@
-//! Standard MIDI Files of format 0 with one track, written event by event to any sink.
-//! A `Writer` begins a file, takes its events in the order of their times and finishes it.
-//! `write_file` does all of it: after an Ok the sink holds exactly `file` of the events and the
-//! end, after a fault a front of that file with length 0, or the file with a part of its length.
-//! `Writer::begin_as` begins a file of another division. Running status, sysex and further
-//! tracks are left out.
+//! Standard MIDI Files of format 0 with one track, written event by event to any sink. A `Writer`
+//! begins a file, takes its events in the order of their times and finishes it. `write_file` does
+//! all of it: after an Ok the sink holds exactly `file` of the events and the end, after a fault a
+//! front of that file with length 0, or the file with a part of its length. `Writer::begin_as`
+//! begins a file of another division. Running status, sysex and further tracks are left out.
 #![tactic(auto)]
 
 mod fault;
