@@ -52,9 +52,11 @@ opened-frames t (w ∷ ws) (o ∷ os) ls = opened-frames t ws os (level_of t.war
 framed-more : (ws os more : List ℕ) → length ws ≡ length os → framed ws (os ++ more) ≡ framed ws os
 framed-more [] os more same = refl
 framed-more (w ∷ ws) [] more same = absurd (omega arith)
-framed-more (w ∷ ws) (o ∷ os) more same = ap (λ (fs : List Frame). record { warp = w; origin = o } ∷ fs) (framed-more ws os more (omega arith))
+framed-more (w ∷ ws) (o ∷ os) more same =
+    ap (λ (fs : List Frame). record { warp = w; origin = o } ∷ fs) (framed-more ws os more (omega arith))
 
-framed-named : (warps : List (List Part)) (ws os : List ℕ) → list_all (λ w. nat_lt w (length warps)) ws ≡ true → AreNamed warps (framed ws os)
+framed-named : (warps : List (List Part)) (ws os : List ℕ) → list_all (λ w. nat_lt w (length warps)) ws ≡ true
+    → AreNamed warps (framed ws os)
 framed-named warps [] os named = tt
 framed-named warps (w ∷ ws) [] named = tt
 framed-named warps (w ∷ ws) (o ∷ os) named =
@@ -176,12 +178,14 @@ begin-limited p j place fits below is =
 
 -- the greatest of the ends is where the latest one puts it
 meeting-tick : (p : PlanParts) (ls : List OpenLevel) (js : List ℕ) (q : ℕ) → (end : ℕ → ℕ)
-    → ((k : ℕ) → k < length (q ∷ js) → end (slice_index_or (q ∷ js) k 0) ≡ on_tick ls (end_spot (plan_played p) (slice_index_or (q ∷ js) k 0)).position)
+    → ((k : ℕ) → k < length (q ∷ js)
+    → end (slice_index_or (q ∷ js) k 0) ≡ on_tick ls (end_spot (plan_played p) (slice_index_or (q ∷ js) k 0)).position)
     → greatest (map end (q ∷ js)) ≡ on_tick ls (start_spot (plan_played p) (q ∷ js)).position
 meeting-tick p ls [] q end each =
     (let one : max (end q) 0 ≡ end q = omega arith in one)
     ∙ each 0 (omega arith)
-    ∙ ap (λ (b : Bool). on_tick ls (if b then outset else end_spot (plan_played p) q).position) (sym (never (end_spot (plan_played p) q).position))
+    ∙ ap (λ (b : Bool). on_tick ls (if b then outset else end_spot (plan_played p) q).position)
+    (sym (never (end_spot (plan_played p) q).position))
   where
     never : (x : ℕ) → nat_lt x 0 ≡ false
     never x = grind arith
@@ -199,7 +203,8 @@ meeting-tick p ls (j ∷ js) q end each =
       on_tick-mono ls (end_spot (plan_played p) q).position (start_spot (plan_played p) (j ∷ js)).position
           (let less = below_of (end_spot (plan_played p) q).position (start_spot (plan_played p) (j ∷ js)).position is in omega arith),
     )
-    at false is = omega (arith, on_tick-mono ls (start_spot (plan_played p) (j ∷ js)).position (end_spot (plan_played p) q).position (past_of _ _ is))
+    at false is =
+        omega (arith, on_tick-mono ls (start_spot (plan_played p) (j ∷ js)).position (end_spot (plan_played p) q).position (past_of _ _ is))
 
 opened-none : (t : StockParts) (ws : List ℕ) (ls : List OpenLevel) → levels_opened t ws [] ls ≡ ls
 opened-none t [] ls = refl
@@ -235,7 +240,8 @@ begin-tick p j fits below =
     at [] none =
         let spot = begins ∙ ap (start_spot (plan_played p)) none in
         let levels : (begun p j).levels ≡ [] =
-        ap (λ (x : Spot). levels_opened p.stock (process_program p j).levels x.origins []) spot ∙ opened-none p.stock (process_program p j).levels [] in
+        ap (λ (x : Spot). levels_opened p.stock (process_program p j).levels x.origins []) spot
+        ∙ opened-none p.stock (process_program p j).levels [] in
         sym (ap (λ (ls : List OpenLevel). on_tick ls (begun p j).position) levels ∙ ap (λ (x : Spot). x.position) spot)
     at (q ∷ js) is =
         meeting-tick p (begun p j).levels js q (λ q. (line (plan_lines p) q).end) (λ k inside. each k inside)
@@ -250,7 +256,8 @@ begin-tick p j fits below =
             ≡ on_tick (begun p j).levels (end_spot (plan_played p) (slice_index_or qs k 0)).position) is
             (let within : k < length (process_program p j).predecessors = omega (arith, ap length is) in
             let x = slice_index_or (process_program p j).predecessors k 0 in
-            let less : x < j = below_of x j (list_all-at (λ y. nat_lt y j) (process_program p j).predecessors k 0 (waits p j fits below).below within) in
+            let less : x < j =
+            below_of x j (list_all-at (λ y. nat_lt y j) (process_program p j).predecessors k 0 (waits p j fits below).below within) in
             line-end p x fits (omega arith)
             ∙ position-tick (process_run p x).run.last
             ∙ ap (λ (ls : List OpenLevel). on_tick ls (process_run p x).run.last.position) (waited-levels p j k fits below within))
@@ -268,34 +275,36 @@ pub begin-course : (p : PlanParts) (j : ℕ) (place : Place) (u : StockParts) (w
     → PartsFit p → j < length p.programs → place ≡ start_place p j → u ≡ p.stock → warps ≡ p.stock.warps
     → lists ≡ (process_program p j).cycles → levels ≡ (process_program p j).levels → state ≡ (p.seed + j) % 2 ^ 64
     → All (IsFrame u) draws.frames.items
-    → ((s : Standing) → s.registers ≡ replicate REGISTERS (pos 0) → s.dice ≡ state → s.frames ≡ cycles_opened u lists [] → DrawsStand u draws s)
+    → ((s : Standing) → s.registers ≡ replicate REGISTERS (pos 0) → s.dice ≡ state → s.frames ≡ cycles_opened u lists []
+    → DrawsStand u draws s)
     → IsTimed warps time → frames_of time.nest ≡ framed levels place.origins → time.position ≡ place.position
     → IsPending note → ((k : ℕ) → pending_events k note ≡ [])
     → InCourse p (record { process = j; made = 0; place = 0; index = 0; draws = draws; time = time; note = note })
-begin-course p j place u warps state lists levels draws time note fits below is ut wt lt vt st frames stands timed nest position pending none = record {
-  fits = fits;
-  process = below;
-  within = omega arith;
-  index = omega arith;
-  ready = record {
-    frames = subst (λ (t : StockParts). All (IsFrame t) draws.frames.items) ut frames;
-    time = subst (λ (ws : List (List Part)). IsTimed ws time) wt timed;
-    note = pending;
-    few = omega (arith, opened.frames.count, cycles_opened-length p.stock (process_program p j).cycles [], (opens p j fits below).cycles);
-  };
-  stands = record {
-    process = refl;
-    place = refl;
-    index = refl;
-    draws = opened;
-    time = record {
-      position = position ∙ begin-position p j place is;
-      levels = ap (λ (fs : List Frame). levels_inside p.stock.warps fs []) nest
-          ∙ ap (λ (vs : List ℕ). levels_inside p.stock.warps (framed vs place.origins) []) vt ∙ begin-levels p j place fits below is;
-    };
-    note = sym (ap (map (λ e. Some e)) (none j));
-  };
-}
+begin-course p j place u warps state lists levels draws time note fits below is ut wt lt vt st frames stands timed nest position
+    pending none = record {
+      fits = fits;
+      process = below;
+      within = omega arith;
+      index = omega arith;
+      ready = record {
+        frames = subst (λ (t : StockParts). All (IsFrame t) draws.frames.items) ut frames;
+        time = subst (λ (ws : List (List Part)). IsTimed ws time) wt timed;
+        note = pending;
+        few = omega (arith, opened.frames.count, cycles_opened-length p.stock (process_program p j).cycles [], (opens p j fits below).cycles);
+      };
+      stands = record {
+        process = refl;
+        place = refl;
+        index = refl;
+        draws = opened;
+        time = record {
+          position = position ∙ begin-position p j place is;
+          levels = ap (λ (fs : List Frame). levels_inside p.stock.warps fs []) nest
+              ∙ ap (λ (vs : List ℕ). levels_inside p.stock.warps (framed vs place.origins) []) vt ∙ begin-levels p j place fits below is;
+        };
+        note = sym (ap (map (λ e. Some e)) (none j));
+      };
+    }
   where
     cycles_opened-length : (t : StockParts) (cs : List ℕ) (fs : List OpenFrame) → length (cycles_opened t cs fs) ≡ length cs + length fs
     cycles_opened-length t [] fs = (let none : length fs ≡ 0 + length fs = omega arith in none)

@@ -71,7 +71,8 @@ own-left : (j : ℕ) (w : Standing) (ls : List OpenLevel) → Own j w → Own j 
 own-left j w [] own = own-same j w (level_closed w []) own refl refl
 own-left j w (l ∷ ls) own = own-same j w (level_closed w (l ∷ ls)) own refl refl
 
-own-note : (j : ℕ) (pitches : List MessageNumber) (span : SpanLength) (ch : ℕ) (gate loud : Turn) (scope : List Slot) (w : Standing) → Own j w
+own-note : (j : ℕ) (pitches : List MessageNumber) (span : SpanLength) (ch : ℕ) (gate loud : Turn) (scope : List Slot)
+    (w : Standing) → Own j w
     → Own j (left_by (done (note pitches span ch gate loud scope) w) w)
 own-note j pitches span ch gate loud scope w own =
     let keys = pitches_drawn pitches scope w in
@@ -83,7 +84,8 @@ own-note j pitches span ch gate loud scope w own =
     (kept-then lasts.after part.after velocity.after (turn-kept gate lasts.after) (turn-kept loud part.after))) in
     record {
       process = kept.process ∙ own.process;
-      due = subst (λ (k : ℕ). OwnMarks k (left_by (done (note pitches span ch gate loud scope) w) w).due) own.process (own-marks_of w.process _ _ _ _);
+      due = subst (λ (k : ℕ). OwnMarks k (left_by (done (note pitches span ch gate loud scope) w) w).due) own.process
+          (own-marks_of w.process _ _ _ _);
     }
 
 own-done : (j : ℕ) (a : Action) (w : Standing) → Own j w → Own j (left_by (done a w) w) × OwnMarks j (marks_by (done a w))
@@ -172,7 +174,8 @@ OwnPlayed i [] = Unit {0}
 OwnPlayed i (x ∷ xs) = OwnMarks i x.run.marks × (x.run.last.process ≡ i) × OwnPlayed (i + 1) xs
 
 own-played : (i : ℕ) (ps : List Played)
-    → ((k : ℕ) → k < length ps → OwnMarks (i + k) (slice_index_or ps k no_played).run.marks × ((slice_index_or ps k no_played).run.last.process ≡ i + k))
+    → ((k : ℕ) → k < length ps
+    → OwnMarks (i + k) (slice_index_or ps k no_played).run.marks × ((slice_index_or ps k no_played).run.last.process ≡ i + k))
     → OwnPlayed i ps
 own-played i [] each = tt
 own-played i (x ∷ xs) each =

@@ -89,7 +89,8 @@ pub enter-fits : (p : PlanParts) (s : Strand) (w : Standing) (warp : ℕ) → Ca
 enter-fits p s w warp can there =
     IsInTime-held p.stock.warps _ 0
     (AreNamed-last p.stock.warps (frames_of s.time.nest) _ (named-now p s can.ready) there)
-    (subst (λ (ls : List OpenLevel). levels_hold ls 0 ≡ true) (sym (enter-levels p s w warp can.stands)) (held_of (left_by (done (enter warp (parts_at p.stock warp)) w) w) can.within).position)
+    (subst (λ (ls : List OpenLevel). levels_hold ls 0 ≡ true) (sym (enter-levels p s w warp can.stands))
+    (held_of (left_by (done (enter warp (parts_at p.stock warp)) w) w) can.within).position)
 
 -- a level is opened
 pub enter-does : (p : PlanParts) (s : Strand) (w : Standing) (warp : ℕ) (time : Timeline)
@@ -173,7 +174,8 @@ rest-fits p s w span scope u new ticks can is draws =
     let drawn = subst (λ (v : StockParts). DrawsTo v s.draws new ticks (duration_drawn (duration_of v span) (scope_at v scope))) is draws in
     later-fits p s w (left_by (done (rest (duration_of p.stock span) (scope_at p.stock scope)) w) w) (s.time.position + ticks) can.ready
     can.stands can.within (duration-kept (duration_of p.stock span) (scope_at p.stock scope) w).levels
-    (let is : s.time.position + ticks ≡ w.position + d.value = omega (arith, can.stands.time.position, drawn.value w can.stands.draws) in is)
+    (let is : s.time.position + ticks ≡ w.position + d.value =
+    omega (arith, can.stands.time.position, drawn.value w can.stands.draws) in is)
 
 -- ---- marks
 
@@ -181,7 +183,10 @@ mapped-twice : (f g h k : ℕ → ℕ) (m : Mark) → mapped f g (mapped h k m) 
 mapped-twice f g h k m = at (has_ending m.msg)
   where
     at : (b : Bool)
-        → (let a : Mark = record m { onset = f (h m.onset); ending = (if b then g (if b then k m.ending else h m.ending) else f (if b then k m.ending else h m.ending)) } in a)
+        → (let a : Mark = record m {
+          onset = f (h m.onset);
+          ending = (if b then g (if b then k m.ending else h m.ending) else f (if b then k m.ending else h m.ending));
+        } in a)
         ≡ record m { onset = f (h m.onset); ending = (if b then g (k m.ending) else f (h m.ending)) }
     at true = refl
     at false = refl
@@ -248,7 +253,8 @@ loop-does p s w count scope past u v d e rounds can ut vt draws some opens frame
     let n = repeats_drawn (repeats_of p.stock count) (scope_at p.stock scope) w in
     let drawn = subst (λ (x : StockParts). DrawsTo x s.draws d rounds (repeats_drawn (repeats_of x count) (scope_at x scope))) ut draws in
     let kept = repeats-kept (repeats_of p.stock count) (scope_at p.stock scope) w in
-    let pushed = subst (λ (x : StockParts). DrawsStand x e (record n.after { frames = counting 0 (rounds - 1) (s.place + 1) ∷ n.after.frames })) vt
+    let pushed =
+    subst (λ (x : StockParts). DrawsStand x e (record n.after { frames = counting 0 (rounds - 1) (s.place + 1) ∷ n.after.frames })) vt
     (opens n.after (subst (λ (x : StockParts). DrawsStand x d n.after) (sym vt) (drawn.after w can.stands.draws))) in
     let stands = loop-stands p s w n.after e rounds n.value past can.stands kept can.due (drawn.value w can.stands.draws) some pushed in
     record {
@@ -304,10 +310,12 @@ point-controller t loops point.Program x fits = tt
 point-controller t loops point.Bend x fits = tt
 
 -- a message is sent
-pub send-does : (p : PlanParts) (s : Strand) (w : Standing) (pt : Point) (ch : ℕ) (x : Draw) (scope : ℕ) (u : StockParts) (d : Draws) (value : ℤ)
+pub send-does : (p : PlanParts) (s : Strand) (w : Standing) (pt : Point) (ch : ℕ) (x : Draw) (scope : ℕ) (u : StockParts)
+    (d : Draws) (value : ℤ)
     → CanDo p s w (send pt ch (amount_of p.stock x) (scope_at p.stock scope)) → u ≡ p.stock
     → DrawsTo u s.draws d value (number_drawn (amount_of u x) (scope_at u scope)) → d.frames ≡ s.draws.frames
-    → Does p s (record s { place = s.place + 1; index = s.index + 1; draws = d }) w (send pt ch (amount_of p.stock x) (scope_at p.stock scope))
+    → Does p s (record s { place = s.place + 1; index = s.index + 1; draws = d }) w
+    (send pt ch (amount_of p.stock x) (scope_at p.stock scope))
 send-does p s w pt ch x scope u d value can ut draws frames =
     let v = number_drawn (amount_of p.stock x) (scope_at p.stock scope) w in
     let drawn = subst (λ (t : StockParts). DrawsTo t s.draws d value (number_drawn (amount_of t x) (scope_at t scope))) ut draws in
@@ -344,7 +352,8 @@ event_is t t' j j' i i' m m' et ej ei em =
     next_is t t' j i i' m m' et ei em
     ∙ ap (λ (x : ℕ). let a : TimedMessage = record { time = t'; process = x; index = i'; msg = m' } in a) ej
 
-pub send-event : (p : PlanParts) (s : Strand) (w : Standing) (pt : Point) (ch : ℕ) (x : Draw) (scope : ℕ) (u : StockParts) (d : Draws) (value : ℤ)
+pub send-event : (p : PlanParts) (s : Strand) (w : Standing) (pt : Point) (ch : ℕ) (x : Draw) (scope : ℕ) (u : StockParts)
+    (d : Draws) (value : ℤ)
     (m : Msg) (e : TimedMessage)
     → CanDo p s w (send pt ch (amount_of p.stock x) (scope_at p.stock scope)) → u ≡ p.stock
     → DrawsTo u s.draws d value (number_drawn (amount_of u x) (scope_at u scope)) → m ≡ point_msg pt ch value

@@ -36,7 +36,8 @@ whole-line p s course =
     sym (line-events p s.process course.fits course.process
     ∙ ap (λ (r : Run). mark_events r.marks) (process-as p s.process course.process).run
     ∙ ap mark_events so.marks
-    ∙ mark_events-append (passed p s.process s.made).marks (program_run (code_of p s.process) (MAX_STEPS - s.made) (standing p s.process s.made)).marks)
+    ∙ mark_events-append (passed p s.process s.made).marks
+    (program_run (code_of p s.process) (MAX_STEPS - s.made) (standing p s.process s.made)).marks)
 
 -- ---- times to come
 
@@ -46,7 +47,8 @@ last-due p j ended = at (standing p j (steps_of p j)).due refl
   where
     at : (ms : List Mark) → (standing p j (steps_of p j)).due ≡ ms → (standing p j (steps_of p j)).due ≡ []
     at [] due = due
-    at (m ∷ ms) due = absurd (sounding_over (put_out (standing p j (steps_of p j)).levels m) (record (standing p j (steps_of p j)) { due = ms })
+    at (m ∷ ms) due =
+        absurd (sounding_over (put_out (standing p j (steps_of p j)).levels m) (record (standing p j (steps_of p j)) { due = ms })
         (sym (ap (step_from (code_of p j) (standing p j (steps_of p j))) due) ∙ ended))
 
 pub last-tick : (p : PlanParts) (j : ℕ) → PartsFit p → j < length p.programs
@@ -82,7 +84,8 @@ late p j zero n fits below is =
     let none = (over-left p j n fits below (omega arith) (left-over p j n fits below (omega arith) (omega arith))).1 in
     record {
       events = subst (All (λ e. tick_of (standing p j n) ≤ e.time)) (sym none) (All-nil (λ e. tick_of (standing p j n) ≤ e.time));
-      end = (let same : tick_of (standing p j n) ≡ tick_of (standing p j (steps_of p j)) = ap (λ (k : ℕ). tick_of (standing p j k)) here in omega arith);
+      end = (let same : tick_of (standing p j n) ≡ tick_of (standing p j (steps_of p j)) =
+          ap (λ (k : ℕ). tick_of (standing p j k)) here in omega arith);
     }
 late p j (suc d) n fits below is =
     let within : n ≤ steps_of p j = omega arith in

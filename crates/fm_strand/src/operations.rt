@@ -110,17 +110,20 @@ impl Strand {
     )
         ghost state: { Standing }
         requires can { let t = plan.now.stock in CanDo plan.now self.old state
-            (action.note (map (amount_of t) (chord_at t chord)) (duration_of t span) channel gate loud (scope_at t scope)) }
+            (action.note (map (amount_of t) (chord_at t chord)) (duration_of t span)
+            channel gate loud (scope_at t scope)) }
         requires chord { chord < length plan.now.stock.chords }
         requires scope { scope < length plan.now.stock.scopes }
         requires keys { let t = plan.now.stock in
-            list_all (draw_fits t (loops_of t scope) (pos 0) (pos (DATA_VALUES - 1))) (chord_at t chord) ≡ true }
+            list_all (draw_fits t (loops_of t scope) (pos 0) (pos (DATA_VALUES - 1)))
+            (chord_at t chord) ≡ true }
         requires span { let t = plan.now.stock in span_fits t (loops_of t scope) span ≡ true }
         requires channel { channel < CHANNELS }
         requires gate { turn_fits 0 MAX_PERCENT gate ≡ true }
         requires loud { turn_fits 1 (DATA_VALUES - 1) loud ≡ true }
         ensures does { let t = plan.now.stock in Does plan.now self.old self.new state
-            (action.note (map (amount_of t) (chord_at t chord)) (duration_of t span) channel gate loud (scope_at t scope)) }
+            (action.note (map (amount_of t) (chord_at t chord)) (duration_of t span)
+            channel gate loud (scope_at t scope)) }
     {
         let stock = plan.stock();
         let note = self.draws.note(stock, chord, span, gate, loud, scope);
@@ -141,7 +144,8 @@ impl Strand {
         requires scope { scope < length plan.now.stock.scopes }
         requires span { let t = plan.now.stock in span_fits t (loops_of t scope) span ≡ true }
         ensures does { let t = plan.now.stock in
-            Does plan.now self.old self.new state (action.rest (duration_of t span) (scope_at t scope)) }
+            Does plan.now self.old self.new state
+            (action.rest (duration_of t span) (scope_at t scope)) }
     {
         let ticks = self.draws.duration(plan.stock(), span, scope);
         self.time.advance(plan.warps(), ticks);
@@ -152,14 +156,18 @@ impl Strand {
     fn send(&mut self, plan: &Plan, point: Point, channel: u8, draw: Draw, scope: u32) -> Event
         ghost state: { Standing }
         requires can { let t = plan.now.stock in
-            CanDo plan.now self.old state (action.send point channel (amount_of t draw) (scope_at t scope)) }
+            CanDo plan.now self.old state
+            (action.send point channel (amount_of t draw) (scope_at t scope)) }
         requires scope { scope < length plan.now.stock.scopes }
         requires channel { channel < CHANNELS }
         requires point { let t = plan.now.stock in point_fits t (loops_of t scope) point draw ≡ true }
         ensures does { let t = plan.now.stock in
-            Does plan.now self.old self.new state (action.send point channel (amount_of t draw) (scope_at t scope)) }
+            Does plan.now self.old self.new state
+            (action.send point channel (amount_of t draw) (scope_at t scope)) }
         ensures event { let t = plan.now.stock in
-            step_event (done (action.send point channel (amount_of t draw) (scope_at t scope)) state) ≡ Some result }
+            step_event
+            (done (action.send point channel (amount_of t draw) (scope_at t scope)) state)
+            ≡ Some result }
     {
         let value = self.draws.number(plan.stock(), draw, scope);
         let index = self.index;
@@ -176,12 +184,14 @@ impl Strand {
     fn set(&mut self, plan: &Plan, register: u8, expr: u32, scope: u32)
         ghost state: { Standing }
         requires can { let t = plan.now.stock in
-            CanDo plan.now self.old state (action.assign register (expr_at t expr) (scope_at t scope)) }
+            CanDo plan.now self.old state
+            (action.assign register (expr_at t expr) (scope_at t scope)) }
         requires scope { scope < length plan.now.stock.scopes }
         requires register { register < REGISTERS }
         requires expr { let t = plan.now.stock in expr_fits t (loops_of t scope) expr ≡ true }
         ensures does { let t = plan.now.stock in
-            Does plan.now self.old self.new state (action.assign register (expr_at t expr) (scope_at t scope)) }
+            Does plan.now self.old self.new state
+            (action.assign register (expr_at t expr) (scope_at t scope)) }
     {
         self.draws.set(plan.stock(), register, expr, scope);
         self.place += 1;
@@ -194,7 +204,8 @@ impl Strand {
         requires scope { scope < length plan.now.stock.scopes }
         requires expr { let t = plan.now.stock in expr_fits t (loops_of t scope) expr ≡ true }
         ensures does { let t = plan.now.stock in
-            Does plan.now self.old self.new state (action.choose (expr_at t expr) (scope_at t scope) past) }
+            Does plan.now self.old self.new state
+            (action.choose (expr_at t expr) (scope_at t scope) past) }
     {
         let value = self.draws.value(plan.stock(), expr, scope);
         self.place = if value > 0 {
@@ -215,11 +226,13 @@ impl Strand {
     fn open_loop(&mut self, plan: &Plan, count: Count, scope: u32, past: u32)
         ghost state: { Standing }
         requires can { let t = plan.now.stock in
-            CanDo plan.now self.old state (action.loop (repeats_of t count) (scope_at t scope) past) }
+            CanDo plan.now self.old state
+            (action.loop (repeats_of t count) (scope_at t scope) past) }
         requires scope { scope < length plan.now.stock.scopes }
         requires count { let t = plan.now.stock in count_fits t (loops_of t scope) count ≡ true }
         ensures does { let t = plan.now.stock in
-            Does plan.now self.old self.new state (action.loop (repeats_of t count) (scope_at t scope) past) }
+            Does plan.now self.old self.new state
+            (action.loop (repeats_of t count) (scope_at t scope) past) }
     {
         let rounds = self.draws.count(plan.stock(), count, scope);
         if rounds == 0 {
@@ -266,7 +279,8 @@ impl Strand {
         ghost state: { Standing }
         requires can { CanDo plan.now self.old state (action.enter warp (parts_at plan.now.stock warp)) }
         requires warp { warp < length plan.now.stock.warps }
-        ensures does { Does plan.now self.old self.new state (action.enter warp (parts_at plan.now.stock warp)) }
+        ensures does { Does plan.now self.old self.new state
+            (action.enter warp (parts_at plan.now.stock warp)) }
     {
         self.time.enter(plan.warps(), warp);
         self.place += 1;

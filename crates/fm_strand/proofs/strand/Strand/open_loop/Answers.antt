@@ -8,7 +8,8 @@ open_loop-requires-clause-frames g c =
 
 pub returns-else-rounds-eq0 : goal.returns-else-rounds-eq0
 returns-else-rounds-eq0 g c = record {
-  does = loop-does c.args.plan.now c.args.self.now g.state c.args.count c.args.scope c.args.past _ _ c.count-rounds.new.self c.open_loop.new.self
+  does = loop-does c.args.plan.now c.args.self.now g.state c.args.count c.args.scope c.args.past _ _ c.count-rounds.new.self
+      c.open_loop.new.self
       c.count-rounds.result c.requires.0 c.stock.ensures.value c.stock-else-rounds-eq0.ensures.value c.count-rounds.ensures.draws
       c.if-rounds-eq0.false c.open_loop.ensures.stands c.open_loop.ensures.frames;
 }
