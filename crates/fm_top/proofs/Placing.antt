@@ -22,7 +22,8 @@ use Rattle.fm_parse.specs.declared.fault.ParseFault.TheVariants.{Expected, TooNe
 use Rattle.fm_parse.specs.Whole.{IsFault}
 
 -- the tokens trip
-placed : (text : List ℕ) (why : Fault) (spot : Spot) (n : ℕ) → ◌≡◌ {A = NumberedFault} (record { spot = spot; number = n }) (grammar_fault why)
+placed : (text : List ℕ) (why : Fault) (spot : Spot) (n : ℕ)
+    → ◌≡◌ {A = NumberedFault} (record { spot = spot; number = n }) (grammar_fault why)
     → length text ≤ MAX_TEXT → TripsWith (tokens text) why → HasFault text spot.line spot.column n
 placed text why spot n same short t = record { cause = trips short why t same }
 
