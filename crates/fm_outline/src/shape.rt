@@ -49,7 +49,8 @@ fn part_of(part: &PartText) -> Part
 
 /// Parts that have no fault as a deformation.
 pub(crate) fn warp_of(alloc: Global, parts: &[PartText]) -> Result<Warp, AllocError>
-    requires { each_faults (part_faults 1920) (λ p. length_spot (part_length p)) MAX_PARTS parts.now ≡ [] }
+    requires { each_faults (part_faults 1920) (λ p. length_spot (part_length p)) MAX_PARTS
+        parts.now ≡ [] }
     ensures { IfOk result (λ w. w ≡ map (part_of 1920) parts.now) }
 {
     let mut warp = Warp::new(alloc);

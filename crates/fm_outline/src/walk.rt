@@ -76,7 +76,8 @@ impl<'s> Walk<'s> {
         name: &Name<'s>,
         parts: &[PartText],
     ) -> Result<(), AllocError>
-        requires { each_faults (part_faults 1920) (λ p. length_spot (part_length p)) MAX_PARTS parts.now ≡ [] }
+        requires { each_faults (part_faults 1920) (λ p. length_spot (part_length p)) MAX_PARTS
+            parts.now ≡ [] }
         ensures { OnOk result ((score : tree.Score) (rest : List tree.Entry) →
             Walked score self.old (tree.shape (name_view name.now) parts.now ∷ rest) →
             Walked score self.new rest) }
