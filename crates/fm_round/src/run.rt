@@ -128,7 +128,8 @@ fn share_both<R: Threads + Sync, G: Gate + Sync>(
     b: &mut [Slot],
 )
     requires workers { (0 < low) × (0 < high) × (actor + low + high ≤ MAX_WORKERS) }
-    requires few { (first + length a.old ≤ MAX_PROCESSES) × (second + length b.old ≤ MAX_PROCESSES) }
+    requires few { (first + length a.old ≤ MAX_PROCESSES)
+        × (second + length b.old ≤ MAX_PROCESSES) }
     requires front { AreSlots plan.now first a.old }
     requires back { AreSlots plan.now second b.old }
     ensures ran_front { RunsEach plan.now first limit a.old a.new }
