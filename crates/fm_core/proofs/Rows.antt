@@ -1,18 +1,19 @@
 -- A worked example: the last of three processes has two events, at 7 and 439; two seats, room 1, lead 0.
-use Rattle.std.proofs.Common.{◌≡◌, List, [], ◌∷◌, ◌++◌, true, false, Option, Some, None, refl}
+use Rattle.std.proofs.Common.{◌≡◌, List, [], ◌∷◌, ◌++◌, true, false, Option, Some, None, map, refl}
 use Rattle.fm_msg.specs.Event.{TimedMessage}
 use Rattle.fm_msg.specs.declared.msg.Msg.TheVariants.{On, Off}
 use Rattle.fm_core.specs.Effects.{after, run}
 use Rattle.fm_core.specs.State.{Setting, State, opening, cell, desk}
 use Rattle.fm_core.specs.Steps.{reason}
 use Rattle.fm_core.specs.Sweep.{least}
+use Rattle.fm_core.specs.Tags.{is_claimable}
 use Rattle.fm_core.specs.declared.due.Due.TheVariants.{Pair}
 use Rattle.fm_core.specs.declared.floor.Floor.TheVariants.{At}
 use Rattle.fm_core.specs.declared.reason.Reason.{Reason}
-use Rattle.fm_core.specs.declared.reason.Reason.TheVariants.{OutOfTurn, PredecessorLive, WrongTake, WrongCount, AboveLead, WrongClock, NotVisited}
+use Rattle.fm_core.specs.declared.reason.Reason.TheVariants.{NoSeat, NoProcess, OutOfTurn, Holding, NotClaimable, NotUnborn, PredecessorLive, NotHeld, WrongTake, WrongCount, AboveLead, OverRoom, WrongClock, WrongEnd, NotSwept, StillDue, NotDue, NotVisited}
 use Rattle.fm_core.specs.declared.step.Step.{Step}
-use Rattle.fm_core.specs.declared.step.Step.TheVariants.{Look, Claim, Start, Record, Give, Publish, Pace, Release}
-use Rattle.fm_core.specs.declared.tag.Tag.TheVariants.{Full, Drained}
+use Rattle.fm_core.specs.declared.step.Step.TheVariants.{Look, Claim, Start, Record, Recall, Give, Publish, Pace, Release}
+use Rattle.fm_core.specs.declared.tag.Tag.TheVariants.{Unborn, Home, Full, Out, Ended, EndedOut, Drained}
 
 -- the first event of process 2, and the second
 abbrev first_on : TimedMessage
@@ -98,3 +99,52 @@ due_and_released : (published.floor ≡ At 7)
     × (reason three (left_by released (Publish ∷ Pace 0 ∷ Claim 0 2 ∷ [])) (Give 0 2 0 1 487 false) ≡ Some WrongTake)
     × (refused released (Publish ∷ Pace 0 ∷ Claim 0 2 ∷ Give 0 2 1 1 487 false ∷ []) ≡ None)
 due_and_released = (refl, refl, refl, refl, refl, refl, refl, refl, refl, refl)
+
+-- ---- where several reasons hold, the first of the table is the answer
+
+-- a seat that is not there, then a process that is not there
+nobody_there :
+    map (reason three begin)
+    (Look 2 3 ∷ Look 0 3 ∷ Claim 2 3 ∷ Start 2 3 ∷ Record 2 3 ∷ Record 0 3 ∷ Recall 2 3 ∷ Recall 0 3 ∷ Recall 0 0
+    ∷ Give 2 3 9 9 9 true ∷ Give 0 3 9 9 9 true ∷ Give 0 1 9 9 9 true ∷ Pace 2 ∷ [])
+    ≡ map Some
+    (NoSeat ∷ NoProcess ∷ NoSeat ∷ NoSeat ∷ NoSeat ∷ NoProcess ∷ NoSeat ∷ NoProcess ∷ PredecessorLive ∷ NoSeat ∷ NoProcess
+    ∷ NotHeld ∷ NoSeat ∷ [])
+nobody_there = refl
+
+-- seat 0 holds process 0
+abbrev held : State
+held = left_by begin (Claim 0 0 ∷ [])
+
+holder_first :
+    map (reason three held)
+    (Claim 0 3 ∷ Claim 0 0 ∷ Claim 0 1 ∷ Start 0 3 ∷ Start 0 0 ∷ Start 0 1 ∷ Claim 1 0 ∷ Start 1 0 ∷ Record 1 0
+    ∷ Give 1 0 9 9 9 true ∷ Give 0 0 1 1 1 true ∷ [])
+    ≡ map Some
+    (NoProcess ∷ Holding ∷ Holding ∷ NoProcess ∷ Holding ∷ Holding ∷ NotClaimable ∷ NotUnborn ∷ NotHeld
+    ∷ NotHeld ∷ WrongTake ∷ [])
+holder_first = refl
+
+-- seat 1 gives process 2 with everything wrong, and then with less and less
+give_reasons :
+    map (reason three (left_by begin both_end)) (Give 1 2 1 3 500 true ∷ Give 1 2 0 3 500 true ∷ Give 1 2 0 2 500 true ∷ [])
+    ++ map (reason (record three { lead = 1000 }) (left_by begin both_end)) (Give 1 2 0 2 500 true ∷ [])
+    ++ map (reason (record three { room = 2; lead = 1000 }) (left_by begin both_end))
+    (Give 1 2 0 2 500 true ∷ Give 1 2 0 2 487 true ∷ [])
+    ≡ map Some (WrongTake ∷ WrongCount ∷ AboveLead ∷ OverRoom ∷ WrongClock ∷ WrongEnd ∷ [])
+give_reasons = refl
+
+-- a publish and a release
+due_reasons :
+    reason three begin (Release 3) ∷ reason three published (Release 1) ∷ reason three published Publish
+    ∷ reason three (left_by published looks) Publish ∷ []
+    ≡ map Some (NotDue ∷ NotVisited ∷ NotSwept ∷ StillDue ∷ [])
+due_reasons = refl
+
+-- who may claim what: seat 0, and any other
+claimable :
+    map (is_claimable 0) (Unborn ∷ Home ∷ Full ∷ Out ∷ Ended ∷ EndedOut ∷ Drained ∷ [])
+    ++ map (is_claimable 1) (Unborn ∷ Home ∷ Full ∷ Out ∷ Ended ∷ EndedOut ∷ Drained ∷ [])
+    ≡ false ∷ true ∷ true ∷ false ∷ true ∷ false ∷ false
+    ∷ false ∷ true ∷ false ∷ false ∷ false ∷ false ∷ false ∷ []
+claimable = refl
