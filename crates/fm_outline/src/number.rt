@@ -2,6 +2,7 @@
 
 ghost use Rattle.std.specs.Prelude.{◌≡◌, ◌≤◌, [], map, IfOk};
 ghost use Rattle.fm_pattern.specs.declared.cursor.TheConstants.{MAX_ENTRIES};
+ghost use Rattle.fm_program.specs.declared.op.TheConstants.{MAX_LENGTH};
 ghost use Rattle.fm_grammar.specs.declared.number.Number.{Number};
 ghost use Rattle.fm_meaning.specs.Resolve.{length_ticks};
 ghost use Rattle.fm_meaning.specs.Ranges.{each_faults, length_faults, length_spot};
@@ -16,7 +17,7 @@ pub(crate) const WHOLE_NOTE: u64 = 1_920;
 pub(crate) fn ticks(length: &Length) -> u32
     requires { length_faults 1920 length.now ≡ [] }
     ensures value { result ≡ length_ticks 1920 length.now }
-    ensures small { result ≤ 1000000 }
+    ensures small { result ≤ MAX_LENGTH }
 {
     match length {
         Length::Share { over, under } => {
