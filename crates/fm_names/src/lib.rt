@@ -4,6 +4,7 @@
 //! of the name, `named` of `specs/Named`. A look-up takes the logarithm of the number of names.
 #![tactic(auto)]
 
+mod bytes;
 mod names;
 
 pub use names::Names;

@@ -1,27 +1,110 @@
 //! The table.
 
-ghost use Rattle.std.specs.Prelude.{◌≡◌, ℕ, List, None, Some, OnOk, OnErr, cond, option_copied};
+ghost use Rattle.std.specs.Prelude.{◌≡◌, ℕ, List, None, Some, OnOk, OnErr, cond, true, false, option_copied};
 ghost use Rattle.std.specs.List.{list_any};
 ghost use Rattle.std.specs.Str.{bytes_eq};
-ghost use Rattle.fm_names.specs.Named.{named, names_in};
+ghost use Rattle.fm_names.specs.Named.{named, names_in, first_at, chosen, is_free};
 
+use crate::bytes::place;
 use std::alloc::{AllocError, Global};
 use std::collections::BTreeMap;
+
+/// The first name of its place, and what it stands for.
+#[derive(Drop)]
+struct First<'s, V> {
+    text: &'s [u8],
+    value: V,
+}
 
 /// What each name stands for. The names are slices of one source.
 #[derive(Drop)]
 pub struct Names<'s, V> {
-    values: BTreeMap<&'s [u8], V>,
+    /// By place, which few names share.
+    firsts: BTreeMap<u64, First<'s, V>>,
+    /// The names whose place is another's.
+    others: BTreeMap<&'s [u8], V>,
+}
+
+/// What a name stands for by what is kept at its place, or else by the other answer.
+fn choose<'v, V>(name: &[u8], first: Option<&'v First<V>>, other: Option<&'v V>) -> Option<&'v V>
+    ensures { option_copied result ≡ chosen name.now (option_copied first.entry) (option_copied other.entry) }
+{
+    match first {
+        None => other,
+        Some(first) => {
+            if first.text == name {
+                Some(&first.value)
+            } else {
+                other
+            }
+        }
+    }
+}
+
+/// Whether a place is free for a name.
+fn admits<V>(name: &[u8], first: Option<&First<V>>) -> bool
+    ensures { result ≡ is_free name.now (option_copied first.entry) }
+{
+    match first {
+        None => true,
+        Some(first) => first.text == name,
+    }
 }
 
 impl<'s, V: Drop> Names<'s, V> {
     /// A table without names.
+    #[tactic(auto, unfolding(crate::specs::Named::named))]
     pub fn new(alloc: Global) -> Self
         ensures { (name : List ℕ) → named result name ≡ None }
     {
         Names {
-            values: BTreeMap::new(alloc),
+            firsts: BTreeMap::new(alloc),
+            others: BTreeMap::new(alloc),
         }
+    }
+
+    /// What is kept at the place of a name.
+    fn first(&self, name: &[u8]) -> Option<&First<'s, V>>
+        ensures { option_copied result ≡ first_at self.now name.now }
+    {
+        let number = place(name);
+        self.firsts.get(&number)
+    }
+
+    /// Whether the place of a name is free for it.
+    fn has_room(&self, name: &[u8]) -> bool
+        ensures { result ≡ is_free name.now (first_at self.now name.now) }
+    {
+        admits(name, self.first(name))
+    }
+
+    /// Defines a name at its place.
+    #[tactic(auto, unfolding(crate::specs::Named::named))]
+    fn define_first(&mut self, name: &'s [u8], value: V) -> Result<(), AllocError>
+        requires { is_free name.now (first_at self.old name.now) ≡ true }
+        ensures ok { OnOk result ((other : List ℕ)
+            → named self.new other
+            ≡ cond (bytes_eq other name.now) (Some value) (named self.old other)) }
+        ensures err { OnErr result ((other : List ℕ)
+            → named self.new other ≡ named self.old other) }
+    {
+        let number = place(name);
+        self.firsts.insert(number, First { text: name, value })?;
+        Ok(())
+    }
+
+    /// Defines a name whose place is another's.
+    #[tactic(auto, unfolding(crate::specs::Named::named))]
+    fn define_other(&mut self, name: &'s [u8], value: V) -> Result<(), AllocError>
+        requires { is_free name.now (first_at self.old name.now) ≡ false }
+        ensures ok { OnOk result ((other : List ℕ)
+            → named self.new other
+            ≡ cond (bytes_eq other name.now) (Some value) (named self.old other)) }
+        ensures err { OnErr result ((other : List ℕ)
+            → named self.new other ≡ named self.old other) }
+    {
+        self.others.insert(name, value)?;
+        Ok(())
     }
 
     /// Lets the name stand for a value from here on. After an error the table is as it was.
@@ -32,21 +115,24 @@ impl<'s, V: Drop> Names<'s, V> {
         ensures err { OnErr result ((other : List ℕ)
             → named self.new other ≡ named self.old other) }
     {
-        self.values.insert(name, value)?;
-        Ok(())
+        if self.has_room(name) {
+            self.define_first(name, value)
+        } else {
+            self.define_other(name, value)
+        }
     }
 
     /// What the name stands for, where it was defined.
     pub fn get(&self, name: &[u8]) -> Option<&V>
         ensures { option_copied result ≡ named self.now name.now }
     {
-        self.values.get(name)
+        choose(name, self.first(name), self.others.get(name))
     }
 
     /// Whether the name was defined.
     pub fn contains(&self, name: &[u8]) -> bool
         ensures { result ≡ list_any (bytes_eq name.now) (names_in self.now) }
     {
-        self.values.contains_key(name)
+        self.get(name).is_some()
     }
 }

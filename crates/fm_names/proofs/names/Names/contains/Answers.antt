@@ -1,6 +1,10 @@
-use Rattle.std.proofs.Common.{◌∙◌}
-use Rattle.fm_names.proofs.NameLemmas.{is_some-named}
+use Rattle.std.proofs.Common.{is_some, sym, ap, ◌∙◌}
+use Rattle.fm_names.proofs.NameLemmas.{is_some_copied, is_some-named}
 use Rattle.fm_names.proofs.names.Names.contains.Goals as goal
 
 pub returns : goal.returns
-returns g c = c.contains_key.ensures ∙ is_some-named c.args.self.now c.args.name.now
+returns g c =
+    c.is_some.ensures
+    ∙ sym (is_some_copied c.get.result)
+    ∙ ap is_some c.get.ensures
+    ∙ is_some-named c.args.self.now c.args.name.now
