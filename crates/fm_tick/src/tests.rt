@@ -44,6 +44,8 @@ fn slopes_round_down(rt: HostRuntime) -> Result<(), Fail> {
         (2, 2, 2_000, 1_000, 3),
         (3, 7, MAX_STRETCH, 1, 2_357),
         (7, 7, 1, MAX_STRETCH, 3_500),
+        (999_999, 1_000_000, MAX_STRETCH, 1, 500_000_499),
+        (1_000_001, 1_000_001, 1, MAX_STRETCH, 500_001_000),
         (MAX_TICK, MAX_TICK, MAX_STRETCH, 1, 549_756_363_643_813),
         (MAX_TICK - 1, MAX_TICK, 1, MAX_STRETCH, 549_756_363_642_813),
         (
