@@ -25,6 +25,3 @@ pub use quality::Quality;
 pub use step::{Instruction, Step};
 pub use tables::Tables;
 pub use walk::outline_of;
-
-#[cfg(test)]
-mod tests;

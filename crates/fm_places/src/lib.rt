@@ -18,6 +18,3 @@ mod walk;
 
 pub use fault::{PlaceFault, PlaceWhy};
 pub use walk::first_place_fault;
-
-#[cfg(test)]
-mod tests;

@@ -1,4 +1,7 @@
 //! Programs of small outlines.
+
+mod outlines;
+
 use crate::expand;
 use fm_lex::Spot;
 use fm_outline::{Instruction, Lasting, Outline, Step, Tables};

@@ -18,6 +18,3 @@ mod walk;
 
 pub use fault::{RangeFault, RangeWhy};
 pub use walk::first_range_fault;
-
-#[cfg(test)]
-mod tests;

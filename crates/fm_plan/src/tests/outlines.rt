@@ -1,6 +1,8 @@
-use crate::*;
+//! Outlines of small scores.
+
 use fm_grammar::{Entry, Item, Name, Number, Score, What};
 use fm_lex::Spot;
+use fm_outline::{Instruction, Lasting, outline_of};
 use std::alloc::AllocError;
 
 #[test]
