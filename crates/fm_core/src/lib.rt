@@ -14,8 +14,6 @@ mod reason;
 mod sight;
 mod step;
 mod tag;
-#[cfg(test)]
-mod tests;
 
 pub use cell::Cell;
 pub use due::Due;

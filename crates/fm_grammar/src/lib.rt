@@ -31,6 +31,3 @@ pub use number::Number;
 pub use part_text::PartText;
 pub use pitch::Pitch;
 pub use score::Score;
-
-#[cfg(test)]
-mod tests;

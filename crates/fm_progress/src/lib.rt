@@ -8,7 +8,5 @@
 #![tactic(auto)]
 
 mod laws;
-#[cfg(test)]
-mod tests;
 
 pub use laws::{freshness_needs_no_bounds, idle_is_what_it_says, never_stuck, plays_the_piece};
