@@ -1,5 +1,6 @@
 //! Texts that are accepted or refused.
 
+mod parsing;
 mod places;
 mod totals;
 

@@ -24,6 +24,3 @@ pub use fm_grammar::{
     Amount, Duration, Entry, Item, Length, Name, Number, PartText, Pitch, Score, What,
 };
 pub use text::parse;
-
-#[cfg(test)]
-mod tests;

@@ -1,5 +1,9 @@
-use crate::*;
+//! Texts that the parser reads or refuses. They stand here, above it, since a crate's tests have
+//! its code proved a second time, and the parser's takes longest.
+
+use fm_grammar::{Entry, Number};
 use fm_lex::{LexFault, MAX_TEXT, Spot};
+use fm_parse::{ParseFault, parse};
 use std::alloc::{AllocError, Global};
 use std::test::Fail;
 
