@@ -1,7 +1,7 @@
 //! Texts that the parser reads or refuses. They stand here, above it, since a crate's tests have
 //! its code proved a second time, and the parser's takes longest.
 
-use fm_grammar::{Entry, Number};
+use fm_grammar::Entry;
 use fm_lex::{LexFault, MAX_TEXT, Spot};
 use fm_parse::{ParseFault, parse};
 use std::alloc::{AllocError, Global};
@@ -33,16 +33,100 @@ repeat (r0) max 4 { volume 100 { } }
 warp s { par { branch { loud [1, 2] { } } branch { } } }
 ";
 
-fn at(column: u32) -> Spot {
-    Spot { line: 1, column }
-}
+const READ: &[&str] = &[
+    EVERY_FORM,
+    "formula 1;",
+    "formula 02; seed 7;",
+    "formula 1; note c4 1/7;",
+    "formula 1; note gs9 1/0;",
+    "formula 1; do x; warp x { }",
+    "formula 1; phrase a { } phrase a { }",
+    "formula 1; rest ticks (n0) max 5;",
+    "formula 1; repeat (pick(4)) max 4 { par { branch { } } }",
+];
 
-fn expected(column: u32) -> Option<ParseFault> {
-    Some(ParseFault::Expected { spot: at(column) })
-}
+/// Texts of one line with their faults.
+const REFUSED: &[(&str, Told)] = &[
+    ("", ("expected", 1)),
+    ("formula", ("expected", 8)),
+    ("formula 1; note c4,", ("expected", 20)),
+    ("formula 1; note c4 1/4", ("expected", 23)),
+    ("formula 1; note c4 1/4; }", ("expected", 25)),
+    ("formula 1; note 5A", ("expected", 17)),
+    ("formula 1; seed 1; seed 2;", ("expected", 20)),
+    ("formula 3; division 96;", ("expected", 12)),
+    ("formula 1; else { }", ("expected", 12)),
+    ("formula 1; par { }", ("expected", 18)),
+    ("formula 1; phrase p { shape s", ("expected", 23)),
+    ("formula 1; control 7 - -1;", ("expected", 24)),
+    ("formula 1; set r0 = 1 + ;", ("expected", 25)),
+    ("formula 1; set r0 = min(1);", ("expected", 26)),
+    ("formula 1; Note", ("bad byte", 12)),
+    ("formula 1A", ("bad byte", 10)),
+    ("formula 1a", ("bad number", 9)),
+    ("formula 1x;", ("bad number", 9)),
+];
 
-fn too_nested(column: u32) -> Option<ParseFault> {
-    Some(ParseFault::TooNested { spot: at(column) })
+/// How many blocks stand round a statement, the statement, and what is told of the text.
+const BRACES: &[(usize, &str, Told)] = &[
+    (64, "", READS),
+    (64, "if 1 { }", ("too nested", 396)),
+    (64, "else", ("expected", 396)),
+    (62, "par { branch { } }", READS),
+    (63, "par { branch { } }", ("too nested", 390)),
+    (63, "repeat (1) max 1 { note c4 1/4; }", READS),
+];
+
+/// What stands so many times before an operand, the operand, what stands as often behind it, and
+/// what is told of the text.
+const TOKENS: &[(&str, usize, &str, &str, Told)] = &[
+    ("-", 63, "1", "", READS),
+    ("-", 64, "1", "", ("too nested", 84)),
+    ("(", 31, "1", ")", READS),
+    ("(", 32, "1", ")", ("too nested", 52)),
+    ("pick(", 21, "1", ")", READS),
+    ("pick(", 22, "1", ")", ("too nested", 126)),
+    ("min(", 12, "1", ",2)", READS),
+    ("less(", 13, "1", ",2)", ("too nested", 81)),
+    ("max(1,", 12, "2", ")", READS),
+    ("same(1,", 13, "2", ")", ("too nested", 105)),
+    ("1+", 31, "-1", "", READS),
+    ("1+", 32, "1", "", ("too nested", 84)),
+    ("1*", 32, "1", "", ("too nested", 84)),
+    ("1*", 31, "1 1", "", ("expected", 85)),
+];
+
+/// The deepest expressions, written as above.
+const DEEPEST: &[(&str, usize, &str, &str)] = &[
+    ("-", 63, "1", ""),
+    ("(", 31, "1", ")"),
+    ("pick(", 21, "1", ")"),
+    ("same(1,", 12, "2", ")"),
+];
+
+const SAID: &[(&str, &str)] = &[
+    ("formula 1; Note", "1:12: no token begins with this byte"),
+    ("formula", "1:8: this token can't stand here"),
+];
+
+/// A fault and its column.
+type Told = (&'static str, u32);
+
+const READS: Told = ("reads", 0);
+
+// What the parser tells of a text of one line.
+fn told(alloc: Global, text: &str) -> Told {
+    if text.len() > MAX_TEXT {
+        return ("too much text", 0);
+    }
+    match parse(alloc, text.as_bytes()) {
+        Ok(_) => READS,
+        Err(ParseFault::Expected { spot }) => ("expected", spot.column),
+        Err(ParseFault::TooNested { spot }) => ("too nested", spot.column),
+        Err(ParseFault::Lex(LexFault::BadByte { spot })) => ("bad byte", spot.column),
+        Err(ParseFault::Lex(LexFault::BadNumber { spot })) => ("bad number", spot.column),
+        Err(ParseFault::Memory) => ("out of memory", 0),
+    }
 }
 
 // A text: `before`, a beginning so many times, `middle`, and an end as many times.
@@ -70,21 +154,16 @@ fn nested(
 fn a_score_of_four_voices(rt: HostRuntime) -> Result<(), Fail> {
     assert!(rt; FOUR_VOICES.len() <= MAX_TEXT);
     let score = parse(rt.alloc(), FOUR_VOICES.as_bytes())?;
-    assert_eq!(rt;
-        score.version,
-        Number {
-            value: 1,
-            spot: at(9)
-        }
-    );
-    let spot = Spot { line: 2, column: 6 };
-    assert_eq!(rt; score.seed, Some(Number { value: 42, spot }));
-    assert_eq!(rt; score.entries.len(), 4);
+    let seed = score.seed.map(|number| number.value);
+    let numbers = (score.version.value, seed, score.entries.len());
+    assert_eq!(rt; numbers, (1, Some(42), 4));
     match score.entries.first() {
         Some(Entry::Shape { name, parts }) => {
-            assert_eq!(rt; name.text, b"rubato".as_slice());
-            assert_eq!(rt; name.spot, Spot { line: 3, column: 7 });
-            assert_eq!(rt; parts.len(), 3);
+            let spot = Spot { line: 3, column: 7 };
+            assert_eq!(rt;
+                (name.text, name.spot, parts.len()),
+                (b"rubato".as_slice(), spot, 3)
+            );
         }
         _ => assert!(rt; false, "the first entry is a shape"),
     }
@@ -93,101 +172,34 @@ fn a_score_of_four_voices(rt: HostRuntime) -> Result<(), Fail> {
 
 #[test]
 fn texts_that_read(rt: HostRuntime) {
-    for text in [
-        EVERY_FORM,
-        "formula 1;",
-        "formula 02; seed 7;",
-        "formula 1; note c4 1/7;",
-        "formula 1; note gs9 1/0;",
-        "formula 1; do x; warp x { }",
-        "formula 1; phrase a { } phrase a { }",
-        "formula 1; rest ticks (n0) max 5;",
-        "formula 1; repeat (pick(4)) max 4 { par { branch { } } }",
-    ] {
-        assert!(rt; text.len() <= MAX_TEXT);
-        let found = parse(rt.alloc(), text.as_bytes()).err();
-        assert_eq!(rt; found, None, "at {text}");
+    for text in READ {
+        assert_eq!(rt; told(rt.alloc(), text), READS, "at {text}");
     }
 }
 
 #[test]
 fn faults_at_their_tokens(rt: HostRuntime) {
-    let byte = |column| Some(ParseFault::Lex(LexFault::BadByte { spot: at(column) }));
-    let number = |column| Some(ParseFault::Lex(LexFault::BadNumber { spot: at(column) }));
-    for (text, fault) in [
-        ("", expected(1)),
-        ("formula", expected(8)),
-        ("formula 1; note c4,", expected(20)),
-        ("formula 1; note c4 1/4", expected(23)),
-        ("formula 1; note c4 1/4; }", expected(25)),
-        ("formula 1; note 5A", expected(17)),
-        ("formula 1; seed 1; seed 2;", expected(20)),
-        ("formula 3; division 96;", expected(12)),
-        ("formula 1; else { }", expected(12)),
-        ("formula 1; par { }", expected(18)),
-        ("formula 1; phrase p { shape s", expected(23)),
-        ("formula 1; control 7 - -1;", expected(24)),
-        ("formula 1; set r0 = 1 + ;", expected(25)),
-        ("formula 1; set r0 = min(1);", expected(26)),
-        ("formula 1; Note", byte(12)),
-        ("formula 1A", byte(10)),
-        ("formula 1a", number(9)),
-        ("formula 1x;", number(9)),
-    ] {
-        assert!(rt; text.len() <= MAX_TEXT);
-        let found = parse(rt.alloc(), text.as_bytes()).err();
-        assert_eq!(rt; found, fault, "at {text}");
+    for (text, fault) in REFUSED {
+        assert_eq!(rt; told(rt.alloc(), text), *fault, "at {text}");
     }
 }
 
 #[test]
 fn both_sides_of_the_limit_of_braces(rt: HostRuntime) -> Result<(), AllocError> {
-    for (times, middle, fault) in [
-        (64, "", None),
-        (64, "if 1 { }", too_nested(396)),
-        (64, "else", expected(396)),
-        (62, "par { branch { } }", None),
-        (63, "par { branch { } }", too_nested(390)),
-        (63, "repeat (1) max 1 { note c4 1/4; }", None),
-    ] {
-        let text = nested(rt.alloc(), "formula 1; ", "if 1 {", times, middle, "}")?;
-        assert!(rt; text.len() <= MAX_TEXT);
-        let found = parse(rt.alloc(), text.as_bytes()).err();
-        assert_eq!(rt; found, fault, "at {text}");
+    for (times, middle, want) in BRACES {
+        let text = nested(rt.alloc(), "formula 1; ", "if 1 {", *times, middle, "}")?;
+        assert_eq!(rt; told(rt.alloc(), &text), *want, "at {text}");
     }
     Ok(())
 }
 
 #[test]
 fn both_sides_of_the_limit_of_tokens(rt: HostRuntime) -> Result<(), AllocError> {
-    for (begins, times, middle, ends, fault) in [
-        ("-", 63, "1", "", None),
-        ("-", 64, "1", "", too_nested(84)),
-        ("(", 31, "1", ")", None),
-        ("(", 32, "1", ")", too_nested(52)),
-        ("pick(", 21, "1", ")", None),
-        ("pick(", 22, "1", ")", too_nested(126)),
-        ("min(", 12, "1", ",2)", None),
-        ("less(", 13, "1", ",2)", too_nested(81)),
-        ("max(1,", 12, "2", ")", None),
-        ("same(1,", 13, "2", ")", too_nested(105)),
-        ("1+", 31, "-1", "", None),
-        ("1+", 32, "1", "", too_nested(84)),
-        ("1*", 32, "1", "", too_nested(84)),
-        ("1*", 31, "1 1", "", expected(85)),
-    ] {
-        let text = nested(
-            rt.alloc(),
-            "formula 1; set r0 = ",
-            begins,
-            times,
-            middle,
-            ends,
-        )?;
-        let whole = format!(in rt.alloc(); "{text};")?;
-        assert!(rt; whole.len() <= MAX_TEXT);
-        let found = parse(rt.alloc(), whole.as_bytes()).err();
-        assert_eq!(rt; found, fault, "at {text}");
+    let alloc = rt.alloc();
+    for (begins, times, middle, ends, want) in TOKENS {
+        let text = nested(alloc, "formula 1; set r0 = ", begins, *times, middle, ends)?;
+        let whole = format!(in alloc; "{text};")?;
+        assert_eq!(rt; told(alloc, &whole), *want, "at {text}");
     }
     Ok(())
 }
@@ -196,33 +208,25 @@ fn both_sides_of_the_limit_of_tokens(rt: HostRuntime) -> Result<(), AllocError> 
 // and each expression has its own count.
 #[test]
 fn the_deepest_texts(rt: HostRuntime) -> Result<(), AllocError> {
-    for (begins, times, middle, ends) in [
-        ("-", 63, "1", ""),
-        ("(", 31, "1", ")"),
-        ("pick(", 21, "1", ")"),
-        ("same(1,", 12, "2", ")"),
-    ] {
-        let deep = nested(rt.alloc(), "", begins, times, middle, ends)?;
-        let note = format!(in rt.alloc(); "note key ({deep}), key ({deep}) ticks ({deep}) max 1;")?;
-        let block = format!(in rt.alloc(); "repeat ({deep}) max 1 {{")?;
-        let text = nested(rt.alloc(), "formula 1;", &block, 64, &note, "}")?;
-        assert!(rt; text.len() <= MAX_TEXT);
-        let found = parse(rt.alloc(), text.as_bytes()).err();
-        assert_eq!(rt; found, None, "at {text}");
+    let alloc = rt.alloc();
+    for (begins, times, middle, ends) in DEEPEST {
+        let deep = nested(alloc, "", begins, *times, middle, ends)?;
+        let note = format!(in alloc; "note key ({deep}), key ({deep}) ticks ({deep}) max 1;")?;
+        let block = format!(in alloc; "repeat ({deep}) max 1 {{")?;
+        let text = nested(alloc, "formula 1;", &block, 64, &note, "}")?;
+        assert_eq!(rt; told(alloc, &text), READS, "at {text}");
     }
     Ok(())
 }
 
 #[test]
 fn texts_of_faults(rt: HostRuntime) -> Result<(), AllocError> {
-    for (text, said) in [
-        ("formula 1; Note", "1:12: no token begins with this byte"),
-        ("formula", "1:8: this token can't stand here"),
-    ] {
-        assert!(rt; text.len() <= MAX_TEXT);
-        match parse(rt.alloc(), text.as_bytes()) {
-            Ok(_) => assert!(rt; false, "{text}"),
-            Err(fault) => assert_eq!(rt; format!(in rt.alloc(); "{fault}")?.as_str(), said),
+    for (text, said) in SAID {
+        if text.len() <= MAX_TEXT {
+            match parse(rt.alloc(), text.as_bytes()) {
+                Ok(_) => assert!(rt; false, "{text}"),
+                Err(fault) => assert_eq!(rt; format!(in rt.alloc(); "{fault}")?.as_str(), *said),
+            }
         }
     }
     Ok(())
