@@ -6,7 +6,7 @@ ghost use Rattle.fm_lex.specs.Bytes.{after_byte, spot_text};
 use std::fmt;
 
 /// A place in a text. Lines and columns count from 1, and a column counts bytes.
-#[derive(Clone, Copy, Debug, PartialEq, Eq, Hash)]
+#[derive(Clone, Copy, Debug, PartialEq, Eq)]
 pub struct Spot {
     pub line: u32,
     pub column: u32,

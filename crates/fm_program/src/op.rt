@@ -73,7 +73,7 @@ pub enum Point {
 
 /// An operation of a program. Expressions, lists, chords, scopes and warps are given by their
 /// places in the tables of the stock; `past`, `target` and `back` are places in the program.
-#[derive(Clone, Copy, Debug, PartialEq, Eq)]
+#[derive(Clone, Copy, PartialEq, Eq)]
 pub enum Op {
     /// Note-ons, then note-offs after `gate` percent of the duration; the position moves on.
     Note {
