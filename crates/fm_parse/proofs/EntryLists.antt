@@ -2,11 +2,9 @@
 use Rattle.std.proofs.Common.{◌≡◌, ℕ, ◌<◌, List, [], ◌∷◌, ◌++◌, Option, None, Result, Err, length, map, refl, sym, ap, ◌∙◌, subst, arith}
 use Rattle.std.specs.Prelude.{◌≢◌}
 use Rattle.std.proofs.lemmas.List.{map-append}
-use Rattle.std.proofs.lemmas.Bool.Decides.{nat_tests}
-use Rattle.fm_lex.specs.declared.kind.Kind.{Kind}
-use Rattle.fm_lex.specs.declared.kind.Kind.TheVariants.{Name, Number, Pitch, Register, Index, Symbol, End}
+use Rattle.fm_lex.specs.declared.kind.Kind.TheVariants.{Name}
 use Rattle.fm_lex.specs.declared.kind.Kind.TheVariants as kinds
-use Rattle.fm_lex.specs.declared.keyword.Keyword.TheVariants.{Shape, Phrase, Note, Play, Rest, Skip, Control, Program, Bend, Set, If, Repeat, Do, Warp, Par, Channel, Volume, Gate, Rhythm, Artic, Loud}
+use Rattle.fm_lex.specs.declared.keyword.Keyword.TheVariants.{Shape, Phrase}
 use Rattle.fm_lex.specs.Tokens.{Lexed}
 use Rattle.fm_grammar.specs.declared.entry.Entry as code_entry
 use Rattle.fm_grammar.specs.View.{entry_view}
@@ -15,14 +13,15 @@ use Rattle.fm_grammar.specs.Signs.{semicolon, equals, tok}
 use Rattle.fm_grammar.specs.Spelling.{entry_text, entries_text, part_text}
 use Rattle.fm_grammar.specs.Standing.{entry_tree, entries_tree}
 use Rattle.fm_grammar.specs.Reads.{Fault}
-use Rattle.fm_grammar.specs.Rules.{Sym, one, entries, kind_code, rules_of, parts, with_commas, block}
-use Rattle.fm_grammar.specs.Table.{taking, opened}
+use Rattle.fm_grammar.specs.Rules.{Sym, one, entries, parts, with_commas, block}
+use Rattle.fm_grammar.specs.Table.{opened}
 use Rattle.fm_parse.specs.declared.fault.ParseFault.{ParseFault}
 use Rattle.fm_parse.specs.Reader.{first_kind}
 use Rattle.fm_parse.specs.Follow.{At, Says, Spelt, IsThere}
 use Rattle.fm_parse.specs.Statements.{starter}
 use Rattle.fm_parse.specs.Whole.{EntryLeads, shape_syms, phrase_syms}
 use Rattle.fm_parse.proofs.Steps.{begun, skipped}
+use Rattle.fm_parse.proofs.StmtRules.{no_entry_rule}
 use Rattle.fm_parse.proofs.Lengths.{part_more}
 use Rattle.fm_parse.proofs.StmtLengths.{listed_more, block_more, stmt_more}
 
@@ -47,38 +46,6 @@ module _ (l : List Lexed) (there : IsThere l) (F : Option Fault) (u : ℕ) (belo
   at_phrase same d a =
       begun there.token l there.is F u entries (kinds.Keyword Phrase) (one Name ∷ block (entries ∷ [])) below refl
       (sym (ap first_kind there.is) ∙ same) refl (omega (arith, d, a.braces)) (omega (arith, a.tokens)) a
-
-no_entry_rule : (k : Kind) → starter k ≡ None → k ≢ kinds.Keyword Shape → k ≢ kinds.Keyword Phrase
-    → taking (kind_code k) (rules_of entries) ≡ None
-no_entry_rule Name none s p = refl
-no_entry_rule (Number n) none s p = refl
-no_entry_rule (Pitch n) none s p = refl
-no_entry_rule (Register n) none s p = refl
-no_entry_rule (Index n) none s p = refl
-no_entry_rule End none s p = refl
-no_entry_rule (Symbol b) none s p = grind (arith, nat_tests)
-no_entry_rule (kinds.Keyword Shape) none s p = absurd (s refl)
-no_entry_rule (kinds.Keyword Phrase) none s p = absurd (p refl)
-no_entry_rule (kinds.Keyword Note) none s p = cc
-no_entry_rule (kinds.Keyword Play) none s p = cc
-no_entry_rule (kinds.Keyword Rest) none s p = cc
-no_entry_rule (kinds.Keyword Skip) none s p = cc
-no_entry_rule (kinds.Keyword Control) none s p = cc
-no_entry_rule (kinds.Keyword Program) none s p = cc
-no_entry_rule (kinds.Keyword Bend) none s p = cc
-no_entry_rule (kinds.Keyword Set) none s p = cc
-no_entry_rule (kinds.Keyword If) none s p = cc
-no_entry_rule (kinds.Keyword Repeat) none s p = cc
-no_entry_rule (kinds.Keyword Do) none s p = cc
-no_entry_rule (kinds.Keyword Warp) none s p = cc
-no_entry_rule (kinds.Keyword Par) none s p = cc
-no_entry_rule (kinds.Keyword Channel) none s p = cc
-no_entry_rule (kinds.Keyword Volume) none s p = cc
-no_entry_rule (kinds.Keyword Gate) none s p = cc
-no_entry_rule (kinds.Keyword Rhythm) none s p = cc
-no_entry_rule (kinds.Keyword Artic) none s p = cc
-no_entry_rule (kinds.Keyword Loud) none s p = cc
-no_entry_rule (kinds.Keyword w) none s p = refl
 
 pub ends_entries : (l : List Lexed) (there : IsThere l) (F : Option Fault) (u : ℕ) (below : List Sym)
     → starter (first_kind l) ≡ None

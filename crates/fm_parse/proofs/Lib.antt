@@ -1,4 +1,5 @@
 pub mod Steps
+pub mod StmtRules
 pub mod Opening
 pub mod Marks
 pub mod Insides

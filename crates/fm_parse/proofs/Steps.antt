@@ -1,6 +1,6 @@
 -- One token more, on the stack of the symbols that must still come.
 use Rattle.std.proofs.Common.{◌≡◌, ℕ, ◌+◌, ◌<◌, ◌≤◌, ◌⊎◌, inl, inr, Bool, true, false, cond, List, [], ◌∷◌, ◌++◌, Option, Some, None, Result, Ok, Err, refl, sym, ap, ◌∙◌, subst, arith, max}
-use Rattle.std.specs.Prelude.{◌==◌, ◌≢◌, OnOk, IfErr}
+use Rattle.std.specs.Prelude.{◌==◌, ◌≢◌, OnOk, IfErr, IsErrAnd}
 use Rattle.std.proofs.lemmas.Bool.Decides.{nat_tests}
 use Rattle.fm_lex.specs.declared.kind.Kind.{Kind}
 use Rattle.fm_lex.specs.Tokens.{Lexeme, Lexed}
@@ -81,6 +81,11 @@ lexical_here F u ss (Lex f) l a is = sym a.trips ∙ ap (trip limits u ss) is
 lexical_here F u ss (Expected s) l a is = absurd is
 lexical_here F u ss (TooNested s) l a is = absurd is
 lexical_here F u ss Memory l a is = absurd is
+
+-- the answer of a call that hands a fault on
+pub passed : {A : Type 0} (r : Result A ParseFault) (e : ParseFault) → IsErrAnd r (λ x. x ≡ e) → r ≡ Err e
+passed (Ok x) e is = absurd is
+passed (Err x) e is = ap Err is
 
 -- an answer that hands a fault on
 pub handed : {A : Type 0} (F : Option Fault) (u : ℕ) (ss : List Sym) (r : Result A ParseFault) (e : ParseFault)

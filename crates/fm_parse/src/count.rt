@@ -4,7 +4,7 @@ use fm_grammar::Number;
 use fm_value::Expr;
 
 /// How often, or how long: a number, or what an expression gives, at most `most`.
-#[derive(Debug, Drop)]
+#[derive(Drop)]
 pub enum Count {
     Fixed { number: Number },
     Drawn { value: Expr, most: Number },

@@ -3,7 +3,7 @@
 use fm_grammar::Number;
 
 /// The version of a score, and its seed.
-#[derive(Clone, Copy, Debug, PartialEq, Eq)]
+#[derive(Clone, Copy)]
 pub struct Head {
     pub version: Number,
     pub seed: Option<Number>,

@@ -1,6 +1,5 @@
 -- Entries, until none begins.
-use Rattle.std.proofs.Common.{◌≡◌, Err, Some, None, Option, List, Ok, length, map, refl, ap, ◌∙◌, subst, arith}
-use Rattle.std.proofs.lemmas.Grind.{common_steps}
+use Rattle.std.proofs.Common.{◌≡◌, Some, None, Option, List, Ok, length, map, refl, ap, ◌∙◌, subst, arith}
 use Rattle.fm_grammar.specs.declared.entry.Entry as code_entry
 use Rattle.fm_grammar.specs.View.{entry_view}
 use Rattle.fm_grammar.specs.Grammar.{no_entry}
@@ -9,7 +8,7 @@ use Rattle.fm_lex.specs.Tokens.{Lexed}
 use Rattle.fm_grammar.specs.Reads.{Fault}
 use Rattle.fm_grammar.specs.Rules.{Sym, entries}
 use Rattle.fm_parse.specs.Whole.{EntryRead, EntryLeads}
-use Rattle.fm_parse.proofs.Steps.{handed, no_memory, outer_zero}
+use Rattle.fm_parse.proofs.Steps.{passed, handed, no_memory, outer_zero}
 use Rattle.fm_parse.proofs.EntryLists.{one_entered, entry_more}
 use Rattle.fm_parse.proofs.entries.read_entries.Goals as goal
 
@@ -24,13 +23,13 @@ loop-list-init c = record {
 pub returns-in_err-found-clause-follows : goal.returns-in_err-found-clause-follows
 returns-in_err-found-clause-follows c = λ F u below d a.
     let e = c.in_err-found.field-0.0 in
-    let is : c.from_residual.result ≡ Err e = grind (arith, common_steps) in
+    let is = passed c.from_residual.result e c.from_residual.ensures.1 in
     handed F 0 below _ e _ is (c.in_err-found.ensures.follows F 0 below d (c.loop-list.invariant.leads F u below d a))
 
 pub returns-in_err-push-clause-follows : goal.returns-in_err-push-clause-follows
 returns-in_err-push-clause-follows c = λ F u below d a.
     let e = c.in_err-push.field-0.0 in
-    let is : c.from_residual-in_err-push.result ≡ Err e = grind (arith, common_steps) in
+    let is = passed c.from_residual-in_err-push.result e c.from_residual-in_err-push.ensures.1 in
     handed F 0 below _ e _ is (no_memory F e c.in_err-push.ensures.memory)
 
 found_text : (x y : Option code_entry.Entry) (old new : List Lexed) → x ≡ y → EntryRead x old new → EntryRead y old new

@@ -1,30 +1,30 @@
 -- A definition of a phrase.
-use Rattle.std.proofs.Common.{◌≡◌, ◌∷◌, Err, refl, ap, arith}
-use Rattle.std.proofs.lemmas.Grind.{common_steps}
+use Rattle.std.proofs.Common.{◌∷◌, refl, ap}
 use Rattle.fm_grammar.specs.Grammar as forms
 use Rattle.fm_grammar.specs.Score as tree
 use Rattle.fm_grammar.specs.View.{name_view}
 use Rattle.fm_parse.proofs.EntryLists.{entry_stopped}
 use Rattle.fm_grammar.specs.Rules.{entries}
 use Rattle.fm_parse.specs.Follow.{leaf_at}
+use Rattle.fm_parse.proofs.Steps.{passed}
 use Rattle.fm_parse.proofs.entries.read_phrase.Goals as goal
 
 pub returns-in_err-expect-clause-follows : goal.returns-in_err-expect-clause-follows
 returns-in_err-expect-clause-follows c = λ F u below d a.
     let e = c.in_err-expect.field-0.0 in
-    let is : c.from_residual.result ≡ Err e = grind (arith, common_steps) in
+    let is = passed c.from_residual.result e c.from_residual.ensures.1 in
     entry_stopped F below _ e _ is (c.in_err-expect.ensures.follows F u _ a)
 
 pub returns-in_err-name-clause-follows : goal.returns-in_err-name-clause-follows
 returns-in_err-name-clause-follows c = λ F u below d a.
     let e = c.in_err-name.field-0.0 in
-    let is : c.from_residual-in_err-name.result ≡ Err e = grind (arith, common_steps) in
+    let is = passed c.from_residual-in_err-name.result e c.from_residual-in_err-name.ensures.1 in
     entry_stopped F below _ e _ is (c.in_err-name.ensures.follows F 0 _ (c.in_ok-expect.ensures.follows F u _ a))
 
 pub returns-in_err-body-clause-follows : goal.returns-in_err-body-clause-follows
 returns-in_err-body-clause-follows c = λ F u below d a.
     let e = c.in_err-body.field-0.0 in
-    let is : c.from_residual-in_err-body.result ≡ Err e = grind (arith, common_steps) in
+    let is = passed c.from_residual-in_err-body.result e c.from_residual-in_err-body.ensures.1 in
     entry_stopped F below _ e _ is (c.in_err-body.ensures.follows F 0 (entries ∷ below) d (c.in_ok-name.ensures.follows
     F 0 _ (c.in_ok-expect.ensures.follows F u _ a)))
 

@@ -1,17 +1,17 @@
 -- A statement that is played.
-use Rattle.std.proofs.Common.{◌≡◌, Err, ap, arith}
-use Rattle.std.proofs.lemmas.Grind.{common_steps}
+use Rattle.std.proofs.Common.{ap}
 use Rattle.fm_grammar.specs.Grammar as forms
 use Rattle.fm_grammar.specs.Score as tree
 use Rattle.fm_grammar.specs.View.{PlacedStmt}
 use Rattle.fm_parse.proofs.EntryLists.{entry_stopped}
 use Rattle.fm_grammar.specs.Rules.{entries}
+use Rattle.fm_parse.proofs.Steps.{passed}
 use Rattle.fm_parse.proofs.entries.read_played.Goals as goal
 
 pub returns-in_err-item-clause-follows : goal.returns-in_err-item-clause-follows
 returns-in_err-item-clause-follows c = λ F u below d a.
     let e = c.in_err-item.field-0.0 in
-    let is : c.from_residual.result ≡ Err e = grind (arith, common_steps) in
+    let is = passed c.from_residual.result e c.from_residual.ensures.1 in
     entry_stopped F below _ e _ is (c.in_err-item.ensures.follows F u entries below tt d a)
 
 pub returns-clause-follows : goal.returns-clause-follows

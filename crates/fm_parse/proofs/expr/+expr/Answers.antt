@@ -1,12 +1,11 @@
 -- Each function of an expression follows the table, and grows the draft by the nodes of its form.
-use Rattle.std.proofs.Common.{◌≡◌, ◌+◌, Err, refl, ap, ◌∙◌, arith}
-use Rattle.std.proofs.lemmas.Grind.{common_steps}
+use Rattle.std.proofs.Common.{◌+◌, refl, ap, ◌∙◌, arith}
 use Rattle.fm_lex.specs.declared.kind.Kind.TheVariants as kinds
 use Rattle.fm_grammar.specs.Signs.{close_parenthesis}
 use Rattle.fm_grammar.specs.Grammar.{negate, group, pick, compare, no_term, term, no_sum, sum, expr}
 use Rattle.fm_grammar.specs.Rules.{factor, kind_code, rules_of}
 use Rattle.fm_grammar.specs.Table.{taking}
-use Rattle.fm_parse.proofs.Steps.{deep_says, kind_there, no_memory, recount}
+use Rattle.fm_parse.proofs.Steps.{passed, deep_says, kind_there, no_memory, recount}
 use Rattle.fm_parse.proofs.Insides.{owes_sign, owes_terms, owes_sums, owes_second, at_minus, deep_minus, at_group, deep_group, at_pick, deep_pick, at_compared, deep_compared, at_scaling, deep_scaling, no_scaling, at_adding, deep_adding, no_adding, stopped, deep_here, marked_scaling, marked_adding, marked_comparing, no_factor, no_function}
 use Rattle.fm_parse.proofs.Pieces.{compared_text, compared_nodes, scaled_text, scaled_nodes, added_text, added_nodes}
 use Rattle.fm_parse.proofs.Drafting.{extended-none, extended-twice}
@@ -16,7 +15,7 @@ use Rattle.fm_parse.proofs.expr.+expr.Goals as goal
 pub read_negated-returns-in_err-check_limit-clause-follows : goal.read_negated-returns-in_err-check_limit-clause-follows
 read_negated-returns-in_err-check_limit-clause-follows t c = λ F below o a.
     let e = c.in_err-check_limit.field-0.0 in
-    let is : c.from_residual.result ≡ Err e = grind (arith, common_steps) in
+    let is = passed c.from_residual.result e c.from_residual.ensures.1 in
     stopped F below _ e _ is (deep_says F _ _ e _ c.in_err-check_limit.ensures.deep
     (deep_minus c.in_err-check_limit.ensures.deep.token _ c.in_err-check_limit.ensures.deep.is F c.args.used
     c.args.owed below o (kind_there c.in_err-check_limit.ensures.deep.token _ _ c.in_err-check_limit.ensures.deep.is
@@ -25,7 +24,7 @@ read_negated-returns-in_err-check_limit-clause-follows t c = λ F below o a.
 pub read_negated-returns-in_err-minus-clause-follows : goal.read_negated-returns-in_err-minus-clause-follows
 read_negated-returns-in_err-minus-clause-follows t c = λ F below o a.
     let e = c.in_err-minus.field-0.0 in
-    let is : c.from_residual-in_err-minus.result ≡ Err e = grind (arith, common_steps) in
+    let is = passed c.from_residual-in_err-minus.result e c.from_residual-in_err-minus.ensures.1 in
     stopped F below _ e _ is (c.in_err-minus.ensures.inside F _ _ (at_minus c.in_ok-check_limit.ensures.there.token _
     c.in_ok-check_limit.ensures.there.is F c.args.used c.args.owed below o
     (kind_there c.in_ok-check_limit.ensures.there.token _ _ c.in_ok-check_limit.ensures.there.is c.requires.first)
@@ -34,7 +33,7 @@ read_negated-returns-in_err-minus-clause-follows t c = λ F below o a.
 pub read_negated-returns-in_err-count-clause-follows : goal.read_negated-returns-in_err-count-clause-follows
 read_negated-returns-in_err-count-clause-follows t c = λ F below o a.
     let e = c.in_err-count.field-0.0 in
-    let is : c.from_residual-in_err-count.result ≡ Err e = grind (arith, common_steps) in
+    let is = passed c.from_residual-in_err-count.result e c.from_residual-in_err-count.ensures.1 in
     stopped F below _ e _ is (c.in_err-count.ensures.follows F _ o (c.in_ok-minus.ensures.inside F _ _
     (at_minus c.in_ok-check_limit.ensures.there.token _ c.in_ok-check_limit.ensures.there.is F c.args.used
     c.args.owed below o (kind_there c.in_ok-check_limit.ensures.there.token _ _ c.in_ok-check_limit.ensures.there.is
@@ -43,7 +42,7 @@ read_negated-returns-in_err-count-clause-follows t c = λ F below o a.
 pub read_negated-returns-in_err-push_node-clause-follows : goal.read_negated-returns-in_err-push_node-clause-follows
 read_negated-returns-in_err-push_node-clause-follows t c = λ F below o a.
     let e = c.in_err-push_node.field-0.0 in
-    let is : c.from_residual-in_err-push_node.result ≡ Err e = grind (arith, common_steps) in
+    let is = passed c.from_residual-in_err-push_node.result e c.from_residual-in_err-push_node.ensures.1 in
     stopped F below _ e _ is (no_memory F e c.in_err-push_node.ensures.memory)
 
 pub read_negated-returns-clause-follows : goal.read_negated-returns-clause-follows
@@ -63,7 +62,7 @@ read_negated-returns-clause-text t c = record {
 pub read_group-returns-in_err-check_limit-clause-follows : goal.read_group-returns-in_err-check_limit-clause-follows
 read_group-returns-in_err-check_limit-clause-follows t c = λ F below o a.
     let e = c.in_err-check_limit.field-0.0 in
-    let is : c.from_residual.result ≡ Err e = grind (arith, common_steps) in
+    let is = passed c.from_residual.result e c.from_residual.ensures.1 in
     stopped F below _ e _ is (deep_says F _ _ e _ c.in_err-check_limit.ensures.deep
     (deep_group c.in_err-check_limit.ensures.deep.token _ c.in_err-check_limit.ensures.deep.is F c.args.used
     c.args.owed below o (kind_there c.in_err-check_limit.ensures.deep.token _ _ c.in_err-check_limit.ensures.deep.is
@@ -72,7 +71,7 @@ read_group-returns-in_err-check_limit-clause-follows t c = λ F below o a.
 pub read_group-returns-in_err-expect-clause-follows : goal.read_group-returns-in_err-expect-clause-follows
 read_group-returns-in_err-expect-clause-follows t c = λ F below o a.
     let e = c.in_err-expect.field-0.0 in
-    let is : c.from_residual-in_err-expect.result ≡ Err e = grind (arith, common_steps) in
+    let is = passed c.from_residual-in_err-expect.result e c.from_residual-in_err-expect.ensures.1 in
     stopped F below _ e _ is (c.in_err-expect.ensures.inside F _ _ (at_group c.in_ok-check_limit.ensures.there.token _
     c.in_ok-check_limit.ensures.there.is F c.args.used c.args.owed below o
     (kind_there c.in_ok-check_limit.ensures.there.token _ _ c.in_ok-check_limit.ensures.there.is c.requires.first)
@@ -81,7 +80,7 @@ read_group-returns-in_err-expect-clause-follows t c = λ F below o a.
 pub read_group-returns-in_err-count-clause-follows : goal.read_group-returns-in_err-count-clause-follows
 read_group-returns-in_err-count-clause-follows t c = λ F below o a.
     let e = c.in_err-count.field-0.0 in
-    let is : c.from_residual-in_err-count.result ≡ Err e = grind (arith, common_steps) in
+    let is = passed c.from_residual-in_err-count.result e c.from_residual-in_err-count.ensures.1 in
     stopped F below _ e _ is (c.in_err-count.ensures.follows F _ (owes_sign close_parenthesis below _ o)
     (c.in_ok-expect.ensures.inside F _ _ (at_group c.in_ok-check_limit.ensures.there.token _
     c.in_ok-check_limit.ensures.there.is F c.args.used c.args.owed below o
@@ -91,7 +90,7 @@ read_group-returns-in_err-count-clause-follows t c = λ F below o a.
 pub read_group-returns-in_err-expect-2-clause-follows : goal.read_group-returns-in_err-expect-2-clause-follows
 read_group-returns-in_err-expect-2-clause-follows t c = λ F below o a.
     let e = c.in_err-expect-2.field-0.0 in
-    let is : c.from_residual-in_err-expect-2.result ≡ Err e = grind (arith, common_steps) in
+    let is = passed c.from_residual-in_err-expect-2.result e c.from_residual-in_err-expect-2.ensures.1 in
     stopped F below _ e _ is (c.in_err-expect-2.ensures.inside F _ _ (c.in_ok-count.ensures.follows F _
     (owes_sign close_parenthesis below _ o) (c.in_ok-expect.ensures.inside F _ _
     (at_group c.in_ok-check_limit.ensures.there.token _ c.in_ok-check_limit.ensures.there.is F c.args.used
@@ -117,7 +116,7 @@ read_group-returns-clause-text t c = record {
 pub read_pick-returns-in_err-check_limit-clause-follows : goal.read_pick-returns-in_err-check_limit-clause-follows
 read_pick-returns-in_err-check_limit-clause-follows t c = λ F below o a.
     let e = c.in_err-check_limit.field-0.0 in
-    let is : c.from_residual.result ≡ Err e = grind (arith, common_steps) in
+    let is = passed c.from_residual.result e c.from_residual.ensures.1 in
     stopped F below _ e _ is (deep_says F _ _ e _ c.in_err-check_limit.ensures.deep
     (deep_pick c.in_err-check_limit.ensures.deep.token _ c.in_err-check_limit.ensures.deep.is F c.args.used
     c.args.owed below o (kind_there c.in_err-check_limit.ensures.deep.token _ _ c.in_err-check_limit.ensures.deep.is
@@ -126,7 +125,7 @@ read_pick-returns-in_err-check_limit-clause-follows t c = λ F below o a.
 pub read_pick-returns-in_err-word-clause-follows : goal.read_pick-returns-in_err-word-clause-follows
 read_pick-returns-in_err-word-clause-follows t c = λ F below o a.
     let e = c.in_err-word.field-0.0 in
-    let is : c.from_residual-in_err-word.result ≡ Err e = grind (arith, common_steps) in
+    let is = passed c.from_residual-in_err-word.result e c.from_residual-in_err-word.ensures.1 in
     stopped F below _ e _ is (c.in_err-word.ensures.inside F _ _ (at_pick c.in_ok-check_limit.ensures.there.token _
     c.in_ok-check_limit.ensures.there.is F c.args.used c.args.owed below o
     (kind_there c.in_ok-check_limit.ensures.there.token _ _ c.in_ok-check_limit.ensures.there.is c.requires.first)
@@ -135,7 +134,7 @@ read_pick-returns-in_err-word-clause-follows t c = λ F below o a.
 pub read_pick-returns-in_err-expect-clause-follows : goal.read_pick-returns-in_err-expect-clause-follows
 read_pick-returns-in_err-expect-clause-follows t c = λ F below o a.
     let e = c.in_err-expect.field-0.0 in
-    let is : c.from_residual-in_err-expect.result ≡ Err e = grind (arith, common_steps) in
+    let is = passed c.from_residual-in_err-expect.result e c.from_residual-in_err-expect.ensures.1 in
     stopped F below _ e _ is (c.in_err-expect.ensures.inside F _ _ (c.in_ok-word.ensures.inside F _ _
     (at_pick c.in_ok-check_limit.ensures.there.token _ c.in_ok-check_limit.ensures.there.is F c.args.used
     c.args.owed below o (kind_there c.in_ok-check_limit.ensures.there.token _ _ c.in_ok-check_limit.ensures.there.is
@@ -144,7 +143,7 @@ read_pick-returns-in_err-expect-clause-follows t c = λ F below o a.
 pub read_pick-returns-in_err-count-clause-follows : goal.read_pick-returns-in_err-count-clause-follows
 read_pick-returns-in_err-count-clause-follows t c = λ F below o a.
     let e = c.in_err-count.field-0.0 in
-    let is : c.from_residual-in_err-count.result ≡ Err e = grind (arith, common_steps) in
+    let is = passed c.from_residual-in_err-count.result e c.from_residual-in_err-count.ensures.1 in
     stopped F below _ e _ is (c.in_err-count.ensures.follows F _ (owes_sign close_parenthesis below _ o)
     (recount F (c.args.used + 1 + 1) (c.args.used + 2) _ _ (omega arith) (c.in_ok-expect.ensures.inside F _ _
     (c.in_ok-word.ensures.inside F _ _ (at_pick c.in_ok-check_limit.ensures.there.token _
@@ -155,7 +154,7 @@ read_pick-returns-in_err-count-clause-follows t c = λ F below o a.
 pub read_pick-returns-in_err-expect-2-clause-follows : goal.read_pick-returns-in_err-expect-2-clause-follows
 read_pick-returns-in_err-expect-2-clause-follows t c = λ F below o a.
     let e = c.in_err-expect-2.field-0.0 in
-    let is : c.from_residual-in_err-expect-2.result ≡ Err e = grind (arith, common_steps) in
+    let is = passed c.from_residual-in_err-expect-2.result e c.from_residual-in_err-expect-2.ensures.1 in
     stopped F below _ e _ is (c.in_err-expect-2.ensures.inside F _ _ (c.in_ok-count.ensures.follows F _
     (owes_sign close_parenthesis below _ o) (recount F (c.args.used + 1 + 1) (c.args.used + 2) _ _ (omega arith)
     (c.in_ok-expect.ensures.inside F _ _ (c.in_ok-word.ensures.inside F _ _
@@ -166,7 +165,7 @@ read_pick-returns-in_err-expect-2-clause-follows t c = λ F below o a.
 pub read_pick-returns-in_err-push_node-clause-follows : goal.read_pick-returns-in_err-push_node-clause-follows
 read_pick-returns-in_err-push_node-clause-follows t c = λ F below o a.
     let e = c.in_err-push_node.field-0.0 in
-    let is : c.from_residual-in_err-push_node.result ≡ Err e = grind (arith, common_steps) in
+    let is = passed c.from_residual-in_err-push_node.result e c.from_residual-in_err-push_node.ensures.1 in
     stopped F below _ e _ is (no_memory F e c.in_err-push_node.ensures.memory)
 
 pub read_pick-returns-clause-follows : goal.read_pick-returns-clause-follows
@@ -194,27 +193,27 @@ read_pick-returns-clause-text t c = record {
 pub read_two-returns-in_err-expect-clause-follows : goal.read_two-returns-in_err-expect-clause-follows
 read_two-returns-in_err-expect-clause-follows t c = λ F below o a.
     let e = c.in_err-expect.field-0.0 in
-    let is : c.from_residual.result ≡ Err e = grind (arith, common_steps) in
+    let is = passed c.from_residual.result e c.from_residual.ensures.1 in
     stopped F below _ e _ is (c.in_err-expect.ensures.inside F _ _ a)
 
 pub read_two-returns-in_err-first-clause-follows : goal.read_two-returns-in_err-first-clause-follows
 read_two-returns-in_err-first-clause-follows t c = λ F below o a.
     let e = c.in_err-first.field-0.0 in
-    let is : c.from_residual-in_err-first.result ≡ Err e = grind (arith, common_steps) in
+    let is = passed c.from_residual-in_err-first.result e c.from_residual-in_err-first.ensures.1 in
     stopped F below _ e _ is (c.in_err-first.ensures.follows F _ (owes_second below _ o)
     (c.in_ok-expect.ensures.inside F _ _ a))
 
 pub read_two-returns-in_err-expect-2-clause-follows : goal.read_two-returns-in_err-expect-2-clause-follows
 read_two-returns-in_err-expect-2-clause-follows t c = λ F below o a.
     let e = c.in_err-expect-2.field-0.0 in
-    let is : c.from_residual-in_err-expect-2.result ≡ Err e = grind (arith, common_steps) in
+    let is = passed c.from_residual-in_err-expect-2.result e c.from_residual-in_err-expect-2.ensures.1 in
     stopped F below _ e _ is (c.in_err-expect-2.ensures.inside F _ _ (c.in_ok-first.ensures.follows F _
     (owes_second below _ o) (c.in_ok-expect.ensures.inside F _ _ a)))
 
 pub read_two-returns-in_err-second-clause-follows : goal.read_two-returns-in_err-second-clause-follows
 read_two-returns-in_err-second-clause-follows t c = λ F below o a.
     let e = c.in_err-second.field-0.0 in
-    let is : c.from_residual-in_err-second.result ≡ Err e = grind (arith, common_steps) in
+    let is = passed c.from_residual-in_err-second.result e c.from_residual-in_err-second.ensures.1 in
     stopped F below _ e _ is (c.in_err-second.ensures.follows F _ (owes_sign close_parenthesis below _ o)
     (c.in_ok-expect-2.ensures.inside F _ _ (c.in_ok-first.ensures.follows F _ (owes_second below _ o)
     (c.in_ok-expect.ensures.inside F _ _ a))))
@@ -222,7 +221,7 @@ read_two-returns-in_err-second-clause-follows t c = λ F below o a.
 pub read_two-returns-in_err-expect-3-clause-follows : goal.read_two-returns-in_err-expect-3-clause-follows
 read_two-returns-in_err-expect-3-clause-follows t c = λ F below o a.
     let e = c.in_err-expect-3.field-0.0 in
-    let is : c.from_residual-in_err-expect-3.result ≡ Err e = grind (arith, common_steps) in
+    let is = passed c.from_residual-in_err-expect-3.result e c.from_residual-in_err-expect-3.ensures.1 in
     stopped F below _ e _ is (c.in_err-expect-3.ensures.inside F _ _ (c.in_ok-second.ensures.follows F _
     (owes_sign close_parenthesis below _ o) (c.in_ok-expect-2.ensures.inside F _ _ (c.in_ok-first.ensures.follows F
     _ (owes_second below _ o) (c.in_ok-expect.ensures.inside F _ _ a)))))
@@ -257,7 +256,7 @@ pub read_compared-returns-in_err-check_limit-clause-follows :
     goal.read_compared-returns-in_err-check_limit-clause-follows
 read_compared-returns-in_err-check_limit-clause-follows t c = λ F below o a.
     let e = c.in_err-check_limit.field-0.0 in
-    let is : c.from_residual.result ≡ Err e = grind (arith, common_steps) in
+    let is = passed c.from_residual.result e c.from_residual.ensures.1 in
     stopped F below _ e _ is (deep_says F _ _ e _ c.in_err-check_limit.ensures.deep
     (deep_compared c.in_err-check_limit.ensures.deep.token _ c.in_err-check_limit.ensures.deep.is F c.args.used
     c.args.owed below o c.requires.compares.sort (kind_there c.in_err-check_limit.ensures.deep.token _ _
@@ -267,7 +266,7 @@ read_compared-returns-in_err-check_limit-clause-follows t c = λ F below o a.
 pub read_compared-returns-in_err-place-clause-follows : goal.read_compared-returns-in_err-place-clause-follows
 read_compared-returns-in_err-place-clause-follows t c = λ F below o a.
     let e = c.in_err-place.field-0.0 in
-    let is : c.from_residual-in_err-place.result ≡ Err e = grind (arith, common_steps) in
+    let is = passed c.from_residual-in_err-place.result e c.from_residual-in_err-place.ensures.1 in
     stopped F below _ e _ is (c.in_err-place.ensures.inside F _ _ (marked_comparing F _ _ c.requires.compares.sort _
     c.requires.compares.word_is (at_compared c.in_ok-check_limit.ensures.there.token _
     c.in_ok-check_limit.ensures.there.is F c.args.used c.args.owed below o c.requires.compares.sort
@@ -277,7 +276,7 @@ read_compared-returns-in_err-place-clause-follows t c = λ F below o a.
 pub read_compared-returns-in_err-count-clause-follows : goal.read_compared-returns-in_err-count-clause-follows
 read_compared-returns-in_err-count-clause-follows t c = λ F below o a.
     let e = c.in_err-count.field-0.0 in
-    let is : c.from_residual-in_err-count.result ≡ Err e = grind (arith, common_steps) in
+    let is = passed c.from_residual-in_err-count.result e c.from_residual-in_err-count.ensures.1 in
     stopped F below _ e _ is (c.in_err-count.ensures.follows F _ o (c.in_ok-place.ensures.inside F _ _
     (marked_comparing F _ _ c.requires.compares.sort _ c.requires.compares.word_is
     (at_compared c.in_ok-check_limit.ensures.there.token _ c.in_ok-check_limit.ensures.there.is F c.args.used
@@ -288,7 +287,7 @@ read_compared-returns-in_err-count-clause-follows t c = λ F below o a.
 pub read_compared-returns-in_err-push_node-clause-follows : goal.read_compared-returns-in_err-push_node-clause-follows
 read_compared-returns-in_err-push_node-clause-follows t c = λ F below o a.
     let e = c.in_err-push_node.field-0.0 in
-    let is : c.from_residual-in_err-push_node.result ≡ Err e = grind (arith, common_steps) in
+    let is = passed c.from_residual-in_err-push_node.result e c.from_residual-in_err-push_node.ensures.1 in
     stopped F below _ e _ is (no_memory F e c.in_err-push_node.ensures.memory)
 
 pub read_compared-returns-clause-follows : goal.read_compared-returns-clause-follows
@@ -314,7 +313,7 @@ read_compared-returns-clause-text t c = record {
 pub read_terms-returns-in_err-check_limit-clause-follows : goal.read_terms-returns-in_err-check_limit-clause-follows
 read_terms-returns-in_err-check_limit-clause-follows t c = λ F below o a.
     let e = c.in_err-check_limit.field-0.0 in
-    let is : c.from_residual.result ≡ Err e = grind (arith, common_steps) in
+    let is = passed c.from_residual.result e c.from_residual.ensures.1 in
     stopped F below _ e _ is (deep_here F _ _ e _ _ c.peek-token.ensures c.in_err-check_limit.ensures.deep
     (deep_scaling _ _ c.peek-token.ensures F c.args.used c.args.owed below o c.in-Some.ensures.some.sign
     c.in-Some.ensures.some.kind_is (omega (arith, c.in_err-check_limit.ensures.deep.passes)) a))
@@ -322,7 +321,7 @@ read_terms-returns-in_err-check_limit-clause-follows t c = λ F below o a.
 pub read_terms-returns-in_err-spot-clause-follows : goal.read_terms-returns-in_err-spot-clause-follows
 read_terms-returns-in_err-spot-clause-follows t c = λ F below o a.
     let e = c.in_err-spot.field-0.0 in
-    let is : c.from_residual-in_err-spot.result ≡ Err e = grind (arith, common_steps) in
+    let is = passed c.from_residual-in_err-spot.result e c.from_residual-in_err-spot.ensures.1 in
     stopped F below _ e _ is (c.in_err-spot.ensures.inside F _ _ (marked_scaling F _ _ _ _
     c.in-Some.ensures.some.kind_is (at_scaling _ _ c.peek-token.ensures F c.args.used c.args.owed below o
     c.in-Some.ensures.some.sign c.in-Some.ensures.some.kind_is (omega (arith, c.in_ok-check_limit.ensures.within))
@@ -331,7 +330,7 @@ read_terms-returns-in_err-spot-clause-follows t c = λ F below o a.
 pub read_terms-returns-in_err-first-clause-follows : goal.read_terms-returns-in_err-first-clause-follows
 read_terms-returns-in_err-first-clause-follows t c = λ F below o a.
     let e = c.in_err-first.field-0.0 in
-    let is : c.from_residual-in_err-first.result ≡ Err e = grind (arith, common_steps) in
+    let is = passed c.from_residual-in_err-first.result e c.from_residual-in_err-first.ensures.1 in
     stopped F below _ e _ is (c.in_err-first.ensures.follows F _ (owes_terms below _ o) (c.in_ok-spot.ensures.inside F _
     _ (marked_scaling F _ _ _ _ c.in-Some.ensures.some.kind_is (at_scaling _ _ c.peek-token.ensures F c.args.used
     c.args.owed below o c.in-Some.ensures.some.sign c.in-Some.ensures.some.kind_is
@@ -340,13 +339,13 @@ read_terms-returns-in_err-first-clause-follows t c = λ F below o a.
 pub read_terms-returns-in_err-push_node-clause-follows : goal.read_terms-returns-in_err-push_node-clause-follows
 read_terms-returns-in_err-push_node-clause-follows t c = λ F below o a.
     let e = c.in_err-push_node.field-0.0 in
-    let is : c.from_residual-in_err-push_node.result ≡ Err e = grind (arith, common_steps) in
+    let is = passed c.from_residual-in_err-push_node.result e c.from_residual-in_err-push_node.ensures.1 in
     stopped F below _ e _ is (no_memory F e c.in_err-push_node.ensures.memory)
 
 pub read_terms-returns-in_err-count-clause-follows : goal.read_terms-returns-in_err-count-clause-follows
 read_terms-returns-in_err-count-clause-follows t c = λ F below o a.
     let e = c.in_err-count.field-0.0 in
-    let is : c.from_residual-in_err-count.result ≡ Err e = grind (arith, common_steps) in
+    let is = passed c.from_residual-in_err-count.result e c.from_residual-in_err-count.ensures.1 in
     stopped F below _ e _ is (c.in_err-count.ensures.follows F _ o (c.in_ok-first.ensures.follows F _
     (owes_terms below _ o) (c.in_ok-spot.ensures.inside F _ _ (marked_scaling F _ _ _ _
     c.in-Some.ensures.some.kind_is (at_scaling _ _ c.peek-token.ensures F c.args.used c.args.owed below o
@@ -381,7 +380,7 @@ read_terms-returns-clause-text t c = record {
 pub read_sums-returns-in_err-check_limit-clause-follows : goal.read_sums-returns-in_err-check_limit-clause-follows
 read_sums-returns-in_err-check_limit-clause-follows t c = λ F below o a.
     let e = c.in_err-check_limit.field-0.0 in
-    let is : c.from_residual.result ≡ Err e = grind (arith, common_steps) in
+    let is = passed c.from_residual.result e c.from_residual.ensures.1 in
     stopped F below _ e _ is (deep_here F _ _ e _ _ c.peek-token.ensures c.in_err-check_limit.ensures.deep
     (deep_adding _ _ c.peek-token.ensures F c.args.used c.args.owed below o c.in-Some.ensures.some.sign
     c.in-Some.ensures.some.kind_is (omega (arith, c.in_err-check_limit.ensures.deep.passes)) a))
@@ -389,7 +388,7 @@ read_sums-returns-in_err-check_limit-clause-follows t c = λ F below o a.
 pub read_sums-returns-in_err-spot-clause-follows : goal.read_sums-returns-in_err-spot-clause-follows
 read_sums-returns-in_err-spot-clause-follows t c = λ F below o a.
     let e = c.in_err-spot.field-0.0 in
-    let is : c.from_residual-in_err-spot.result ≡ Err e = grind (arith, common_steps) in
+    let is = passed c.from_residual-in_err-spot.result e c.from_residual-in_err-spot.ensures.1 in
     stopped F below _ e _ is (c.in_err-spot.ensures.inside F _ _ (marked_adding F _ _ _ _ c.in-Some.ensures.some.kind_is
     (at_adding _ _ c.peek-token.ensures F c.args.used c.args.owed below o c.in-Some.ensures.some.sign
     c.in-Some.ensures.some.kind_is (omega (arith, c.in_ok-check_limit.ensures.within)) a)))
@@ -397,7 +396,7 @@ read_sums-returns-in_err-spot-clause-follows t c = λ F below o a.
 pub read_sums-returns-in_err-factor-clause-follows : goal.read_sums-returns-in_err-factor-clause-follows
 read_sums-returns-in_err-factor-clause-follows t c = λ F below o a.
     let e = c.in_err-factor.field-0.0 in
-    let is : c.from_residual-in_err-factor.result ≡ Err e = grind (arith, common_steps) in
+    let is = passed c.from_residual-in_err-factor.result e c.from_residual-in_err-factor.ensures.1 in
     stopped F below _ e _ is (c.in_err-factor.ensures.follows F _ (owes_terms _ _ (owes_sums below _ o))
     (c.in_ok-spot.ensures.inside F _ _ (marked_adding F _ _ _ _ c.in-Some.ensures.some.kind_is
     (at_adding _ _ c.peek-token.ensures F c.args.used c.args.owed below o c.in-Some.ensures.some.sign
@@ -406,7 +405,7 @@ read_sums-returns-in_err-factor-clause-follows t c = λ F below o a.
 pub read_sums-returns-in_err-term-clause-follows : goal.read_sums-returns-in_err-term-clause-follows
 read_sums-returns-in_err-term-clause-follows t c = λ F below o a.
     let e = c.in_err-term.field-0.0 in
-    let is : c.from_residual-in_err-term.result ≡ Err e = grind (arith, common_steps) in
+    let is = passed c.from_residual-in_err-term.result e c.from_residual-in_err-term.ensures.1 in
     stopped F below _ e _ is (c.in_err-term.ensures.follows F _ (owes_sums below _ o) (c.in_ok-factor.ensures.follows F
     _ (owes_terms _ _ (owes_sums below _ o)) (c.in_ok-spot.ensures.inside F _ _ (marked_adding F _ _ _ _
     c.in-Some.ensures.some.kind_is (at_adding _ _ c.peek-token.ensures F c.args.used c.args.owed below o
@@ -416,13 +415,13 @@ read_sums-returns-in_err-term-clause-follows t c = λ F below o a.
 pub read_sums-returns-in_err-push_node-clause-follows : goal.read_sums-returns-in_err-push_node-clause-follows
 read_sums-returns-in_err-push_node-clause-follows t c = λ F below o a.
     let e = c.in_err-push_node.field-0.0 in
-    let is : c.from_residual-in_err-push_node.result ≡ Err e = grind (arith, common_steps) in
+    let is = passed c.from_residual-in_err-push_node.result e c.from_residual-in_err-push_node.ensures.1 in
     stopped F below _ e _ is (no_memory F e c.in_err-push_node.ensures.memory)
 
 pub read_sums-returns-in_err-count-clause-follows : goal.read_sums-returns-in_err-count-clause-follows
 read_sums-returns-in_err-count-clause-follows t c = λ F below o a.
     let e = c.in_err-count.field-0.0 in
-    let is : c.from_residual-in_err-count.result ≡ Err e = grind (arith, common_steps) in
+    let is = passed c.from_residual-in_err-count.result e c.from_residual-in_err-count.ensures.1 in
     stopped F below _ e _ is (c.in_err-count.ensures.follows F _ o (c.in_ok-term.ensures.follows F _
     (owes_sums below _ o) (c.in_ok-factor.ensures.follows F _ (owes_terms _ _ (owes_sums below _ o))
     (c.in_ok-spot.ensures.inside F _ _ (marked_adding F _ _ _ _ c.in-Some.ensures.some.kind_is
@@ -458,20 +457,20 @@ read_sums-returns-clause-text t c = record {
 pub read_inner-returns-in_err-factor-clause-follows : goal.read_inner-returns-in_err-factor-clause-follows
 read_inner-returns-in_err-factor-clause-follows t c = λ F below o a.
     let e = c.in_err-factor.field-0.0 in
-    let is : c.from_residual.result ≡ Err e = grind (arith, common_steps) in
+    let is = passed c.from_residual.result e c.from_residual.ensures.1 in
     stopped F below _ e _ is (c.in_err-factor.ensures.follows F _ (owes_terms _ _ (owes_sums below _ o)) a)
 
 pub read_inner-returns-in_err-term-clause-follows : goal.read_inner-returns-in_err-term-clause-follows
 read_inner-returns-in_err-term-clause-follows t c = λ F below o a.
     let e = c.in_err-term.field-0.0 in
-    let is : c.from_residual-in_err-term.result ≡ Err e = grind (arith, common_steps) in
+    let is = passed c.from_residual-in_err-term.result e c.from_residual-in_err-term.ensures.1 in
     stopped F below _ e _ is (c.in_err-term.ensures.follows F _ (owes_sums below _ o) (c.in_ok-factor.ensures.follows F
     _ (owes_terms _ _ (owes_sums below _ o)) a))
 
 pub read_inner-returns-in_err-count-clause-follows : goal.read_inner-returns-in_err-count-clause-follows
 read_inner-returns-in_err-count-clause-follows t c = λ F below o a.
     let e = c.in_err-count.field-0.0 in
-    let is : c.from_residual-in_err-count.result ≡ Err e = grind (arith, common_steps) in
+    let is = passed c.from_residual-in_err-count.result e c.from_residual-in_err-count.ensures.1 in
     stopped F below _ e _ is (c.in_err-count.ensures.follows F _ o (c.in_ok-term.ensures.follows F _
     (owes_sums below _ o) (c.in_ok-factor.ensures.follows F _ (owes_terms _ _ (owes_sums below _ o)) a)))
 

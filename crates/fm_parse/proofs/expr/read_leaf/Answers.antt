@@ -1,6 +1,5 @@
 -- A leaf is one token.
-use Rattle.std.proofs.Common.{◌≡◌, ◌+◌, ◌∷◌, Err, sym, ap, ◌∙◌, subst, arith}
-use Rattle.std.proofs.lemmas.Grind.{common_steps}
+use Rattle.std.proofs.Common.{◌+◌, ◌∷◌, sym, ap, ◌∙◌, subst}
 use Rattle.fm_lex.specs.Tokens.{lexeme_of}
 use Rattle.fm_grammar.specs.Signs.{tok}
 use Rattle.fm_grammar.proofs.Telling.{leaf_of}
@@ -8,7 +7,7 @@ use Rattle.fm_grammar.specs.View.{expr_view}
 use Rattle.fm_parse.specs.Reader.{first_kind}
 use Rattle.fm_parse.specs.Follow.{At}
 use Rattle.fm_parse.specs.Drafts.{IsPlain, extended}
-use Rattle.fm_parse.proofs.Steps.{lexical_here}
+use Rattle.fm_parse.proofs.Steps.{passed, lexical_here}
 use Rattle.fm_parse.proofs.Insides.{no_factor, takes_factor, stopped}
 use Rattle.fm_parse.proofs.expr.read_leaf.Goals as goal
 
@@ -20,7 +19,7 @@ returns-in_default-clause-follows c = λ F below o a.
 pub returns-in_err-advance-clause-follows : goal.returns-in_err-advance-clause-follows
 returns-in_err-advance-clause-follows c = λ F below o a.
     let e = c.in_err-advance.field-0.0 in
-    let is : c.from_residual.result ≡ Err e = grind (arith, common_steps) in
+    let is = passed c.from_residual.result e c.from_residual.ensures.1 in
     stopped F below _ e _ is (lexical_here F _ below e _
     (takes_factor F _ below _ _ c.peek-token.ensures c.in-Some.ensures.some.taken a) c.in_err-advance.ensures.fault)
 

@@ -1,9 +1,8 @@
 -- Each function of a statement follows the table, and its tree is what its tokens stand for.
-use Rattle.std.proofs.Common.{◌≡◌, [], ◌∷◌, ◌++◌, Err, refl, sym, ap, ap₂, ◌∙◌, arith}
-use Rattle.std.proofs.lemmas.Grind.{common_steps}
+use Rattle.std.proofs.Common.{[], ◌∷◌, ◌++◌, refl, sym, ap, ap₂, ◌∙◌, arith}
 use Rattle.fm_grammar.specs.Signs.{open_brace, close_brace}
 use Rattle.fm_grammar.specs.Grammar as forms
-use Rattle.fm_parse.proofs.Steps.{handed}
+use Rattle.fm_parse.proofs.Steps.{passed, handed}
 use Rattle.std.proofs.Common.{length}
 use Rattle.fm_grammar.specs.Score as tree
 use Rattle.fm_grammar.specs.View.{name_view, items_view}
@@ -25,20 +24,20 @@ use Rattle.fm_parse.proofs.items.+item.Goals as goal
 pub read_block-returns-in_err-expect-clause-follows : goal.read_block-returns-in_err-expect-clause-follows
 read_block-returns-in_err-expect-clause-follows t c = λ F u below d a.
     let e = c.in_err-expect.field-0.0 in
-    let is : c.from_residual.result ≡ Err e = grind (arith, common_steps) in
+    let is = passed c.from_residual.result e c.from_residual.ensures.1 in
     handed F 0 below _ e _ is (c.in_err-expect.ensures.follows F u _ a)
 
 pub read_block-returns-in_err-body-clause-follows : goal.read_block-returns-in_err-body-clause-follows
 read_block-returns-in_err-body-clause-follows t c = λ F u below d a.
     let e = c.in_err-body.field-0.0 in
-    let is : c.from_residual-in_err-body.result ≡ Err e = grind (arith, common_steps) in
+    let is = passed c.from_residual-in_err-body.result e c.from_residual-in_err-body.ensures.1 in
     handed F 0 below _ e _ is (c.in_err-body.ensures.follows F 0 (one close_brace ∷ below) (omega (arith, d))
     (c.in_ok-expect.ensures.follows F u _ a))
 
 pub read_block-returns-in_err-expect-2-clause-follows : goal.read_block-returns-in_err-expect-2-clause-follows
 read_block-returns-in_err-expect-2-clause-follows t c = λ F u below d a.
     let e = c.in_err-expect-2.field-0.0 in
-    let is : c.from_residual-in_err-expect-2.result ≡ Err e = grind (arith, common_steps) in
+    let is = passed c.from_residual-in_err-expect-2.result e c.from_residual-in_err-expect-2.ensures.1 in
     handed F 0 below _ e _ is (c.in_err-expect-2.ensures.follows F 0 _ (c.in_ok-body.ensures.follows F 0
     (one close_brace ∷ below) (omega (arith, d)) (c.in_ok-expect.ensures.follows F u _ a)))
 
@@ -59,26 +58,26 @@ read_block-returns-clause-text t c = record {
 pub read_if-returns-in_err-spot-clause-follows : goal.read_if-returns-in_err-spot-clause-follows
 read_if-returns-in_err-spot-clause-follows t c = λ F u below d a.
     let e = c.in_err-spot.field-0.0 in
-    let is : c.from_residual.result ≡ Err e = grind (arith, common_steps) in
+    let is = passed c.from_residual.result e c.from_residual.ensures.1 in
     handed F 0 below _ e _ is (c.in_err-spot.ensures.follows F u _ a)
 
 pub read_if-returns-in_err-test-clause-follows : goal.read_if-returns-in_err-test-clause-follows
 read_if-returns-in_err-test-clause-follows t c = λ F u below d a.
     let e = c.in_err-test.field-0.0 in
-    let is : c.from_residual-in_err-test.result ≡ Err e = grind (arith, common_steps) in
+    let is = passed c.from_residual-in_err-test.result e c.from_residual-in_err-test.ensures.1 in
     handed F 0 below _ e _ is (c.in_err-test.ensures.follows F open_brace _ (c.in_ok-spot.ensures.follows F u _ a))
 
 pub read_if-returns-in_err-taken-clause-follows : goal.read_if-returns-in_err-taken-clause-follows
 read_if-returns-in_err-taken-clause-follows t c = λ F u below d a.
     let e = c.in_err-taken.field-0.0 in
-    let is : c.from_residual-in_err-taken.result ≡ Err e = grind (arith, common_steps) in
+    let is = passed c.from_residual-in_err-taken.result e c.from_residual-in_err-taken.ensures.1 in
     handed F 0 below _ e _ is (c.in_err-taken.ensures.follows F 0 (otherwise ∷ below) d (c.in_ok-test.ensures.follows F
     open_brace _ (c.in_ok-spot.ensures.follows F u _ a)))
 
 pub read_if-returns-in_err-other-clause-follows : goal.read_if-returns-in_err-other-clause-follows
 read_if-returns-in_err-other-clause-follows t c = λ F u below d a.
     let e = c.in_err-other.field-0.0 in
-    let is : c.from_residual-in_err-other.result ≡ Err e = grind (arith, common_steps) in
+    let is = passed c.from_residual-in_err-other.result e c.from_residual-in_err-other.ensures.1 in
     handed F 0 below _ e _ is (c.in_err-other.ensures.follows F 0 below d (c.in_ok-taken.ensures.follows F 0
     (otherwise ∷ below) d (c.in_ok-test.ensures.follows F open_brace _ (c.in_ok-spot.ensures.follows F u _ a))))
 
@@ -104,19 +103,19 @@ read_if-returns-clause-text t c = record {
 pub read_repeat-returns-in_err-spot-clause-follows : goal.read_repeat-returns-in_err-spot-clause-follows
 read_repeat-returns-in_err-spot-clause-follows t c = λ F u below d a.
     let e = c.in_err-spot.field-0.0 in
-    let is : c.from_residual.result ≡ Err e = grind (arith, common_steps) in
+    let is = passed c.from_residual.result e c.from_residual.ensures.1 in
     handed F 0 below _ e _ is (c.in_err-spot.ensures.follows F u _ a)
 
 pub read_repeat-returns-in_err-count-clause-follows : goal.read_repeat-returns-in_err-count-clause-follows
 read_repeat-returns-in_err-count-clause-follows t c = λ F u below d a.
     let e = c.in_err-count.field-0.0 in
-    let is : c.from_residual-in_err-count.result ≡ Err e = grind (arith, common_steps) in
+    let is = passed c.from_residual-in_err-count.result e c.from_residual-in_err-count.ensures.1 in
     handed F 0 below _ e _ is (c.in_err-count.ensures.follows F 0 _ (c.in_ok-spot.ensures.follows F u _ a))
 
 pub read_repeat-returns-in_err-body-clause-follows : goal.read_repeat-returns-in_err-body-clause-follows
 read_repeat-returns-in_err-body-clause-follows t c = λ F u below d a.
     let e = c.in_err-body.field-0.0 in
-    let is : c.from_residual-in_err-body.result ≡ Err e = grind (arith, common_steps) in
+    let is = passed c.from_residual-in_err-body.result e c.from_residual-in_err-body.ensures.1 in
     handed F 0 below _ e _ is (c.in_err-body.ensures.follows F 0 below d (c.in_ok-count.ensures.follows F 0 _
     (c.in_ok-spot.ensures.follows F u _ a)))
 
@@ -138,19 +137,19 @@ read_repeat-returns-clause-text t c = record {
 pub read_warp-returns-in_err-spot-clause-follows : goal.read_warp-returns-in_err-spot-clause-follows
 read_warp-returns-in_err-spot-clause-follows t c = λ F u below d a.
     let e = c.in_err-spot.field-0.0 in
-    let is : c.from_residual.result ≡ Err e = grind (arith, common_steps) in
+    let is = passed c.from_residual.result e c.from_residual.ensures.1 in
     handed F 0 below _ e _ is (c.in_err-spot.ensures.follows F u _ a)
 
 pub read_warp-returns-in_err-name-clause-follows : goal.read_warp-returns-in_err-name-clause-follows
 read_warp-returns-in_err-name-clause-follows t c = λ F u below d a.
     let e = c.in_err-name.field-0.0 in
-    let is : c.from_residual-in_err-name.result ≡ Err e = grind (arith, common_steps) in
+    let is = passed c.from_residual-in_err-name.result e c.from_residual-in_err-name.ensures.1 in
     handed F 0 below _ e _ is (c.in_err-name.ensures.follows F 0 _ (c.in_ok-spot.ensures.follows F u _ a))
 
 pub read_warp-returns-in_err-body-clause-follows : goal.read_warp-returns-in_err-body-clause-follows
 read_warp-returns-in_err-body-clause-follows t c = λ F u below d a.
     let e = c.in_err-body.field-0.0 in
-    let is : c.from_residual-in_err-body.result ≡ Err e = grind (arith, common_steps) in
+    let is = passed c.from_residual-in_err-body.result e c.from_residual-in_err-body.ensures.1 in
     handed F 0 below _ e _ is (c.in_err-body.ensures.follows F 0 below d (c.in_ok-name.ensures.follows F 0 _
     (c.in_ok-spot.ensures.follows F u _ a)))
 
@@ -169,26 +168,26 @@ read_warp-returns-clause-text t c = record {
 pub read_par-returns-in_err-spot-clause-follows : goal.read_par-returns-in_err-spot-clause-follows
 read_par-returns-in_err-spot-clause-follows t c = λ F u below d a.
     let e = c.in_err-spot.field-0.0 in
-    let is : c.from_residual.result ≡ Err e = grind (arith, common_steps) in
+    let is = passed c.from_residual.result e c.from_residual.ensures.1 in
     handed F 0 below _ e _ is (c.in_err-spot.ensures.follows F u _ a)
 
 pub read_par-returns-in_err-expect-clause-follows : goal.read_par-returns-in_err-expect-clause-follows
 read_par-returns-in_err-expect-clause-follows t c = λ F u below d a.
     let e = c.in_err-expect.field-0.0 in
-    let is : c.from_residual-in_err-expect.result ≡ Err e = grind (arith, common_steps) in
+    let is = passed c.from_residual-in_err-expect.result e c.from_residual-in_err-expect.ensures.1 in
     handed F 0 below _ e _ is (c.in_err-expect.ensures.follows F 0 _ (c.in_ok-spot.ensures.follows F u _ a))
 
 pub read_par-returns-in_err-branches-clause-follows : goal.read_par-returns-in_err-branches-clause-follows
 read_par-returns-in_err-branches-clause-follows t c = λ F u below d a.
     let e = c.in_err-branches.field-0.0 in
-    let is : c.from_residual-in_err-branches.result ≡ Err e = grind (arith, common_steps) in
+    let is = passed c.from_residual-in_err-branches.result e c.from_residual-in_err-branches.ensures.1 in
     handed F 0 below _ e _ is (c.in_err-branches.ensures.follows F 0 (one close_brace ∷ below) (omega (arith, d))
     (c.in_ok-expect.ensures.follows F 0 _ (c.in_ok-spot.ensures.follows F u _ a)))
 
 pub read_par-returns-in_err-expect-2-clause-follows : goal.read_par-returns-in_err-expect-2-clause-follows
 read_par-returns-in_err-expect-2-clause-follows t c = λ F u below d a.
     let e = c.in_err-expect-2.field-0.0 in
-    let is : c.from_residual-in_err-expect-2.result ≡ Err e = grind (arith, common_steps) in
+    let is = passed c.from_residual-in_err-expect-2.result e c.from_residual-in_err-expect-2.ensures.1 in
     handed F 0 below _ e _ is (c.in_err-expect-2.ensures.follows F 0 _ (c.in_ok-branches.ensures.follows F 0
     (one close_brace ∷ below) (omega (arith, d)) (c.in_ok-expect.ensures.follows F 0 _
     (c.in_ok-spot.ensures.follows F u _ a))))
@@ -217,21 +216,21 @@ pub read_scope-returns-in_err-spot-clause-follows : goal.read_scope-returns-in_e
 read_scope-returns-in_err-spot-clause-follows t c = λ F u below d a.
     let b = at_scope F u below _ _ (scoping c.args.scope) c.word.ensures a in
     let e = c.in_err-spot.field-0.0 in
-    let is : c.from_residual.result ≡ Err e = grind (arith, common_steps) in
+    let is = passed c.from_residual.result e c.from_residual.ensures.1 in
     handed F 0 below _ e _ is (c.in_err-spot.ensures.follows F u _ b)
 
 pub read_scope-returns-in_err-number-clause-follows : goal.read_scope-returns-in_err-number-clause-follows
 read_scope-returns-in_err-number-clause-follows t c = λ F u below d a.
     let b = at_scope F u below _ _ (scoping c.args.scope) c.word.ensures a in
     let e = c.in_err-number.field-0.0 in
-    let is : c.from_residual-in_err-number.result ≡ Err e = grind (arith, common_steps) in
+    let is = passed c.from_residual-in_err-number.result e c.from_residual-in_err-number.ensures.1 in
     handed F 0 below _ e _ is (c.in_err-number.ensures.follows F 0 _ (c.in_ok-spot.ensures.follows F u _ b))
 
 pub read_scope-returns-in_err-body-clause-follows : goal.read_scope-returns-in_err-body-clause-follows
 read_scope-returns-in_err-body-clause-follows t c = λ F u below d a.
     let b = at_scope F u below _ _ (scoping c.args.scope) c.word.ensures a in
     let e = c.in_err-body.field-0.0 in
-    let is : c.from_residual-in_err-body.result ≡ Err e = grind (arith, common_steps) in
+    let is = passed c.from_residual-in_err-body.result e c.from_residual-in_err-body.ensures.1 in
     handed F 0 below _ e _ is (c.in_err-body.ensures.follows F 0 below d (c.in_ok-number.ensures.follows F 0 _
     (c.in_ok-spot.ensures.follows F u _ b)))
 
@@ -260,33 +259,33 @@ read_scope-returns-clause-text t c = record {
 pub read_rhythm-returns-in_err-spot-clause-follows : goal.read_rhythm-returns-in_err-spot-clause-follows
 read_rhythm-returns-in_err-spot-clause-follows t c = λ F u below d a.
     let e = c.in_err-spot.field-0.0 in
-    let is : c.from_residual.result ≡ Err e = grind (arith, common_steps) in
+    let is = passed c.from_residual.result e c.from_residual.ensures.1 in
     handed F 0 below _ e _ is (c.in_err-spot.ensures.follows F u _ a)
 
 pub read_rhythm-returns-in_err-expect-clause-follows : goal.read_rhythm-returns-in_err-expect-clause-follows
 read_rhythm-returns-in_err-expect-clause-follows t c = λ F u below d a.
     let e = c.in_err-expect.field-0.0 in
-    let is : c.from_residual-in_err-expect.result ≡ Err e = grind (arith, common_steps) in
+    let is = passed c.from_residual-in_err-expect.result e c.from_residual-in_err-expect.ensures.1 in
     handed F 0 below _ e _ is (c.in_err-expect.ensures.follows F 0 _ (c.in_ok-spot.ensures.follows F u _ a))
 
 pub read_rhythm-returns-in_err-list-clause-follows : goal.read_rhythm-returns-in_err-list-clause-follows
 read_rhythm-returns-in_err-list-clause-follows t c = λ F u below d a.
     let e = c.in_err-list.field-0.0 in
-    let is : c.from_residual-in_err-list.result ≡ Err e = grind (arith, common_steps) in
+    let is = passed c.from_residual-in_err-list.result e c.from_residual-in_err-list.ensures.1 in
     handed F 0 below _ e _ is (c.in_err-list.ensures.follows F 0 _ (c.in_ok-expect.ensures.follows F 0 _
     (c.in_ok-spot.ensures.follows F u _ a)))
 
 pub read_rhythm-returns-in_err-expect-2-clause-follows : goal.read_rhythm-returns-in_err-expect-2-clause-follows
 read_rhythm-returns-in_err-expect-2-clause-follows t c = λ F u below d a.
     let e = c.in_err-expect-2.field-0.0 in
-    let is : c.from_residual-in_err-expect-2.result ≡ Err e = grind (arith, common_steps) in
+    let is = passed c.from_residual-in_err-expect-2.result e c.from_residual-in_err-expect-2.ensures.1 in
     handed F 0 below _ e _ is (c.in_err-expect-2.ensures.follows F 0 _ (c.in_ok-list.ensures.follows F 0 _
     (c.in_ok-expect.ensures.follows F 0 _ (c.in_ok-spot.ensures.follows F u _ a))))
 
 pub read_rhythm-returns-in_err-body-clause-follows : goal.read_rhythm-returns-in_err-body-clause-follows
 read_rhythm-returns-in_err-body-clause-follows t c = λ F u below d a.
     let e = c.in_err-body.field-0.0 in
-    let is : c.from_residual-in_err-body.result ≡ Err e = grind (arith, common_steps) in
+    let is = passed c.from_residual-in_err-body.result e c.from_residual-in_err-body.ensures.1 in
     handed F 0 below _ e _ is (c.in_err-body.ensures.follows F 0 below d (c.in_ok-expect-2.ensures.follows F 0 _
     (c.in_ok-list.ensures.follows F 0 _ (c.in_ok-expect.ensures.follows F 0 _
     (c.in_ok-spot.ensures.follows F u _ a)))))
@@ -315,21 +314,21 @@ pub read_cycle-returns-in_err-spot-clause-follows : goal.read_cycle-returns-in_e
 read_cycle-returns-in_err-spot-clause-follows t c = λ F u below d a.
     let b = at_cycle F u below _ _ (cycling c.args.cycle) c.word.ensures a in
     let e = c.in_err-spot.field-0.0 in
-    let is : c.from_residual.result ≡ Err e = grind (arith, common_steps) in
+    let is = passed c.from_residual.result e c.from_residual.ensures.1 in
     handed F 0 below _ e _ is (c.in_err-spot.ensures.follows F u _ b)
 
 pub read_cycle-returns-in_err-expect-clause-follows : goal.read_cycle-returns-in_err-expect-clause-follows
 read_cycle-returns-in_err-expect-clause-follows t c = λ F u below d a.
     let b = at_cycle F u below _ _ (cycling c.args.cycle) c.word.ensures a in
     let e = c.in_err-expect.field-0.0 in
-    let is : c.from_residual-in_err-expect.result ≡ Err e = grind (arith, common_steps) in
+    let is = passed c.from_residual-in_err-expect.result e c.from_residual-in_err-expect.ensures.1 in
     handed F 0 below _ e _ is (c.in_err-expect.ensures.follows F 0 _ (c.in_ok-spot.ensures.follows F u _ b))
 
 pub read_cycle-returns-in_err-list-clause-follows : goal.read_cycle-returns-in_err-list-clause-follows
 read_cycle-returns-in_err-list-clause-follows t c = λ F u below d a.
     let b = at_cycle F u below _ _ (cycling c.args.cycle) c.word.ensures a in
     let e = c.in_err-list.field-0.0 in
-    let is : c.from_residual-in_err-list.result ≡ Err e = grind (arith, common_steps) in
+    let is = passed c.from_residual-in_err-list.result e c.from_residual-in_err-list.ensures.1 in
     handed F 0 below _ e _ is (c.in_err-list.ensures.follows F 0 _ (c.in_ok-expect.ensures.follows F 0 _
     (c.in_ok-spot.ensures.follows F u _ b)))
 
@@ -337,7 +336,7 @@ pub read_cycle-returns-in_err-expect-2-clause-follows : goal.read_cycle-returns-
 read_cycle-returns-in_err-expect-2-clause-follows t c = λ F u below d a.
     let b = at_cycle F u below _ _ (cycling c.args.cycle) c.word.ensures a in
     let e = c.in_err-expect-2.field-0.0 in
-    let is : c.from_residual-in_err-expect-2.result ≡ Err e = grind (arith, common_steps) in
+    let is = passed c.from_residual-in_err-expect-2.result e c.from_residual-in_err-expect-2.ensures.1 in
     handed F 0 below _ e _ is (c.in_err-expect-2.ensures.follows F 0 _ (c.in_ok-list.ensures.follows F 0 _
     (c.in_ok-expect.ensures.follows F 0 _ (c.in_ok-spot.ensures.follows F u _ b))))
 
@@ -345,7 +344,7 @@ pub read_cycle-returns-in_err-body-clause-follows : goal.read_cycle-returns-in_e
 read_cycle-returns-in_err-body-clause-follows t c = λ F u below d a.
     let b = at_cycle F u below _ _ (cycling c.args.cycle) c.word.ensures a in
     let e = c.in_err-body.field-0.0 in
-    let is : c.from_residual-in_err-body.result ≡ Err e = grind (arith, common_steps) in
+    let is = passed c.from_residual-in_err-body.result e c.from_residual-in_err-body.ensures.1 in
     handed F 0 below _ e _ is (c.in_err-body.ensures.follows F 0 below d (c.in_ok-expect-2.ensures.follows F 0 _
     (c.in_ok-list.ensures.follows F 0 _ (c.in_ok-expect.ensures.follows F 0 _
     (c.in_ok-spot.ensures.follows F u _ b)))))
@@ -378,14 +377,14 @@ read_cycle-returns-clause-text t c = record {
 pub read_else-returns-in_err-expect-clause-follows : goal.read_else-returns-in_err-expect-clause-follows
 read_else-returns-in_err-expect-clause-follows t c = λ F u below d a.
     let e = c.in_err-expect.field-0.0 in
-    let is : c.from_residual.result ≡ Err e = grind (arith, common_steps) in
+    let is = passed c.from_residual.result e c.from_residual.ensures.1 in
     handed F 0 below _ e _ is (c.in_err-expect.ensures.follows F u _ (at_else _ c.next_is.ensures.there F u below
     (c.next_is.ensures.same c.if-not-next_is.false) (omega (arith, d, c.requires)) a))
 
 pub read_else-returns-in_err-body-clause-follows : goal.read_else-returns-in_err-body-clause-follows
 read_else-returns-in_err-body-clause-follows t c = λ F u below d a.
     let e = c.in_err-body.field-0.0 in
-    let is : c.from_residual-in_err-body.result ≡ Err e = grind (arith, common_steps) in
+    let is = passed c.from_residual-in_err-body.result e c.from_residual-in_err-body.ensures.1 in
     handed F 0 below _ e _ is (c.in_err-body.ensures.follows F 0 below d (c.in_ok-expect.ensures.follows F u _
     (at_else _ c.next_is.ensures.there F u below (c.next_is.ensures.same c.if-not-next_is.false)
     (omega (arith, d, c.requires)) a)))
@@ -410,20 +409,20 @@ read_else-returns-then-not-next_is-clause-follows t c = λ F u below d a. withou
 pub read_branches-returns-in_err-expect-clause-follows : goal.read_branches-returns-in_err-expect-clause-follows
 read_branches-returns-in_err-expect-clause-follows t c = λ F u below d a.
     let e = c.in_err-expect.field-0.0 in
-    let is : c.from_residual.result ≡ Err e = grind (arith, common_steps) in
+    let is = passed c.from_residual.result e c.from_residual.ensures.1 in
     handed F 0 below _ e _ is (c.in_err-expect.ensures.follows F u _ a)
 
 pub read_branches-returns-in_err-first-clause-follows : goal.read_branches-returns-in_err-first-clause-follows
 read_branches-returns-in_err-first-clause-follows t c = λ F u below d a.
     let e = c.in_err-first.field-0.0 in
-    let is : c.from_residual-in_err-first.result ≡ Err e = grind (arith, common_steps) in
+    let is = passed c.from_residual-in_err-first.result e c.from_residual-in_err-first.ensures.1 in
     handed F 0 below _ e _ is (c.in_err-first.ensures.follows F 0 (branches ∷ below) d
     (c.in_ok-expect.ensures.follows F u _ a))
 
 pub read_branches-returns-in_err-push-clause-follows : goal.read_branches-returns-in_err-push-clause-follows
 read_branches-returns-in_err-push-clause-follows t c = λ F u below d a.
     let e = c.in_err-push.field-0.0 in
-    let is : c.from_residual-in_err-push.result ≡ Err e = grind (arith, common_steps) in
+    let is = passed c.from_residual-in_err-push.result e c.from_residual-in_err-push.ensures.1 in
     handed F 0 below _ e _ is (no_memory F e c.in_err-push.ensures.memory)
 
 pub read_branches-loop-alloc-init : goal.read_branches-loop-alloc-init
@@ -441,7 +440,7 @@ read_branches-loop-alloc-init t c = record {
 pub read_branches-returns-in_err-expect-2-clause-follows : goal.read_branches-returns-in_err-expect-2-clause-follows
 read_branches-returns-in_err-expect-2-clause-follows t c = λ F u below d a.
     let e = c.in_err-expect-2.field-0.0 in
-    let is : c.from_residual-in_err-expect-2.result ≡ Err e = grind (arith, common_steps) in
+    let is = passed c.from_residual-in_err-expect-2.result e c.from_residual-in_err-expect-2.ensures.1 in
     handed F 0 below _ e _ is (c.in_err-expect-2.ensures.follows F 0 _ (at_branch _ c.next_is.ensures.there F 0 below
     (c.next_is.ensures.same c.loop-alloc-test.true) (omega (arith, d, c.requires)) (c.loop-alloc.invariant.leads F
     u below d a)))
@@ -449,7 +448,7 @@ read_branches-returns-in_err-expect-2-clause-follows t c = λ F u below d a.
 pub read_branches-returns-in_err-next-clause-follows : goal.read_branches-returns-in_err-next-clause-follows
 read_branches-returns-in_err-next-clause-follows t c = λ F u below d a.
     let e = c.in_err-next.field-0.0 in
-    let is : c.from_residual-in_err-next.result ≡ Err e = grind (arith, common_steps) in
+    let is = passed c.from_residual-in_err-next.result e c.from_residual-in_err-next.ensures.1 in
     handed F 0 below _ e _ is (c.in_err-next.ensures.follows F 0 (branches ∷ below) d (c.in_ok-expect-2.ensures.follows
     F 0 _ (at_branch _ c.next_is.ensures.there F 0 below (c.next_is.ensures.same c.loop-alloc-test.true)
     (omega (arith, d, c.requires)) (c.loop-alloc.invariant.leads F u below d a))))
@@ -457,7 +456,7 @@ read_branches-returns-in_err-next-clause-follows t c = λ F u below d a.
 pub read_branches-returns-in_err-push-2-clause-follows : goal.read_branches-returns-in_err-push-2-clause-follows
 read_branches-returns-in_err-push-2-clause-follows t c = λ F u below d a.
     let e = c.in_err-push-2.field-0.0 in
-    let is : c.from_residual-in_err-push-2.result ≡ Err e = grind (arith, common_steps) in
+    let is = passed c.from_residual-in_err-push-2.result e c.from_residual-in_err-push-2.ensures.1 in
     handed F 0 below _ e _ is (no_memory F e c.in_err-push-2.ensures.memory)
 
 pub read_branches-loop-alloc-preserved : goal.read_branches-loop-alloc-preserved
@@ -569,7 +568,7 @@ pub read_statement-returns-in_err-check_limit-clause-follows :
     goal.read_statement-returns-in_err-check_limit-clause-follows
 read_statement-returns-in_err-check_limit-clause-follows t c = λ F u s below main d a.
     let e = c.in_err-check_limit.field-0.0 in
-    let is : c.from_residual.result ≡ Err e = grind (arith, common_steps) in
+    let is = passed c.from_residual.result e c.from_residual.ensures.1 in
     handed F 0 (s ∷ below) _ e _ is (deep_says F _ _ e _ c.in_err-check_limit.ensures.deep
     (stmt_deep c.in_err-check_limit.ensures.deep.token _ c.in_err-check_limit.ensures.deep.is F u below s c.args.word
     main c.requires.begins (kind_there c.in_err-check_limit.ensures.deep.token _ _ c.in_err-check_limit.ensures.deep.is
@@ -580,7 +579,7 @@ read_statement-returns-in_err-check_limit-clause-follows t c = λ F u s below ma
 pub read_statement-returns-in_err-item-clause-follows : goal.read_statement-returns-in_err-item-clause-follows
 read_statement-returns-in_err-item-clause-follows t c = λ F u s below main d a.
     let e = c.in_err-item.field-0.0 in
-    let is : c.from_residual-in_err-item.result ≡ Err e = grind (arith, common_steps) in
+    let is = passed c.from_residual-in_err-item.result e c.from_residual-in_err-item.ensures.1 in
     handed F 0 (s ∷ below) _ e _ is (c.in_err-item.ensures.follows F u (s ∷ below) (opened_main s below main ∙ d)
     (stmt_begun c.in_ok-check_limit.ensures.there.token _ c.in_ok-check_limit.ensures.there.is F u below s
     c.args.word main c.requires.begins (kind_there c.in_ok-check_limit.ensures.there.token _ _
@@ -614,14 +613,14 @@ read_statements-loop-word-init t c = record {
 pub read_statements-returns-in_err-item-clause-follows : goal.read_statements-returns-in_err-item-clause-follows
 read_statements-returns-in_err-item-clause-follows t c = λ F u below d a.
     let e = c.in_err-item.field-0.0 in
-    let is : c.from_residual.result ≡ Err e = grind (arith, common_steps) in
+    let is = passed c.from_residual.result e c.from_residual.ensures.1 in
     handed F 0 below _ e _ is (c.in_err-item.ensures.follows F 0 stmts below tt d (c.loop-word.invariant.leads F
     u below d a))
 
 pub read_statements-returns-in_err-push-clause-follows : goal.read_statements-returns-in_err-push-clause-follows
 read_statements-returns-in_err-push-clause-follows t c = λ F u below d a.
     let e = c.in_err-push.field-0.0 in
-    let is : c.from_residual-in_err-push.result ≡ Err e = grind (arith, common_steps) in
+    let is = passed c.from_residual-in_err-push.result e c.from_residual-in_err-push.ensures.1 in
     handed F 0 below _ e _ is (no_memory F e c.in_err-push.ensures.memory)
 
 pub read_statements-loop-word-preserved : goal.read_statements-loop-word-preserved

@@ -1,11 +1,10 @@
 -- An item, and further ones behind commas.
-use Rattle.std.proofs.Common.{◌≡◌, [], ◌∷◌, ◌++◌, Err, length, ap, ◌∙◌, arith}
-use Rattle.std.proofs.lemmas.Grind.{common_steps}
+use Rattle.std.proofs.Common.{[], ◌∷◌, ◌++◌, length, ap, ◌∙◌, arith}
 use Rattle.fm_grammar.specs.Grammar.{no_more}
 use Rattle.fm_grammar.specs.Spelling.{num_text}
 use Rattle.fm_grammar.specs.Standing.{num_tree}
 use Rattle.fm_grammar.specs.Rules.{numbers}
-use Rattle.fm_parse.proofs.Steps.{handed, no_memory}
+use Rattle.fm_parse.proofs.Steps.{passed, handed, no_memory}
 use Rattle.fm_parse.proofs.Ways.{one_more, no_more as no_comma}
 use Rattle.fm_parse.proofs.Lengths.{num_more}
 use Rattle.fm_parse.proofs.Growing.{grown, listed}
@@ -15,13 +14,13 @@ use Rattle.fm_parse.proofs.lists.read_numbers.Goals as goal
 pub returns-in_err-first-clause-follows : goal.returns-in_err-first-clause-follows
 returns-in_err-first-clause-follows c = λ F u below a.
     let e = c.in_err-first.field-0.0 in
-    let is : c.from_residual.result ≡ Err e = grind (arith, common_steps) in
+    let is = passed c.from_residual.result e c.from_residual.ensures.1 in
     handed F 0 below _ e _ is (c.in_err-first.ensures.follows F u _ a)
 
 pub returns-in_err-push-clause-follows : goal.returns-in_err-push-clause-follows
 returns-in_err-push-clause-follows c = λ F u below a.
     let e = c.in_err-push.field-0.0 in
-    let is : c.from_residual-in_err-push.result ≡ Err e = grind (arith, common_steps) in
+    let is = passed c.from_residual-in_err-push.result e c.from_residual-in_err-push.ensures.1 in
     handed F 0 below _ e _ is (no_memory F e c.in_err-push.ensures.memory)
 
 pub loop-r-init : goal.loop-r-init
@@ -37,14 +36,14 @@ loop-r-init c = record {
 pub returns-in_err-expect-clause-follows : goal.returns-in_err-expect-clause-follows
 returns-in_err-expect-clause-follows c = λ F u below a.
     let e = c.in_err-expect.field-0.0 in
-    let is : c.from_residual-in_err-expect.result ≡ Err e = grind (arith, common_steps) in
+    let is = passed c.from_residual-in_err-expect.result e c.from_residual-in_err-expect.ensures.1 in
     handed F 0 below _ e _ is (c.in_err-expect.ensures.follows F 0 _ (one_more _ c.next_is.ensures.there F 0 numbers
     below (c.next_is.ensures.same c.loop-r-test.true) (c.loop-r.invariant.leads F u below a)))
 
 pub returns-in_err-next-clause-follows : goal.returns-in_err-next-clause-follows
 returns-in_err-next-clause-follows c = λ F u below a.
     let e = c.in_err-next.field-0.0 in
-    let is : c.from_residual-in_err-next.result ≡ Err e = grind (arith, common_steps) in
+    let is = passed c.from_residual-in_err-next.result e c.from_residual-in_err-next.ensures.1 in
     handed F 0 below _ e _ is (c.in_err-next.ensures.follows F 0 _ (c.in_ok-expect.ensures.follows F 0 _
     (one_more _ c.next_is.ensures.there F 0 numbers below (c.next_is.ensures.same c.loop-r-test.true)
     (c.loop-r.invariant.leads F u below a))))
@@ -52,7 +51,7 @@ returns-in_err-next-clause-follows c = λ F u below a.
 pub returns-in_err-push-2-clause-follows : goal.returns-in_err-push-2-clause-follows
 returns-in_err-push-2-clause-follows c = λ F u below a.
     let e = c.in_err-push-2.field-0.0 in
-    let is : c.from_residual-in_err-push-2.result ≡ Err e = grind (arith, common_steps) in
+    let is = passed c.from_residual-in_err-push-2.result e c.from_residual-in_err-push-2.ensures.1 in
     handed F 0 below _ e _ is (no_memory F e c.in_err-push-2.ensures.memory)
 
 pub loop-r-preserved : goal.loop-r-preserved

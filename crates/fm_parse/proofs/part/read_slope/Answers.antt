@@ -1,34 +1,33 @@
 -- A part with two stretches.
-use Rattle.std.proofs.Common.{◌≡◌, Err, refl, arith}
-use Rattle.std.proofs.lemmas.Grind.{common_steps}
+use Rattle.std.proofs.Common.{refl}
 use Rattle.fm_grammar.specs.Grammar as forms
-use Rattle.fm_parse.proofs.Steps.{handed}
+use Rattle.fm_parse.proofs.Steps.{passed, handed}
 use Rattle.fm_parse.specs.Follow.{leaf_at}
 use Rattle.fm_parse.proofs.part.read_slope.Goals as goal
 
 pub returns-in_err-expect-clause-follows : goal.returns-in_err-expect-clause-follows
 returns-in_err-expect-clause-follows c = λ F u below a.
     let e = c.in_err-expect.field-0.0 in
-    let is : c.from_residual.result ≡ Err e = grind (arith, common_steps) in
+    let is = passed c.from_residual.result e c.from_residual.ensures.1 in
     handed F 0 below _ e _ is (c.in_err-expect.ensures.follows F u _ a)
 
 pub returns-in_err-length-clause-follows : goal.returns-in_err-length-clause-follows
 returns-in_err-length-clause-follows c = λ F u below a.
     let e = c.in_err-length.field-0.0 in
-    let is : c.from_residual-in_err-length.result ≡ Err e = grind (arith, common_steps) in
+    let is = passed c.from_residual-in_err-length.result e c.from_residual-in_err-length.ensures.1 in
     handed F 0 below _ e _ is (c.in_err-length.ensures.follows F 0 _ (c.in_ok-expect.ensures.follows F u _ a))
 
 pub returns-in_err-by-clause-follows : goal.returns-in_err-by-clause-follows
 returns-in_err-by-clause-follows c = λ F u below a.
     let e = c.in_err-by.field-0.0 in
-    let is : c.from_residual-in_err-by.result ≡ Err e = grind (arith, common_steps) in
+    let is = passed c.from_residual-in_err-by.result e c.from_residual-in_err-by.ensures.1 in
     handed F 0 below _ e _ is (c.in_err-by.ensures.follows F 0 _ (c.in_ok-length.ensures.follows F 0 _
     (c.in_ok-expect.ensures.follows F u _ a)))
 
 pub returns-in_err-to-clause-follows : goal.returns-in_err-to-clause-follows
 returns-in_err-to-clause-follows c = λ F u below a.
     let e = c.in_err-to.field-0.0 in
-    let is : c.from_residual-in_err-to.result ≡ Err e = grind (arith, common_steps) in
+    let is = passed c.from_residual-in_err-to.result e c.from_residual-in_err-to.ensures.1 in
     handed F 0 below _ e _ is (c.in_err-to.ensures.follows F 0 _ (c.in_ok-by.ensures.follows F 0 _
     (c.in_ok-length.ensures.follows F 0 _ (c.in_ok-expect.ensures.follows F u _ a))))
 

@@ -1,9 +1,8 @@
 -- The call of a phrase.
-use Rattle.std.proofs.Common.{◌≡◌, Err, refl, arith}
-use Rattle.std.proofs.lemmas.Grind.{common_steps}
+use Rattle.std.proofs.Common.{refl}
 use Rattle.fm_grammar.specs.Grammar as forms
 use Rattle.fm_grammar.specs.View.{name_view}
-use Rattle.fm_parse.proofs.Steps.{handed}
+use Rattle.fm_parse.proofs.Steps.{passed, handed}
 use Rattle.fm_parse.proofs.ItemViews.{call_view}
 use Rattle.fm_parse.specs.Follow.{leaf_at}
 use Rattle.fm_parse.proofs.simple.read_do.Goals as goal
@@ -11,19 +10,19 @@ use Rattle.fm_parse.proofs.simple.read_do.Goals as goal
 pub returns-in_err-spot-clause-follows : goal.returns-in_err-spot-clause-follows
 returns-in_err-spot-clause-follows c = λ F u below a.
     let e = c.in_err-spot.field-0.0 in
-    let is : c.from_residual.result ≡ Err e = grind (arith, common_steps) in
+    let is = passed c.from_residual.result e c.from_residual.ensures.1 in
     handed F 0 below _ e _ is (c.in_err-spot.ensures.follows F u _ a)
 
 pub returns-in_err-name-clause-follows : goal.returns-in_err-name-clause-follows
 returns-in_err-name-clause-follows c = λ F u below a.
     let e = c.in_err-name.field-0.0 in
-    let is : c.from_residual-in_err-name.result ≡ Err e = grind (arith, common_steps) in
+    let is = passed c.from_residual-in_err-name.result e c.from_residual-in_err-name.ensures.1 in
     handed F 0 below _ e _ is (c.in_err-name.ensures.follows F 0 _ (c.in_ok-spot.ensures.follows F u _ a))
 
 pub returns-in_err-expect-clause-follows : goal.returns-in_err-expect-clause-follows
 returns-in_err-expect-clause-follows c = λ F u below a.
     let e = c.in_err-expect.field-0.0 in
-    let is : c.from_residual-in_err-expect.result ≡ Err e = grind (arith, common_steps) in
+    let is = passed c.from_residual-in_err-expect.result e c.from_residual-in_err-expect.ensures.1 in
     handed F 0 below _ e _ is (c.in_err-expect.ensures.follows F 0 _ (c.in_ok-name.ensures.follows F 0 _
     (c.in_ok-spot.ensures.follows F u _ a)))
 

@@ -1,8 +1,7 @@
 -- A rest.
-use Rattle.std.proofs.Common.{◌≡◌, Err, refl, arith}
-use Rattle.std.proofs.lemmas.Grind.{common_steps}
+use Rattle.std.proofs.Common.{refl}
 use Rattle.fm_grammar.specs.Grammar as forms
-use Rattle.fm_parse.proofs.Steps.{handed}
+use Rattle.fm_parse.proofs.Steps.{passed, handed}
 use Rattle.fm_parse.proofs.ItemViews.{rest_view}
 use Rattle.fm_parse.specs.Follow.{leaf_at}
 use Rattle.fm_parse.proofs.simple.read_rest.Goals as goal
@@ -10,19 +9,19 @@ use Rattle.fm_parse.proofs.simple.read_rest.Goals as goal
 pub returns-in_err-spot-clause-follows : goal.returns-in_err-spot-clause-follows
 returns-in_err-spot-clause-follows c = λ F u below a.
     let e = c.in_err-spot.field-0.0 in
-    let is : c.from_residual.result ≡ Err e = grind (arith, common_steps) in
+    let is = passed c.from_residual.result e c.from_residual.ensures.1 in
     handed F 0 below _ e _ is (c.in_err-spot.ensures.follows F u _ a)
 
 pub returns-in_err-duration-clause-follows : goal.returns-in_err-duration-clause-follows
 returns-in_err-duration-clause-follows c = λ F u below a.
     let e = c.in_err-duration.field-0.0 in
-    let is : c.from_residual-in_err-duration.result ≡ Err e = grind (arith, common_steps) in
+    let is = passed c.from_residual-in_err-duration.result e c.from_residual-in_err-duration.ensures.1 in
     handed F 0 below _ e _ is (c.in_err-duration.ensures.follows F 0 _ (c.in_ok-spot.ensures.follows F u _ a))
 
 pub returns-in_err-expect-clause-follows : goal.returns-in_err-expect-clause-follows
 returns-in_err-expect-clause-follows c = λ F u below a.
     let e = c.in_err-expect.field-0.0 in
-    let is : c.from_residual-in_err-expect.result ≡ Err e = grind (arith, common_steps) in
+    let is = passed c.from_residual-in_err-expect.result e c.from_residual-in_err-expect.ensures.1 in
     handed F 0 below _ e _ is (c.in_err-expect.ensures.follows F 0 _ (c.in_ok-duration.ensures.follows F 0 _
     (c.in_ok-spot.ensures.follows F u _ a)))
 

@@ -1,8 +1,7 @@
 -- A program change or a pitch bend.
-use Rattle.std.proofs.Common.{◌≡◌, Err, refl, ap, ◌∙◌, arith}
-use Rattle.std.proofs.lemmas.Grind.{common_steps}
+use Rattle.std.proofs.Common.{refl, ap, ◌∙◌}
 use Rattle.fm_grammar.specs.Grammar as forms
-use Rattle.fm_parse.proofs.Steps.{handed}
+use Rattle.fm_parse.proofs.Steps.{passed, handed}
 use Rattle.fm_parse.proofs.SortLemmas.{at_sent}
 use Rattle.fm_parse.specs.Follow.{leaf_at}
 use Rattle.fm_parse.specs.Statements.{placed}
@@ -14,21 +13,21 @@ pub returns-in_err-spot-clause-follows : goal.returns-in_err-spot-clause-follows
 returns-in_err-spot-clause-follows c = λ F u below a.
     let b = at_sent F u below _ _ (sending c.args.sent) c.word.ensures a in
     let e = c.in_err-spot.field-0.0 in
-    let is : c.from_residual.result ≡ Err e = grind (arith, common_steps) in
+    let is = passed c.from_residual.result e c.from_residual.ensures.1 in
     handed F 0 below _ e _ is (c.in_err-spot.ensures.follows F u _ b)
 
 pub returns-in_err-amount-clause-follows : goal.returns-in_err-amount-clause-follows
 returns-in_err-amount-clause-follows c = λ F u below a.
     let b = at_sent F u below _ _ (sending c.args.sent) c.word.ensures a in
     let e = c.in_err-amount.field-0.0 in
-    let is : c.from_residual-in_err-amount.result ≡ Err e = grind (arith, common_steps) in
+    let is = passed c.from_residual-in_err-amount.result e c.from_residual-in_err-amount.ensures.1 in
     handed F 0 below _ e _ is (c.in_err-amount.ensures.follows F 0 _ (c.in_ok-spot.ensures.follows F u _ b))
 
 pub returns-in_err-expect-clause-follows : goal.returns-in_err-expect-clause-follows
 returns-in_err-expect-clause-follows c = λ F u below a.
     let b = at_sent F u below _ _ (sending c.args.sent) c.word.ensures a in
     let e = c.in_err-expect.field-0.0 in
-    let is : c.from_residual-in_err-expect.result ≡ Err e = grind (arith, common_steps) in
+    let is = passed c.from_residual-in_err-expect.result e c.from_residual-in_err-expect.ensures.1 in
     handed F 0 below _ e _ is (c.in_err-expect.ensures.follows F 0 _ (c.in_ok-amount.ensures.follows F 0 _
     (c.in_ok-spot.ensures.follows F u _ b)))
 

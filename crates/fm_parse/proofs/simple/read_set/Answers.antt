@@ -1,9 +1,8 @@
 -- The setting of a register.
-use Rattle.std.proofs.Common.{◌≡◌, Err, refl, arith}
-use Rattle.std.proofs.lemmas.Grind.{common_steps}
+use Rattle.std.proofs.Common.{refl}
 use Rattle.fm_grammar.specs.Signs.{semicolon}
 use Rattle.fm_grammar.specs.Grammar as forms
-use Rattle.fm_parse.proofs.Steps.{handed}
+use Rattle.fm_parse.proofs.Steps.{passed, handed}
 use Rattle.fm_parse.proofs.ItemViews.{set_view}
 use Rattle.fm_parse.specs.Follow.{leaf_at}
 use Rattle.fm_parse.proofs.simple.read_set.Goals as goal
@@ -11,33 +10,33 @@ use Rattle.fm_parse.proofs.simple.read_set.Goals as goal
 pub returns-in_err-spot-clause-follows : goal.returns-in_err-spot-clause-follows
 returns-in_err-spot-clause-follows c = λ F u below a.
     let e = c.in_err-spot.field-0.0 in
-    let is : c.from_residual.result ≡ Err e = grind (arith, common_steps) in
+    let is = passed c.from_residual.result e c.from_residual.ensures.1 in
     handed F 0 below _ e _ is (c.in_err-spot.ensures.follows F u _ a)
 
 pub returns-in_err-register-clause-follows : goal.returns-in_err-register-clause-follows
 returns-in_err-register-clause-follows c = λ F u below a.
     let e = c.in_err-register.field-0.0 in
-    let is : c.from_residual-in_err-register.result ≡ Err e = grind (arith, common_steps) in
+    let is = passed c.from_residual-in_err-register.result e c.from_residual-in_err-register.ensures.1 in
     handed F 0 below _ e _ is (c.in_err-register.ensures.follows F 0 _ (c.in_ok-spot.ensures.follows F u _ a))
 
 pub returns-in_err-expect-clause-follows : goal.returns-in_err-expect-clause-follows
 returns-in_err-expect-clause-follows c = λ F u below a.
     let e = c.in_err-expect.field-0.0 in
-    let is : c.from_residual-in_err-expect.result ≡ Err e = grind (arith, common_steps) in
+    let is = passed c.from_residual-in_err-expect.result e c.from_residual-in_err-expect.ensures.1 in
     handed F 0 below _ e _ is (c.in_err-expect.ensures.follows F 0 _ (c.in_ok-register.ensures.follows F 0 _
     (c.in_ok-spot.ensures.follows F u _ a)))
 
 pub returns-in_err-value-clause-follows : goal.returns-in_err-value-clause-follows
 returns-in_err-value-clause-follows c = λ F u below a.
     let e = c.in_err-value.field-0.0 in
-    let is : c.from_residual-in_err-value.result ≡ Err e = grind (arith, common_steps) in
+    let is = passed c.from_residual-in_err-value.result e c.from_residual-in_err-value.ensures.1 in
     handed F 0 below _ e _ is (c.in_err-value.ensures.follows F semicolon _ (c.in_ok-expect.ensures.follows F 0 _
     (c.in_ok-register.ensures.follows F 0 _ (c.in_ok-spot.ensures.follows F u _ a))))
 
 pub returns-in_err-expect-2-clause-follows : goal.returns-in_err-expect-2-clause-follows
 returns-in_err-expect-2-clause-follows c = λ F u below a.
     let e = c.in_err-expect-2.field-0.0 in
-    let is : c.from_residual-in_err-expect-2.result ≡ Err e = grind (arith, common_steps) in
+    let is = passed c.from_residual-in_err-expect-2.result e c.from_residual-in_err-expect-2.ensures.1 in
     handed F 0 below _ e _ is (c.in_err-expect-2.ensures.follows F 0 _ (c.in_ok-value.ensures.follows F semicolon _
     (c.in_ok-expect.ensures.follows F 0 _ (c.in_ok-register.ensures.follows F 0 _
     (c.in_ok-spot.ensures.follows F u _ a)))))

@@ -1,33 +1,32 @@
 -- The head of a score.
-use Rattle.std.proofs.Common.{◌≡◌, Err, refl, arith}
-use Rattle.std.proofs.lemmas.Grind.{common_steps}
-use Rattle.fm_parse.proofs.Steps.{handed}
+use Rattle.std.proofs.Common.{refl}
+use Rattle.fm_parse.proofs.Steps.{passed, handed}
 use Rattle.fm_parse.specs.Follow.{leaf_at}
 use Rattle.fm_parse.proofs.text.read_head.Goals as goal
 
 pub returns-in_err-expect-clause-follows : goal.returns-in_err-expect-clause-follows
 returns-in_err-expect-clause-follows c = λ F u below a.
     let e = c.in_err-expect.field-0.0 in
-    let is : c.from_residual.result ≡ Err e = grind (arith, common_steps) in
+    let is = passed c.from_residual.result e c.from_residual.ensures.1 in
     handed F 0 below _ e _ is (c.in_err-expect.ensures.follows F u _ a)
 
 pub returns-in_err-version-clause-follows : goal.returns-in_err-version-clause-follows
 returns-in_err-version-clause-follows c = λ F u below a.
     let e = c.in_err-version.field-0.0 in
-    let is : c.from_residual-in_err-version.result ≡ Err e = grind (arith, common_steps) in
+    let is = passed c.from_residual-in_err-version.result e c.from_residual-in_err-version.ensures.1 in
     handed F 0 below _ e _ is (c.in_err-version.ensures.follows F 0 _ (c.in_ok-expect.ensures.follows F u _ a))
 
 pub returns-in_err-expect-2-clause-follows : goal.returns-in_err-expect-2-clause-follows
 returns-in_err-expect-2-clause-follows c = λ F u below a.
     let e = c.in_err-expect-2.field-0.0 in
-    let is : c.from_residual-in_err-expect-2.result ≡ Err e = grind (arith, common_steps) in
+    let is = passed c.from_residual-in_err-expect-2.result e c.from_residual-in_err-expect-2.ensures.1 in
     handed F 0 below _ e _ is (c.in_err-expect-2.ensures.follows F 0 _ (c.in_ok-version.ensures.follows F 0 _
     (c.in_ok-expect.ensures.follows F u _ a)))
 
 pub returns-in_err-seed-clause-follows : goal.returns-in_err-seed-clause-follows
 returns-in_err-seed-clause-follows c = λ F u below a.
     let e = c.in_err-seed.field-0.0 in
-    let is : c.from_residual-in_err-seed.result ≡ Err e = grind (arith, common_steps) in
+    let is = passed c.from_residual-in_err-seed.result e c.from_residual-in_err-seed.ensures.1 in
     handed F 0 below _ e _ is (c.in_err-seed.ensures.follows F 0 _ (c.in_ok-expect-2.ensures.follows F 0 _
     (c.in_ok-version.ensures.follows F 0 _ (c.in_ok-expect.ensures.follows F u _ a))))
 

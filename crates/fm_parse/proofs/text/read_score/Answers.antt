@@ -1,28 +1,28 @@
 -- A head, entries and the end.
-use Rattle.std.proofs.Common.{◌≡◌, [], ◌∷◌, Err, refl, ap₂, arith}
-use Rattle.std.proofs.lemmas.Grind.{common_steps}
+use Rattle.std.proofs.Common.{[], ◌∷◌, refl, ap₂}
 use Rattle.fm_lex.specs.declared.kind.Kind.TheVariants as kinds
 use Rattle.fm_parse.proofs.Verdicts.{closed_err, score_from}
 use Rattle.fm_grammar.specs.Rules.{one}
+use Rattle.fm_parse.proofs.Steps.{passed}
 use Rattle.fm_parse.proofs.text.read_score.Goals as goal
 
 pub returns-in_err-head-clause-follows : goal.returns-in_err-head-clause-follows
 returns-in_err-head-clause-follows c = λ F a.
     let e = c.in_err-head.field-0.0 in
-    let is : c.from_residual.result ≡ Err e = grind (arith, common_steps) in
+    let is = passed c.from_residual.result e c.from_residual.ensures.1 in
     closed_err F _ e is (c.in_err-head.ensures.follows F 0 _ a)
 
 pub returns-in_err-entries-clause-follows : goal.returns-in_err-entries-clause-follows
 returns-in_err-entries-clause-follows c = λ F a.
     let e = c.in_err-entries.field-0.0 in
-    let is : c.from_residual-in_err-entries.result ≡ Err e = grind (arith, common_steps) in
+    let is = passed c.from_residual-in_err-entries.result e c.from_residual-in_err-entries.ensures.1 in
     closed_err F _ e is (c.in_err-entries.ensures.follows F 0 (one kinds.End ∷ [])
     refl (c.in_ok-head.ensures.follows F 0 _ a))
 
 pub returns-in_err-check_end-clause-follows : goal.returns-in_err-check_end-clause-follows
 returns-in_err-check_end-clause-follows c = λ F a.
     let e = c.in_err-check_end.field-0.0 in
-    let is : c.from_residual-in_err-check_end.result ≡ Err e = grind (arith, common_steps) in
+    let is = passed c.from_residual-in_err-check_end.result e c.from_residual-in_err-check_end.ensures.1 in
     closed_err F _ e is (c.in_err-check_end.ensures.follows F 0 (c.in_ok-entries.ensures.follows F 0
     (one kinds.End ∷ []) refl (c.in_ok-head.ensures.follows F 0 _ a)))
 

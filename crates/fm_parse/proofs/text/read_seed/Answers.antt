@@ -1,8 +1,7 @@
 -- A seed, or none.
-use Rattle.std.proofs.Common.{◌≡◌, Some, Err, refl, ap, arith}
-use Rattle.std.proofs.lemmas.Grind.{common_steps}
+use Rattle.std.proofs.Common.{Some, refl, ap}
 use Rattle.fm_grammar.specs.Grammar as forms
-use Rattle.fm_parse.proofs.Steps.{handed}
+use Rattle.fm_parse.proofs.Steps.{passed, handed}
 use Rattle.fm_parse.proofs.Ways.{at_seed, without_seed}
 use Rattle.fm_parse.specs.Follow.{leaf_at}
 use Rattle.fm_parse.proofs.text.read_seed.Goals as goal
@@ -10,21 +9,21 @@ use Rattle.fm_parse.proofs.text.read_seed.Goals as goal
 pub returns-in_err-expect-clause-follows : goal.returns-in_err-expect-clause-follows
 returns-in_err-expect-clause-follows c = λ F u below a.
     let e = c.in_err-expect.field-0.0 in
-    let is : c.from_residual.result ≡ Err e = grind (arith, common_steps) in
+    let is = passed c.from_residual.result e c.from_residual.ensures.1 in
     handed F 0 below _ e _ is (c.in_err-expect.ensures.follows F u _ (at_seed _ c.next_is.ensures.there F u below
     (c.next_is.ensures.same c.if-not-next_is.false) a))
 
 pub returns-in_err-seed-clause-follows : goal.returns-in_err-seed-clause-follows
 returns-in_err-seed-clause-follows c = λ F u below a.
     let e = c.in_err-seed.field-0.0 in
-    let is : c.from_residual-in_err-seed.result ≡ Err e = grind (arith, common_steps) in
+    let is = passed c.from_residual-in_err-seed.result e c.from_residual-in_err-seed.ensures.1 in
     handed F 0 below _ e _ is (c.in_err-seed.ensures.follows F 0 _ (c.in_ok-expect.ensures.follows F u _
     (at_seed _ c.next_is.ensures.there F u below (c.next_is.ensures.same c.if-not-next_is.false) a)))
 
 pub returns-in_err-expect-2-clause-follows : goal.returns-in_err-expect-2-clause-follows
 returns-in_err-expect-2-clause-follows c = λ F u below a.
     let e = c.in_err-expect-2.field-0.0 in
-    let is : c.from_residual-in_err-expect-2.result ≡ Err e = grind (arith, common_steps) in
+    let is = passed c.from_residual-in_err-expect-2.result e c.from_residual-in_err-expect-2.ensures.1 in
     handed F 0 below _ e _ is (c.in_err-expect-2.ensures.follows F 0 _ (c.in_ok-seed.ensures.follows F 0 _
     (c.in_ok-expect.ensures.follows F u _ (at_seed _ c.next_is.ensures.there F u below
     (c.next_is.ensures.same c.if-not-next_is.false) a))))

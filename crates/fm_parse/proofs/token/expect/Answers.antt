@@ -1,10 +1,9 @@
 -- The token of the kind is taken, and another one refused.
-use Rattle.std.proofs.Common.{◌≡◌, ◌+◌, Err, ap, sym, subst, ◌∙◌, arith}
-use Rattle.std.proofs.lemmas.Grind.{common_steps}
+use Rattle.std.proofs.Common.{◌+◌, ap, sym, subst, ◌∙◌}
 use Rattle.fm_grammar.specs.Rules.{kind_code}
 use Rattle.fm_parse.specs.Reader.{first_kind}
 use Rattle.fm_parse.specs.Follow.{At}
-use Rattle.fm_parse.proofs.Steps.{lexical_here, handed, takes_one, takes_inner, refuses_one, refuses_inner, kind_there}
+use Rattle.fm_parse.proofs.Steps.{passed, lexical_here, handed, takes_one, takes_inner, refuses_one, refuses_inner, kind_there}
 use Rattle.fm_parse.proofs.Marks.{mark_tells, marked}
 use Rattle.fm_parse.proofs.token.expect.Goals as goal
 
@@ -23,7 +22,7 @@ returns-then-not-next_is-clause-inside c = λ F u below a.
 pub returns-in_err-advance-clause-follows : goal.returns-in_err-advance-clause-follows
 returns-in_err-advance-clause-follows c = λ F u below a.
     let e = c.in_err-advance.field-0.0 in
-    let is : c.from_residual.result ≡ Err e = grind (arith, common_steps) in
+    let is = passed c.from_residual.result e c.from_residual.ensures.1 in
     let same = kind_there _ _ _ c.peek.ensures (c.next_is.ensures.same c.if-not-next_is.false) in
     handed F 0 below _ e _ is (lexical_here F 0 below e _
     (takes_one _ _ c.peek.ensures F u c.args.kind below (ap kind_code (sym same)) a) c.in_err-advance.ensures.fault)
@@ -31,7 +30,7 @@ returns-in_err-advance-clause-follows c = λ F u below a.
 pub returns-in_err-advance-clause-inside : goal.returns-in_err-advance-clause-inside
 returns-in_err-advance-clause-inside c = λ F u below a.
     let e = c.in_err-advance.field-0.0 in
-    let is : c.from_residual.result ≡ Err e = grind (arith, common_steps) in
+    let is = passed c.from_residual.result e c.from_residual.ensures.1 in
     let same = kind_there _ _ _ c.peek.ensures (c.next_is.ensures.same c.if-not-next_is.false) in
     handed F _ below _ e _ is (lexical_here F _ below e _
     (takes_inner _ _ c.peek.ensures F u c.args.kind below (ap kind_code (sym same)) a) c.in_err-advance.ensures.fault)

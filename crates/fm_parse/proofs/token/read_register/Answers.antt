@@ -1,12 +1,11 @@
 -- A register is taken, and another token refused.
-use Rattle.std.proofs.Common.{◌≡◌, Err, ap, sym, subst, arith}
-use Rattle.std.proofs.lemmas.Grind.{common_steps}
+use Rattle.std.proofs.Common.{ap, sym, subst}
 use Rattle.fm_lex.specs.declared.kind.Kind.TheVariants.{Register}
 use Rattle.fm_lex.specs.Tokens.{lexeme_of}
 use Rattle.fm_grammar.specs.Rules.{kind_code, any_register}
 use Rattle.fm_grammar.proofs.Telling.{leaf_of}
 use Rattle.fm_parse.specs.Follow.{At}
-use Rattle.fm_parse.proofs.Steps.{lexical_here, handed, takes_one, refuses_one}
+use Rattle.fm_parse.proofs.Steps.{passed, lexical_here, handed, takes_one, refuses_one}
 use Rattle.fm_parse.proofs.Marks.{no_register, named}
 use Rattle.fm_parse.proofs.token.read_register.Goals as goal
 
@@ -20,7 +19,7 @@ returns-in_default c = record {
 pub returns-in_err-advance-clause-follows : goal.returns-in_err-advance-clause-follows
 returns-in_err-advance-clause-follows c = λ F u below a.
     let e = c.in_err-advance.field-0.0 in
-    let is : c.from_residual.result ≡ Err e = grind (arith, common_steps) in
+    let is = passed c.from_residual.result e c.from_residual.ensures.1 in
     handed F 0 below _ e _ is (lexical_here F 0 below e _
     (takes_one _ _ c.peek-token.ensures F u any_register below (ap kind_code (sym c.in-Register.is)) a)
     c.in_err-advance.ensures.fault)

@@ -1,17 +1,16 @@
 -- A number.
-use Rattle.std.proofs.Common.{◌≡◌, Err, ap, ◌∙◌, arith}
-use Rattle.std.proofs.lemmas.Grind.{common_steps}
+use Rattle.std.proofs.Common.{ap, ◌∙◌}
 use Rattle.fm_grammar.specs.Grammar as forms
 use Rattle.std.specs.Prelude.{pos}
 use Rattle.fm_grammar.specs.declared.number.Number.{Number}
 use Rattle.fm_grammar.specs.Score as tree
-use Rattle.fm_parse.proofs.Steps.{handed}
+use Rattle.fm_parse.proofs.Steps.{passed, handed}
 use Rattle.fm_parse.proofs.value.read_literal.Goals as goal
 
 pub returns-in_err-number-clause-follows : goal.returns-in_err-number-clause-follows
 returns-in_err-number-clause-follows c = λ F u below a.
     let e = c.in_err-number.field-0.0 in
-    let is : c.from_residual.result ≡ Err e = grind (arith, common_steps) in
+    let is = passed c.from_residual.result e c.from_residual.ensures.1 in
     handed F 0 below _ e _ is (c.in_err-number.ensures.follows F u _ a)
 
 pub returns-clause-follows : goal.returns-clause-follows

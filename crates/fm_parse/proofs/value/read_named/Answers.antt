@@ -1,9 +1,8 @@
 -- A pitch is taken, and another token refused.
-use Rattle.std.proofs.Common.{◌≡◌, Err, refl, sym, ap, subst, arith}
-use Rattle.std.proofs.lemmas.Grind.{common_steps}
+use Rattle.std.proofs.Common.{refl, sym, ap, subst}
 use Rattle.fm_lex.specs.declared.kind.Kind.TheVariants as kinds
 use Rattle.fm_grammar.specs.Grammar as forms
-use Rattle.fm_parse.proofs.Steps.{handed}
+use Rattle.fm_parse.proofs.Steps.{passed, handed}
 use Rattle.fm_lex.specs.Tokens.{lexeme_of}
 use Rattle.fm_grammar.specs.Rules.{kind_code, any_pitch}
 use Rattle.fm_grammar.proofs.Telling.{leaf_of}
@@ -22,7 +21,7 @@ returns-in_default c = record {
 pub returns-in_err-advance-clause-follows : goal.returns-in_err-advance-clause-follows
 returns-in_err-advance-clause-follows c = λ F u below a.
     let e = c.in_err-advance.field-0.0 in
-    let is : c.from_residual.result ≡ Err e = grind (arith, common_steps) in
+    let is = passed c.from_residual.result e c.from_residual.ensures.1 in
     handed F 0 below _ e _ is (lexical_here F 0 below e _
     (takes_one _ _ c.peek-token.ensures F u any_pitch below (ap kind_code (sym c.in-Pitch.is)) a)
     c.in_err-advance.ensures.fault)

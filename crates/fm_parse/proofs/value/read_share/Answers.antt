@@ -1,27 +1,26 @@
 -- A number, a slash and a number.
-use Rattle.std.proofs.Common.{◌≡◌, Err, refl, arith}
-use Rattle.std.proofs.lemmas.Grind.{common_steps}
+use Rattle.std.proofs.Common.{refl}
 use Rattle.fm_grammar.specs.Grammar as forms
-use Rattle.fm_parse.proofs.Steps.{handed}
+use Rattle.fm_parse.proofs.Steps.{passed, handed}
 use Rattle.fm_parse.specs.Follow.{leaf_at}
 use Rattle.fm_parse.proofs.value.read_share.Goals as goal
 
 pub returns-in_err-over-clause-follows : goal.returns-in_err-over-clause-follows
 returns-in_err-over-clause-follows c = λ F u below a.
     let e = c.in_err-over.field-0.0 in
-    let is : c.from_residual.result ≡ Err e = grind (arith, common_steps) in
+    let is = passed c.from_residual.result e c.from_residual.ensures.1 in
     handed F 0 below _ e _ is (c.in_err-over.ensures.follows F u _ a)
 
 pub returns-in_err-expect-clause-follows : goal.returns-in_err-expect-clause-follows
 returns-in_err-expect-clause-follows c = λ F u below a.
     let e = c.in_err-expect.field-0.0 in
-    let is : c.from_residual-in_err-expect.result ≡ Err e = grind (arith, common_steps) in
+    let is = passed c.from_residual-in_err-expect.result e c.from_residual-in_err-expect.ensures.1 in
     handed F 0 below _ e _ is (c.in_err-expect.ensures.follows F 0 _ (c.in_ok-over.ensures.follows F u _ a))
 
 pub returns-in_err-under-clause-follows : goal.returns-in_err-under-clause-follows
 returns-in_err-under-clause-follows c = λ F u below a.
     let e = c.in_err-under.field-0.0 in
-    let is : c.from_residual-in_err-under.result ≡ Err e = grind (arith, common_steps) in
+    let is = passed c.from_residual-in_err-under.result e c.from_residual-in_err-under.ensures.1 in
     handed F 0 below _ e _ is (c.in_err-under.ensures.follows F 0 _ (c.in_ok-expect.ensures.follows F 0 _
     (c.in_ok-over.ensures.follows F u _ a)))
 

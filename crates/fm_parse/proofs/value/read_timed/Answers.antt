@@ -1,7 +1,6 @@
 -- A word and a count.
-use Rattle.std.proofs.Common.{◌≡◌, Err, ◌∙◌, arith}
-use Rattle.std.proofs.lemmas.Grind.{common_steps}
-use Rattle.fm_parse.proofs.Steps.{handed}
+use Rattle.std.proofs.Common.{◌∙◌}
+use Rattle.fm_parse.proofs.Steps.{passed, handed}
 use Rattle.fm_parse.proofs.CountForms.{timed_form, timed_spells, timed_stands}
 use Rattle.fm_parse.specs.Follow.{leaf_at}
 use Rattle.fm_parse.proofs.value.read_timed.Goals as goal
@@ -9,13 +8,13 @@ use Rattle.fm_parse.proofs.value.read_timed.Goals as goal
 pub returns-in_err-expect-clause-follows : goal.returns-in_err-expect-clause-follows
 returns-in_err-expect-clause-follows c = λ F u below a.
     let e = c.in_err-expect.field-0.0 in
-    let is : c.from_residual.result ≡ Err e = grind (arith, common_steps) in
+    let is = passed c.from_residual.result e c.from_residual.ensures.1 in
     handed F 0 below _ e _ is (c.in_err-expect.ensures.follows F u _ a)
 
 pub returns-in_err-ticks-clause-follows : goal.returns-in_err-ticks-clause-follows
 returns-in_err-ticks-clause-follows c = λ F u below a.
     let e = c.in_err-ticks.field-0.0 in
-    let is : c.from_residual-in_err-ticks.result ≡ Err e = grind (arith, common_steps) in
+    let is = passed c.from_residual-in_err-ticks.result e c.from_residual-in_err-ticks.ensures.1 in
     handed F 0 below _ e _ is (c.in_err-ticks.ensures.follows F 0 _ (c.in_ok-expect.ensures.follows F u _ a))
 
 pub returns-clause-follows : goal.returns-clause-follows
