@@ -1,6 +1,6 @@
 -- Statements and branches that grow at their end.
-use Rattle.std.proofs.Common.{◌≡◌, ℕ, List, [], ◌∷◌, ◌++◌, Option, map, refl, sym, ap, ◌∙◌}
-use Rattle.std.specs.Prelude.{Vec}
+use Rattle.std.proofs.Common.{◌≡◌, ℕ, List, [], ◌∷◌, ◌++◌, Option, Result, Ok, Err, map, refl, sym, ap, ◌∙◌}
+use Rattle.std.specs.Prelude.{Vec, IfOk}
 use Rattle.std.specs.declared.alloc.Global.{Global}
 use Rattle.std.proofs.lemmas.List.{map-append}
 use Rattle.fm_lex.specs.Tokens.{Lexed}
@@ -8,17 +8,30 @@ use Rattle.fm_grammar.specs.declared.item.Item.{Item}
 use Rattle.fm_grammar.specs.Score.{Leaf, Body, done, then, Branches, none}
 use Rattle.fm_grammar.specs.Score as tree
 use Rattle.fm_grammar.specs.View.{PlacedStmt, body_of, branches_of, item_view, items_view}
-use Rattle.fm_grammar.specs.Grammar.{StmtsForm, no_stmt, stmt, StmtForm, BlockForm, BranchesForm, no_branch, branch}
+use Rattle.fm_grammar.specs.Grammar.{StmtsForm, no_stmt, stmt, StmtForm, BlockForm, BranchesForm, no_branch, branch, otherwise}
 use Rattle.fm_grammar.specs.Signs.{key}
-use Rattle.fm_lex.specs.declared.keyword.Keyword.TheVariants.{Branch}
-use Rattle.fm_grammar.specs.Spelling.{stmts_text, stmt_text, branches_text, block_text}
-use Rattle.fm_grammar.specs.Standing.{stmts_tree, stmt_spot, stmt_tree, branches_tree, block_tree}
+use Rattle.fm_lex.specs.declared.keyword.Keyword.TheVariants.{Branch, Else}
+use Rattle.fm_grammar.specs.Spelling.{stmts_text, stmt_text, branches_text, block_text, else_text}
+use Rattle.fm_grammar.specs.Standing.{stmts_tree, stmt_spot, stmt_tree, branches_tree, block_tree, else_tree}
 use Rattle.fm_grammar.specs.Reads.{Fault}
 use Rattle.fm_grammar.specs.Rules.{Sym, one, stmts, branches, block as blocked}
 use Rattle.fm_lex.specs.declared.kind.Kind.TheVariants as kinds
 use Rattle.fm_grammar.specs.Table.{opened}
+use Rattle.fm_parse.specs.declared.fault.ParseFault.{ParseFault}
 use Rattle.fm_parse.specs.Follow.{At, Spelt}
 use Rattle.fm_parse.specs.Statements.{placed_tree, fork_text, fork_tree, bodies_view}
+
+-- ---- the block behind an else
+
+pub else_read : (r : Result (Vec Item Global) ParseFault) (w : Leaf) (old mid new : List Lexed) → old ≡ key Else w ∷ mid
+    → IfOk r (λ b. Spelt block_text block_tree (items_view b.items) mid new)
+    → IfOk r (λ b. Spelt else_text else_tree (items_view b.items) old new)
+else_read (Err e) w old mid new mark read = tt
+else_read (Ok b) w old mid new mark read = record {
+  form = otherwise w read.form;
+  spells = mark ∙ ap (λ l. key Else w ∷ l) read.spells;
+  stands_for = read.stands_for;
+}
 
 -- ---- statements
 

@@ -98,17 +98,15 @@ pub set_view : (s : Spot) (a : ℕ) (b : Expr) (x : ℕ) (y : Postfix) → a ≡
     → seen s (code.Set a b) ≡ placed s (tree.set x y)
 set_view s a b x y p q = set_seen s a b ∙ ap₂ (λ (v : ℕ) (w : Postfix). placed s (tree.set v w)) p q
 
-choice_seen : (s : Spot) (a : Expr) (b : Vec Item Global) (c : Vec Item Global)
+pub choice_seen : (s : Spot) (a : Expr) (b : Vec Item Global) (c : Vec Item Global)
     → seen s (code.If a b c) ≡ placed s (tree.choice (expr_view a) (items_view b.items) (items_view c.items))
 choice_seen s a b c = search (rules, the_lemmas)
 
 -- a choice
-pub choice_view : (s : Spot) (a : Expr) (b : Vec Item Global) (c : Vec Item Global)
-    (x : Postfix) (y : Body) (z : Body) → expr_view a ≡ x → items_view b.items ≡ y → items_view c.items ≡ z
-    → seen s (code.If a b c) ≡ placed s (tree.choice x y z)
-choice_view s a b c x y z p q r =
-    choice_seen s a b c
-    ∙ ap₂ (λ (v : Postfix) (w : Body). placed s (tree.choice v w (items_view c.items))) p q
+pub choice_stands : (s : Spot) (a x : Postfix) (b y c z : Body) → a ≡ x → b ≡ y → c ≡ z
+    → placed s (tree.choice a b c) ≡ placed s (tree.choice x y z)
+choice_stands s a x b y c z p q r =
+    ap₂ (λ (v : Postfix) (w : Body). placed s (tree.choice v w c)) p q
     ∙ ap (λ (v : Body). placed s (tree.choice x y v)) r
 
 repeat_seen : (s : Spot) (a : Number) (b : Vec Item Global)

@@ -1,19 +1,20 @@
 //! Reading statements and blocks. Each function is given how many braces are open round it.
 
-ghost use Rattle.std.specs.Prelude.{◌≡◌, true, ℕ, ◌+◌, ◌<◌, ◌≤◌, List, [], ◌∷◌, ◌++◌, Option, IfOk};
+ghost use Rattle.std.specs.Prelude.{◌≡◌, true, ℕ, ◌+◌, ◌<◌, ◌≤◌, List, [], ◌∷◌, ◌++◌, Option, IfOk, IfErr, OnOk};
 ghost use Rattle.fm_lex.specs.declared.kind.Kind.TheVariants.{Keyword as Word};
 ghost use Rattle.fm_lex.specs.declared.keyword.Keyword.TheVariants.{If, Repeat, Par, Branch, Warp, Rhythm};
 ghost use Rattle.fm_grammar.specs.Reads.{Fault};
-ghost use Rattle.fm_grammar.specs.View.{item_view, items_view};
+ghost use Rattle.fm_grammar.specs.Score.{choice};
+ghost use Rattle.fm_grammar.specs.View.{expr_view, item_view, items_view};
 ghost use Rattle.fm_grammar.specs.Spelling.{stmt_text, stmts_text, block_text, else_text, scoping_word, cycling_word};
 ghost use Rattle.fm_grammar.specs.Standing.{stmts_tree, block_tree, else_tree};
 ghost use Rattle.fm_grammar.specs.Rules.{Sym, one, stmts as statements, otherwise, branches as further, block};
 ghost use Rattle.fm_grammar.specs.Table.{opened};
 ghost use Rattle.fm_parse.specs.Counts.{count_view};
 ghost use Rattle.fm_parse.specs.Reader.{first_kind};
-ghost use Rattle.fm_parse.specs.Follow.{At, Leads, FollowsIn, Spelt};
+ghost use Rattle.fm_parse.specs.Follow.{At, Leads, FollowsIn, IsThere, IsDeep, Spelt};
 ghost use Rattle.fm_parse.specs.Sorts.{scoping, cycling};
-ghost use Rattle.fm_parse.specs.Statements.{loop_view, begins, stmt_syms, placed_tree, braces_needed, IsMain, fork_text, fork_tree, bodies_view};
+ghost use Rattle.fm_parse.specs.Statements.{placed, loop_view, begins, stmt_syms, placed_tree, braces_needed, IsMain, fork_text, fork_tree, bodies_view};
 
 use crate::count::Count;
 use crate::expr::read_expr;
@@ -30,6 +31,7 @@ use crate::value::read_count;
 use crate::words::{braces_of, starter_of};
 use fm_grammar::{Item, What};
 use fm_lex::{Keyword, Kind, Spot};
+use fm_value::Expr;
 use std::alloc::Global;
 
 /// The most braces that are open at one time.
@@ -70,6 +72,31 @@ fn loop_of<'s>(spot: Spot, count: Count, body: Vec<Item<'s>>) -> Item<'s>
     }
 }
 
+// A choice between two blocks.
+fn choice_of<'s>(spot: Spot, test: Expr, taken: Vec<Item<'s>>, other: Vec<Item<'s>>) -> Item<'s>
+    ensures { item_view result ≡ placed spot
+        (choice (expr_view test) (items_view taken.entry.items) (items_view other.entry.items)) }
+{
+    Item {
+        spot,
+        what: What::If {
+            test,
+            yes: taken,
+            no: other,
+        },
+    }
+}
+
+// Refuses the next token where the statement with this word opens too many braces.
+fn check_braces(r: &Reader, word: Keyword, depth: u32) -> Result<(), ParseFault>
+    requires { depth ≤ 64 }
+    ensures there { IsThere r.now }
+    ensures within { OnOk result (depth + braces_needed word ≤ 64) }
+    ensures deep { IfErr result (λ e. IsDeep (depth + braces_needed word) 64 e r.now) }
+{
+    check_limit(r, depth + braces_of(word), MAX_BRACES)
+}
+
 /// Reads a block.
 #[cycle(item)]
 pub fn read_block<'s>(
@@ -98,8 +125,7 @@ fn read_else<'s>(alloc: Global, r: &mut Reader<'s>, depth: u32) -> Result<Vec<It
         return Ok(Vec::new(alloc));
     }
     expect(r, ELSE)?;
-    let body = read_block(alloc, r, depth)?;
-    Ok(body)
+    read_block(alloc, r, depth)
 }
 
 // A choice.
@@ -113,12 +139,7 @@ fn read_if<'s>(alloc: Global, r: &mut Reader<'s>, depth: u32) -> Result<Item<'s>
     let test = read_expr(alloc, r)?;
     let taken = read_block(alloc, r, depth)?;
     let other = read_else(alloc, r, depth)?;
-    let what = What::If {
-        test,
-        yes: taken,
-        no: other,
-    };
-    Ok(Item { spot, what })
+    Ok(choice_of(spot, test, taken, other))
 }
 
 // A loop.
@@ -298,9 +319,8 @@ pub fn read_statement<'s>(
         → IsMain s → opened below ≡ depth
         → At whole used (s ∷ below) r.old → Leads whole 0 (s ∷ below) result r.new }
 {
-    check_limit(r, depth + braces_of(word), MAX_BRACES)?;
-    let item = read_worded(alloc, r, word, depth)?;
-    Ok(item)
+    check_braces(r, word, depth)?;
+    read_worded(alloc, r, word, depth)
 }
 
 /// Reads statements.

@@ -14,8 +14,8 @@ use Rattle.fm_parse.proofs.Ways.{at_else, without_else, at_branch, without_branc
 use Rattle.fm_parse.proofs.Beginnings.{at_word, stmt_begun, stmt_deep, opened_main, no_other, no_statement}
 use Rattle.fm_parse.proofs.CountForms.{loop_form, loop_spells, loop_stands}
 use Rattle.fm_parse.proofs.StmtLengths.{block_more, stmt_more}
-use Rattle.fm_parse.proofs.Bodies.{one_stated, one_branched, branched}
-use Rattle.fm_parse.proofs.ItemViews.{choice_view, warp_view, par_view, rhythm_view}
+use Rattle.fm_parse.proofs.Bodies.{else_read, one_stated, one_branched, branched}
+use Rattle.fm_parse.proofs.ItemViews.{choice_stands, warp_view, par_view, rhythm_view}
 use Rattle.fm_parse.proofs.SortLemmas.{at_scope, at_cycle}
 use Rattle.fm_parse.specs.Sorts.{scoping, cycling}
 use Rattle.fm_grammar.specs.Standing.{scoping_tree, cycling_tree}
@@ -96,7 +96,7 @@ read_if-returns-clause-text t c = record {
     c.in_ok-taken.ensures.text.spells,
     c.in_ok-other.ensures.text.spells,
   ) refl;
-  stands_for = choice_view _ _ _ _ _ _ _ c.in_ok-test.ensures.text.stands_for c.in_ok-taken.ensures.text.stands_for
+  stands_for = c.choice_of.ensures ∙ choice_stands _ _ _ _ _ _ _ c.in_ok-test.ensures.text.stands_for c.in_ok-taken.ensures.text.stands_for
       c.in_ok-other.ensures.text.stands_for;
 }
 
@@ -381,26 +381,15 @@ read_else-returns-in_err-expect-clause-follows t c = λ F u below d a.
     handed F 0 below _ e _ is (c.in_err-expect.ensures.follows F u _ (at_else _ c.next_is.ensures.there F u below
     (c.next_is.ensures.same c.if-not-next_is.false) (omega (arith, d, c.requires)) a))
 
-pub read_else-returns-in_err-body-clause-follows : goal.read_else-returns-in_err-body-clause-follows
-read_else-returns-in_err-body-clause-follows t c = λ F u below d a.
-    let e = c.in_err-body.field-0.0 in
-    let is = passed c.from_residual-in_err-body.result e c.from_residual-in_err-body.ensures.1 in
-    handed F 0 below _ e _ is (c.in_err-body.ensures.follows F 0 below d (c.in_ok-expect.ensures.follows F u _
-    (at_else _ c.next_is.ensures.there F u below (c.next_is.ensures.same c.if-not-next_is.false)
-    (omega (arith, d, c.requires)) a)))
-
 pub read_else-returns-clause-follows : goal.read_else-returns-clause-follows
-read_else-returns-clause-follows t c = λ F u below d a. c.in_ok-body.ensures.follows F 0 below d
+read_else-returns-clause-follows t c = λ F u below d a. c.read_block.ensures.follows F 0 below d
     (c.in_ok-expect.ensures.follows F u _ (at_else _ c.next_is.ensures.there F u below
     (c.next_is.ensures.same c.if-not-next_is.false) (omega (arith, d, c.requires)) a))
 
 pub read_else-returns-clause-text : goal.read_else-returns-clause-text
-read_else-returns-clause-text t c = record {
-  form = forms.otherwise (leaf_at c.in_ok-expect.ensures.text.bytes c.in_ok-expect.field-0)
-      c.in_ok-body.ensures.text.form;
-  spells = rw (c.in_ok-expect.ensures.text.text, c.in_ok-body.ensures.text.spells) refl;
-  stands_for = c.in_ok-body.ensures.text.stands_for;
-}
+read_else-returns-clause-text t c =
+    else_read _ (leaf_at c.in_ok-expect.ensures.text.bytes c.in_ok-expect.field-0) _ _ _ c.in_ok-expect.ensures.text.text
+    c.read_block.ensures.text
 
 pub read_else-returns-then-not-next_is-clause-follows : goal.read_else-returns-then-not-next_is-clause-follows
 read_else-returns-then-not-next_is-clause-follows t c = λ F u below d a. without_else _ c.next_is.ensures.there F u
@@ -564,43 +553,23 @@ read_worded-returns-in_default-clause-follows t c = λ F u below d a.
     c.in_default.not-Par c.in_default.not-Channel c.in_default.not-Volume c.in_default.not-Gate
     c.in_default.not-Rhythm c.in_default.not-Artic c.in_default.not-Loud)
 
-pub read_statement-returns-in_err-check_limit-clause-follows :
-    goal.read_statement-returns-in_err-check_limit-clause-follows
-read_statement-returns-in_err-check_limit-clause-follows t c = λ F u s below main d a.
-    let e = c.in_err-check_limit.field-0.0 in
+pub read_statement-returns-in_err-check_braces-clause-follows :
+    goal.read_statement-returns-in_err-check_braces-clause-follows
+read_statement-returns-in_err-check_braces-clause-follows t c = λ F u s below main d a.
+    let e = c.in_err-check_braces.field-0.0 in
     let is = passed c.from_residual.result e c.from_residual.ensures.1 in
-    handed F 0 (s ∷ below) _ e _ is (deep_says F _ _ e _ c.in_err-check_limit.ensures.deep
-    (stmt_deep c.in_err-check_limit.ensures.deep.token _ c.in_err-check_limit.ensures.deep.is F u below s c.args.word
-    main c.requires.begins (kind_there c.in_err-check_limit.ensures.deep.token _ _ c.in_err-check_limit.ensures.deep.is
-    c.requires.first)
-    (omega (arith, d, c.in_err-check_limit.ensures.deep.passes, c.braces_of.ensures))
-    (omega (arith, d, c.requires.room)) a))
-
-pub read_statement-returns-in_err-item-clause-follows : goal.read_statement-returns-in_err-item-clause-follows
-read_statement-returns-in_err-item-clause-follows t c = λ F u s below main d a.
-    let e = c.in_err-item.field-0.0 in
-    let is = passed c.from_residual-in_err-item.result e c.from_residual-in_err-item.ensures.1 in
-    handed F 0 (s ∷ below) _ e _ is (c.in_err-item.ensures.follows F u (s ∷ below) (opened_main s below main ∙ d)
-    (stmt_begun c.in_ok-check_limit.ensures.there.token _ c.in_ok-check_limit.ensures.there.is F u below s
-    c.args.word main c.requires.begins (kind_there c.in_ok-check_limit.ensures.there.token _ _
-    c.in_ok-check_limit.ensures.there.is c.requires.first) (omega (
-      arith,
-      d,
-      c.in_ok-check_limit.ensures.within,
-      c.braces_of.ensures,
-    )) a))
+    handed F 0 (s ∷ below) _ e _ is (deep_says F _ _ e _ c.in_err-check_braces.ensures.deep
+    (stmt_deep c.in_err-check_braces.ensures.deep.token _ c.in_err-check_braces.ensures.deep.is F u below s c.args.word
+    main c.requires.begins (kind_there c.in_err-check_braces.ensures.deep.token _ _
+    c.in_err-check_braces.ensures.deep.is c.requires.first)
+    (omega (arith, d, c.in_err-check_braces.ensures.deep.passes)) (omega (arith, d, c.requires.room)) a))
 
 pub read_statement-returns-clause-follows : goal.read_statement-returns-clause-follows
 read_statement-returns-clause-follows t c = λ F u s below main d a.
-    c.in_ok-item.ensures.follows F u (s ∷ below) (opened_main s below main ∙ d)
-    (stmt_begun c.in_ok-check_limit.ensures.there.token _ c.in_ok-check_limit.ensures.there.is F u below s
-    c.args.word main c.requires.begins (kind_there c.in_ok-check_limit.ensures.there.token _ _
-    c.in_ok-check_limit.ensures.there.is c.requires.first) (omega (
-      arith,
-      d,
-      c.in_ok-check_limit.ensures.within,
-      c.braces_of.ensures,
-    )) a)
+    c.read_worded.ensures.follows F u (s ∷ below) (opened_main s below main ∙ d)
+    (stmt_begun c.in_ok-check_braces.ensures.there.token _ c.in_ok-check_braces.ensures.there.is F u below s
+    c.args.word main c.requires.begins (kind_there c.in_ok-check_braces.ensures.there.token _ _
+    c.in_ok-check_braces.ensures.there.is c.requires.first) (omega (arith, d, c.in_ok-check_braces.ensures.within)) a)
 
 pub read_statements-loop-word-init : goal.read_statements-loop-word-init
 read_statements-loop-word-init t c = record {
