@@ -15,7 +15,7 @@ use Rattle.fm_grammar.specs.Rules.{Sym, one, inner, factor, terms, sums, expr, t
 use Rattle.fm_grammar.specs.Table.{taking, fed_on, feed, want}
 use Rattle.fm_parse.specs.Reader.{tail}
 use Rattle.fm_parse.specs.declared.fault.ParseFault.{ParseFault}
-use Rattle.fm_parse.specs.Follow.{At, Says, Owes, Counts, IsDeep}
+use Rattle.fm_parse.specs.Follow.{At, Says, Owes, Counts, IsDeep, Opens}
 use Rattle.fm_parse.proofs.Steps.{goes, refused, begun_inner, deep_inner, skipped_inner, deep_says}
 
 -- ---- what is owed
@@ -66,64 +66,64 @@ adding_rule minus = refl
 
 module _ (t : Lexeme) (l : List Lexed) (is : l ≡ Ok t ∷ tail l) (F : Option Fault) (u owed : ℕ) (below : List Sym)
     (o : Owes below owed) where
-  pub at_minus : t.kind ≡ Symbol 45 → u + 2 + owed ≤ 64 → At F u (factor ∷ below) l
+  at_minus : t.kind ≡ Symbol 45 → u + 2 + owed ≤ 64 → At F u (factor ∷ below) l
       → At F u (inner minus_sign ∷ factor ∷ below) l
   at_minus kind h a =
       begun_inner t l is F u factor minus_sign (factor ∷ []) below refl kind refl (omega (arith, a.braces))
       (omega (arith, h, o.small, o.wants (u + 1 + 1))) a
 
-  pub deep_minus : t.kind ≡ Symbol 45 → 64 < u + 2 + owed → At F u (factor ∷ below) l → F ≡ Some (too_nested t.spot)
+  deep_minus : t.kind ≡ Symbol 45 → 64 < u + 2 + owed → At F u (factor ∷ below) l → F ≡ Some (too_nested t.spot)
   deep_minus kind h a =
       deep_inner t l is F u factor minus_sign (factor ∷ []) below refl kind refl (omega (arith, h, o.wants (u + 1 + 1)))
       a
 
-  pub at_group : t.kind ≡ Symbol 40 → u + 3 + owed ≤ 64 → At F u (factor ∷ below) l
+  at_group : t.kind ≡ Symbol 40 → u + 3 + owed ≤ 64 → At F u (factor ∷ below) l
       → At F u (inner open_parenthesis ∷ expr (inner close_parenthesis ∷ below)) l
   at_group kind h a =
       begun_inner t l is F u factor open_parenthesis (expr (inner close_parenthesis ∷ [])) below refl kind
       refl (omega (arith, a.braces))
       (omega (arith, h, o.small, o.wants (u + 1 + 1 + 0 + 0 + 1))) a
 
-  pub deep_group : t.kind ≡ Symbol 40 → 64 < u + 3 + owed → At F u (factor ∷ below) l → F ≡ Some (too_nested t.spot)
+  deep_group : t.kind ≡ Symbol 40 → 64 < u + 3 + owed → At F u (factor ∷ below) l → F ≡ Some (too_nested t.spot)
   deep_group kind h a =
       deep_inner t l is F u factor open_parenthesis (expr (inner close_parenthesis ∷ [])) below refl kind refl
       (omega (arith, h, o.wants (u + 1 + 1 + 0 + 0 + 1))) a
 
-  pub at_pick : t.kind ≡ kinds.Keyword Pick → u + 4 + owed ≤ 64 → At F u (factor ∷ below) l
+  at_pick : t.kind ≡ kinds.Keyword Pick → u + 4 + owed ≤ 64 → At F u (factor ∷ below) l
       → At F u (inner (kinds.Keyword Pick) ∷ inner open_parenthesis ∷ expr (inner close_parenthesis ∷ below)) l
   at_pick kind h a =
       begun_inner t l is F u factor (kinds.Keyword Pick) (inner open_parenthesis ∷ expr (inner close_parenthesis ∷ []))
       below refl kind refl
       (omega (arith, a.braces)) (omega (arith, h, o.small, o.wants (u + 1 + 1 + 1 + 0 + 0 + 1))) a
 
-  pub deep_pick : t.kind ≡ kinds.Keyword Pick → 64 < u + 4 + owed → At F u (factor ∷ below) l
+  deep_pick : t.kind ≡ kinds.Keyword Pick → 64 < u + 4 + owed → At F u (factor ∷ below) l
       → F ≡ Some (too_nested t.spot)
   deep_pick kind h a =
       deep_inner t l is F u factor (kinds.Keyword Pick) (inner open_parenthesis ∷ expr (inner close_parenthesis ∷ []))
       below refl kind refl
       (omega (arith, h, o.wants (u + 1 + 1 + 1 + 0 + 0 + 1))) a
 
-  pub at_compared : (f : Comparing) → t.kind ≡ kinds.Keyword (comparing_word f) → u + 6 + owed ≤ 64
+  at_compared : (f : Comparing) → t.kind ≡ kinds.Keyword (comparing_word f) → u + 6 + owed ≤ 64
       → At F u (factor ∷ below) l
       → At F u (inner (kinds.Keyword (comparing_word f)) ∷ (two_exprs ++ below)) l
   at_compared f kind h a =
       begun_inner t l is F u factor (kinds.Keyword (comparing_word f)) two_exprs below refl kind (comparing_rule f)
       (omega (arith, a.braces)) (omega (arith, h, o.small, o.wants (u + 1 + 1 + 1 + 0 + 0 + 1 + 1 + 0 + 0 + 1))) a
 
-  pub deep_compared : (f : Comparing) → t.kind ≡ kinds.Keyword (comparing_word f) → 64 < u + 6 + owed
+  deep_compared : (f : Comparing) → t.kind ≡ kinds.Keyword (comparing_word f) → 64 < u + 6 + owed
       → At F u (factor ∷ below) l
       → F ≡ Some (too_nested t.spot)
   deep_compared f kind h a =
       deep_inner t l is F u factor (kinds.Keyword (comparing_word f)) two_exprs below refl kind (comparing_rule f)
       (omega (arith, h, o.wants (u + 1 + 1 + 1 + 0 + 0 + 1 + 1 + 0 + 0 + 1))) a
 
-  pub at_scaling : (s : Scaling) → t.kind ≡ scaling_kind s → u + 2 + owed ≤ 64 → At F u (terms ∷ below) l
+  at_scaling : (s : Scaling) → t.kind ≡ scaling_kind s → u + 2 + owed ≤ 64 → At F u (terms ∷ below) l
       → At F u (inner (scaling_kind s) ∷ factor ∷ terms ∷ below) l
   at_scaling s kind h a =
       begun_inner t l is F u terms (scaling_kind s) (factor ∷ terms ∷ []) below refl kind (scaling_rule s)
       (omega (arith, a.braces)) (omega (arith, h, o.small, o.wants (u + 1 + 1 + 0))) a
 
-  pub deep_scaling : (s : Scaling) → t.kind ≡ scaling_kind s → 64 < u + 2 + owed → At F u (terms ∷ below) l
+  deep_scaling : (s : Scaling) → t.kind ≡ scaling_kind s → 64 < u + 2 + owed → At F u (terms ∷ below) l
       → F ≡ Some (too_nested t.spot)
   deep_scaling s kind h a =
       deep_inner t l is F u terms (scaling_kind s) (factor ∷ terms ∷ []) below refl kind (scaling_rule s)
@@ -133,13 +133,13 @@ module _ (t : Lexeme) (l : List Lexed) (is : l ≡ Ok t ∷ tail l) (F : Option 
   no_scaling rule a = skipped_inner t l is F u terms below refl refl rule
       (omega (arith, a.tokens, o.wants u, o.wants (u + 0))) a
 
-  pub at_adding : (s : Adding) → t.kind ≡ adding_kind s → u + 2 + owed ≤ 64 → At F u (sums ∷ below) l
+  at_adding : (s : Adding) → t.kind ≡ adding_kind s → u + 2 + owed ≤ 64 → At F u (sums ∷ below) l
       → At F u (inner (adding_kind s) ∷ factor ∷ terms ∷ sums ∷ below) l
   at_adding s kind h a =
       begun_inner t l is F u sums (adding_kind s) (factor ∷ terms ∷ sums ∷ []) below refl kind (adding_rule s)
       (omega (arith, a.braces)) (omega (arith, h, o.small, o.wants (u + 1 + 1 + 0 + 0))) a
 
-  pub deep_adding : (s : Adding) → t.kind ≡ adding_kind s → 64 < u + 2 + owed → At F u (sums ∷ below) l
+  deep_adding : (s : Adding) → t.kind ≡ adding_kind s → 64 < u + 2 + owed → At F u (sums ∷ below) l
       → F ≡ Some (too_nested t.spot)
   deep_adding s kind h a =
       deep_inner t l is F u sums (adding_kind s) (factor ∷ terms ∷ sums ∷ []) below refl kind (adding_rule s)
@@ -162,18 +162,18 @@ deep_here F needed most e t l is d says =
     deep_says F needed most e l d (says ∙ ap (λ x. Some (too_nested x.spot)) same)
 
 -- the sign of an operator, by its kind
-pub marked_scaling : (F : Option Fault) (u : ℕ) (k : Kind) (s : Scaling) (below : List Sym) {l : List Lexed}
+marked_scaling : (F : Option Fault) (u : ℕ) (k : Kind) (s : Scaling) (below : List Sym) {l : List Lexed}
     → k ≡ scaling_kind s
     → At F u (inner (scaling_kind s) ∷ below) l → At F u (inner k ∷ below) l
 marked_scaling F u k s below {l} is a = subst (λ x. At F u (inner x ∷ below) l) (sym is) a
 
-pub marked_adding : (F : Option Fault) (u : ℕ) (k : Kind) (s : Adding) (below : List Sym) {l : List Lexed}
+marked_adding : (F : Option Fault) (u : ℕ) (k : Kind) (s : Adding) (below : List Sym) {l : List Lexed}
     → k ≡ adding_kind s
     → At F u (inner (adding_kind s) ∷ below) l → At F u (inner k ∷ below) l
 marked_adding F u k s below {l} is a = subst (λ x. At F u (inner x ∷ below) l) (sym is) a
 
 -- the word of two expressions
-pub marked_comparing : (F : Option Fault) (u : ℕ) (w : Keyword) (f : Comparing) (below : List Sym) {l : List Lexed}
+marked_comparing : (F : Option Fault) (u : ℕ) (w : Keyword) (f : Comparing) (below : List Sym) {l : List Lexed}
     → w ≡ comparing_word f
     → At F u (inner (kinds.Keyword (comparing_word f)) ∷ below) l → At F u (inner (kinds.Keyword w) ∷ below) l
 marked_comparing F u w f below {l} is a = subst (λ x. At F u (inner (kinds.Keyword x) ∷ below) l) (sym is) a
@@ -199,3 +199,47 @@ no_function Max p n x l s = absurd (x refl)
 no_function Less p n x l s = absurd (l refl)
 no_function Same p n x l s = absurd (s refl)
 no_function w p n x l s = refl
+
+-- ---- where a token opens further ones
+
+module _ (F : Option Fault) (u owed : ℕ) (below : List Sym) (o : Owes below owed) {l : List Lexed} where
+  pub open_minus : At F u (factor ∷ below) l → Opens F u minus_sign (factor ∷ below) (u + 2 + owed) l
+  open_minus a = λ t is kind. (
+    (λ deep. deep_minus t l is F u owed below o kind deep a),
+    (λ h. at_minus t l is F u owed below o kind h a),
+  )
+
+  pub open_group : At F u (factor ∷ below) l
+      → Opens F u open_parenthesis (expr (inner close_parenthesis ∷ below)) (u + 3 + owed) l
+  open_group a = λ t is kind. (
+    (λ deep. deep_group t l is F u owed below o kind deep a),
+    (λ h. at_group t l is F u owed below o kind h a),
+  )
+
+  pub open_pick : At F u (factor ∷ below) l
+      → Opens F u (kinds.Keyword Pick) (inner open_parenthesis ∷ expr (inner close_parenthesis ∷ below)) (u + 4 + owed) l
+  open_pick a = λ t is kind. (
+    (λ deep. deep_pick t l is F u owed below o kind deep a),
+    (λ h. at_pick t l is F u owed below o kind h a),
+  )
+
+  pub open_compared : (w : Keyword) (f : Comparing) → w ≡ comparing_word f → At F u (factor ∷ below) l
+      → Opens F u (kinds.Keyword w) (two_exprs ++ below) (u + 6 + owed) l
+  open_compared w f word a = λ t is kind. (
+    (λ deep. deep_compared t l is F u owed below o f (kind ∙ ap kinds.Keyword word) deep a),
+    (λ h. marked_comparing F u w f _ word (at_compared t l is F u owed below o f (kind ∙ ap kinds.Keyword word) h a)),
+  )
+
+  pub open_scaling : (k : Kind) (s : Scaling) → k ≡ scaling_kind s → At F u (terms ∷ below) l
+      → Opens F u k (factor ∷ terms ∷ below) (u + 2 + owed) l
+  open_scaling k s sign a = λ t is kind. (
+    (λ deep. deep_scaling t l is F u owed below o s (kind ∙ sign) deep a),
+    (λ h. marked_scaling F u k s _ sign (at_scaling t l is F u owed below o s (kind ∙ sign) h a)),
+  )
+
+  pub open_adding : (k : Kind) (s : Adding) → k ≡ adding_kind s → At F u (sums ∷ below) l
+      → Opens F u k (factor ∷ terms ∷ sums ∷ below) (u + 2 + owed) l
+  open_adding k s sign a = λ t is kind. (
+    (λ deep. deep_adding t l is F u owed below o s (kind ∙ sign) deep a),
+    (λ h. marked_adding F u k s _ sign (at_adding t l is F u owed below o s (kind ∙ sign) h a)),
+  )

@@ -87,6 +87,11 @@ pub passed : {A : Type 0} (r : Result A ParseFault) (e : ParseFault) → IsErrAn
 passed (Ok x) e is = absurd is
 passed (Err x) e is = ap Err is
 
+-- what holds anyway
+pub on_ok : {A : Type 0} {P : Type 0} (r : Result A ParseFault) → P → OnOk r P
+on_ok (Ok x) p = p
+on_ok (Err e) p = tt
+
 -- an answer that hands a fault on
 pub handed : {A : Type 0} (F : Option Fault) (u : ℕ) (ss : List Sym) (r : Result A ParseFault) (e : ParseFault)
     (new : List Lexed)

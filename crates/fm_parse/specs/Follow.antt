@@ -9,7 +9,7 @@ use Rattle.fm_grammar.specs.Score.{Leaf}
 use Rattle.fm_grammar.specs.Signs.{tok}
 use Rattle.fm_grammar.specs.Reads.{Fault, lexical, expected, too_nested}
 use Rattle.fm_grammar.specs.Within.{limits}
-use Rattle.fm_grammar.specs.Rules.{Sym}
+use Rattle.fm_grammar.specs.Rules.{Sym, inner}
 use Rattle.fm_grammar.specs.Table.{opened, peak, want, trip}
 use Rattle.fm_parse.specs.Reader.{tail}
 use Rattle.fm_parse.specs.declared.fault.ParseFault.{ParseFault}
@@ -79,6 +79,13 @@ IsMark Name = Unit {0}
 IsMark (Symbol b) = Unit {0}
 IsMark (kinds.Keyword w) = Unit {0}
 IsMark k = ⊥
+
+-- a token of a kind opens so many tokens of an expression: past the limit the whole text trips there, and else these
+-- symbols come behind it
+abbrev pub Opens : Option Fault → ℕ → Kind → List Sym → ℕ → List Lexed → Type 0
+Opens whole used kind below needed ts =
+    (t : Lexeme) → ts ≡ Ok t ∷ tail ts → t.kind ≡ kind
+    → (64 < needed → whole ≡ Some (too_nested t.spot)) × (needed ≤ 64 → At whole used (inner kind ∷ below) ts)
 
 -- a token comes first
 pub record IsThere (ts : List Lexed) : Type 0 where

@@ -1,7 +1,7 @@
 //! Reading expressions. Each function is given how many tokens of the outermost expression stand
 //! before its own, and how many must follow them, and answers how many stand before what follows.
 
-ghost use Rattle.std.specs.Prelude.{◌≡◌, ◌≢◌, ℕ, ◌+◌, ◌<◌, ◌≤◌, List, [], ◌∷◌, ◌++◌, Option, IfOk};
+ghost use Rattle.std.specs.Prelude.{◌≡◌, ◌≢◌, ℕ, ◌+◌, ◌<◌, ◌≤◌, List, [], ◌∷◌, ◌++◌, Option, IfOk, OnOk};
 ghost use Rattle.fm_lex.specs.declared.kind.Kind.TheVariants.{Symbol, Keyword as Word};
 ghost use Rattle.fm_lex.specs.declared.keyword.Keyword.TheVariants.{Pick};
 ghost use Rattle.fm_lex.specs.declared.kind.Kind.{Kind as TheKind};
@@ -11,7 +11,7 @@ ghost use Rattle.fm_grammar.specs.Spelling.{expr_text, factor_text, terms_text, 
 ghost use Rattle.fm_grammar.specs.Standing.{expr_nodes, factor_nodes, terms_nodes, sums_nodes, expr_tree};
 ghost use Rattle.fm_grammar.specs.Rules.{Sym, one, factor, terms, sums, expr as expr_syms, two_exprs};
 ghost use Rattle.fm_parse.specs.Reader.{first_kind};
-ghost use Rattle.fm_parse.specs.Follow.{At, Leads, FollowsInside, Spelt};
+ghost use Rattle.fm_parse.specs.Follow.{At, Leads, FollowsInside, IsMark, Marked, Opens, Spelt};
 ghost use Rattle.fm_parse.specs.Drafts.{Drafted, IsComparing, IsPlain, pair_text, pair_nodes};
 
 use crate::fault::ParseFault;
@@ -19,7 +19,7 @@ use crate::operators::{adding_of, leaf_of, scaling_of};
 use crate::push::push_node;
 use crate::reader::Reader;
 use crate::token::{check_limit, expect};
-use fm_lex::{Keyword, Kind};
+use fm_lex::{Keyword, Kind, Spot};
 use fm_value::{Expr, Node};
 use std::alloc::Global;
 
@@ -33,6 +33,19 @@ const OPENS: Kind = Kind::Symbol(b'(');
 const CLOSES: Kind = Kind::Symbol(b')');
 
 const COMMA: Kind = Kind::Symbol(b',');
+
+// Takes the token of a kind, which comes first, where the expression may have so many tokens.
+fn expect_within(r: &mut Reader, kind: Kind, needed: u32) -> Result<Spot, ParseFault>
+    requires mark { IsMark kind }
+    requires first { first_kind r.old ≡ kind }
+    ensures within { OnOk result (needed ≤ 64) }
+    ensures text { IfOk result (λ s. Marked kind s r.old r.new) }
+    ensures follows { (whole : Option Fault) (used : ℕ) (below : List Sym)
+        → Opens whole used kind below needed r.old → Leads whole (used + 1) below result r.new }
+{
+    check_limit(r, needed, MAX_TOKENS)?;
+    expect(r, kind)
+}
 
 // A number, a register or an index.
 fn read_leaf(r: &mut Reader, draft: &mut Expr, used: u32, owed: u32) -> Result<u32, ParseFault>
@@ -64,8 +77,7 @@ fn read_negated(r: &mut Reader, draft: &mut Expr, used: u32, owed: u32) -> Resul
         Drafted factor_text factor_nodes (expr_view draft.old) (expr_view draft.new) r.old r.new) }
     ensures follows { FollowsInside (factor ∷ []) used owed result r.old r.new }
 {
-    check_limit(r, used + 2 + owed, MAX_TOKENS)?;
-    let minus = expect(r, MINUS)?;
+    let minus = expect_within(r, MINUS, used + 2 + owed)?;
     let count = read_factor(r, draft, used + 1, owed)?;
     push_node(draft, Node::Negate, minus)?;
     Ok(count)
@@ -82,8 +94,7 @@ fn read_group(r: &mut Reader, draft: &mut Expr, used: u32, owed: u32) -> Result<
         Drafted factor_text factor_nodes (expr_view draft.old) (expr_view draft.new) r.old r.new) }
     ensures follows { FollowsInside (factor ∷ []) used owed result r.old r.new }
 {
-    check_limit(r, used + 3 + owed, MAX_TOKENS)?;
-    expect(r, OPENS)?;
+    expect_within(r, OPENS, used + 3 + owed)?;
     let count = read_inner(r, draft, used + 1, owed + 1)?;
     expect(r, CLOSES)?;
     Ok(count + 1)
@@ -100,8 +111,7 @@ fn read_pick(r: &mut Reader, draft: &mut Expr, used: u32, owed: u32) -> Result<u
         Drafted factor_text factor_nodes (expr_view draft.old) (expr_view draft.new) r.old r.new) }
     ensures follows { FollowsInside (factor ∷ []) used owed result r.old r.new }
 {
-    check_limit(r, used + 4 + owed, MAX_TOKENS)?;
-    let word = expect(r, Kind::Keyword(Keyword::Pick))?;
+    let word = expect_within(r, Kind::Keyword(Keyword::Pick), used + 4 + owed)?;
     expect(r, OPENS)?;
     let count = read_inner(r, draft, used + 2, owed + 1)?;
     expect(r, CLOSES)?;
@@ -146,8 +156,7 @@ fn read_compared(
         Drafted factor_text factor_nodes (expr_view draft.old) (expr_view draft.new) r.old r.new) }
     ensures follows { FollowsInside (factor ∷ []) used owed result r.old r.new }
 {
-    check_limit(r, used + 6 + owed, MAX_TOKENS)?;
-    let place = expect(r, Kind::Keyword(word))?;
+    let place = expect_within(r, Kind::Keyword(word), used + 6 + owed)?;
     let count = read_two(r, draft, used + 1, owed)?;
     push_node(draft, node, place)?;
     Ok(count)
@@ -218,8 +227,7 @@ fn read_terms(r: &mut Reader, draft: &mut Expr, used: u32, owed: u32) -> Result<
     let Some(node) = scaling_of(token.kind) else {
         return Ok(used);
     };
-    check_limit(r, used + 2 + owed, MAX_TOKENS)?;
-    let spot = expect(r, token.kind)?;
+    let spot = expect_within(r, token.kind, used + 2 + owed)?;
     let first = read_factor(r, draft, used + 1, owed)?;
     push_node(draft, node, spot)?;
     let count = read_terms(r, draft, first, owed)?;
@@ -240,8 +248,7 @@ fn read_sums(r: &mut Reader, draft: &mut Expr, used: u32, owed: u32) -> Result<u
     let Some(node) = adding_of(token.kind) else {
         return Ok(used);
     };
-    check_limit(r, used + 2 + owed, MAX_TOKENS)?;
-    let spot = expect(r, token.kind)?;
+    let spot = expect_within(r, token.kind, used + 2 + owed)?;
     let factor = read_factor(r, draft, used + 1, owed)?;
     let term = read_terms(r, draft, factor, owed)?;
     push_node(draft, node, spot)?;

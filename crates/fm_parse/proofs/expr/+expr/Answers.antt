@@ -6,38 +6,24 @@ use Rattle.fm_grammar.specs.Grammar.{negate, group, pick, compare, no_term, term
 use Rattle.fm_grammar.specs.Rules.{factor, kind_code, rules_of}
 use Rattle.fm_grammar.specs.Table.{taking}
 use Rattle.fm_parse.proofs.Steps.{passed, deep_says, kind_there, no_memory, recount}
-use Rattle.fm_parse.proofs.Insides.{owes_sign, owes_terms, owes_sums, owes_second, at_minus, deep_minus, at_group, deep_group, at_pick, deep_pick, at_compared, deep_compared, at_scaling, deep_scaling, no_scaling, at_adding, deep_adding, no_adding, stopped, deep_here, marked_scaling, marked_adding, marked_comparing, no_factor, no_function}
+use Rattle.fm_parse.proofs.Insides.{owes_sign, owes_terms, owes_sums, owes_second, open_minus, open_group, open_pick, open_compared, open_scaling, open_adding, no_scaling, no_adding, stopped, no_factor, no_function}
 use Rattle.fm_parse.proofs.Pieces.{compared_text, compared_nodes, scaled_text, scaled_nodes, added_text, added_nodes}
 use Rattle.fm_parse.proofs.Drafting.{extended-none, extended-twice}
 use Rattle.fm_parse.specs.Follow.{leaf_at}
 use Rattle.fm_parse.proofs.expr.+expr.Goals as goal
 
-pub read_negated-returns-in_err-check_limit-clause-follows : goal.read_negated-returns-in_err-check_limit-clause-follows
-read_negated-returns-in_err-check_limit-clause-follows t c = λ F below o a.
-    let e = c.in_err-check_limit.field-0.0 in
-    let is = passed c.from_residual.result e c.from_residual.ensures.1 in
-    stopped F below _ e _ is (deep_says F _ _ e _ c.in_err-check_limit.ensures.deep
-    (deep_minus c.in_err-check_limit.ensures.deep.token _ c.in_err-check_limit.ensures.deep.is F c.args.used
-    c.args.owed below o (kind_there c.in_err-check_limit.ensures.deep.token _ _ c.in_err-check_limit.ensures.deep.is
-    c.requires.first) (omega (arith, c.in_err-check_limit.ensures.deep.passes)) a))
-
 pub read_negated-returns-in_err-minus-clause-follows : goal.read_negated-returns-in_err-minus-clause-follows
 read_negated-returns-in_err-minus-clause-follows t c = λ F below o a.
     let e = c.in_err-minus.field-0.0 in
-    let is = passed c.from_residual-in_err-minus.result e c.from_residual-in_err-minus.ensures.1 in
-    stopped F below _ e _ is (c.in_err-minus.ensures.inside F _ _ (at_minus c.in_ok-check_limit.ensures.there.token _
-    c.in_ok-check_limit.ensures.there.is F c.args.used c.args.owed below o
-    (kind_there c.in_ok-check_limit.ensures.there.token _ _ c.in_ok-check_limit.ensures.there.is c.requires.first)
-    (omega (arith, c.in_ok-check_limit.ensures.within)) a))
+    let is = passed c.from_residual.result e c.from_residual.ensures.1 in
+    stopped F below _ e _ is (c.in_err-minus.ensures.follows F _ _ (open_minus F _ _ below o a))
 
 pub read_negated-returns-in_err-count-clause-follows : goal.read_negated-returns-in_err-count-clause-follows
 read_negated-returns-in_err-count-clause-follows t c = λ F below o a.
     let e = c.in_err-count.field-0.0 in
     let is = passed c.from_residual-in_err-count.result e c.from_residual-in_err-count.ensures.1 in
-    stopped F below _ e _ is (c.in_err-count.ensures.follows F _ o (c.in_ok-minus.ensures.inside F _ _
-    (at_minus c.in_ok-check_limit.ensures.there.token _ c.in_ok-check_limit.ensures.there.is F c.args.used
-    c.args.owed below o (kind_there c.in_ok-check_limit.ensures.there.token _ _ c.in_ok-check_limit.ensures.there.is
-    c.requires.first) (omega (arith, c.in_ok-check_limit.ensures.within)) a)))
+    stopped F below _ e _ is (c.in_err-count.ensures.follows F _ o (c.in_ok-minus.ensures.follows F _ _
+    (open_minus F _ _ below o a)))
 
 pub read_negated-returns-in_err-push_node-clause-follows : goal.read_negated-returns-in_err-push_node-clause-follows
 read_negated-returns-in_err-push_node-clause-follows t c = λ F below o a.
@@ -47,10 +33,7 @@ read_negated-returns-in_err-push_node-clause-follows t c = λ F below o a.
 
 pub read_negated-returns-clause-follows : goal.read_negated-returns-clause-follows
 read_negated-returns-clause-follows t c = λ F below o a. c.in_ok-count.ensures.follows F _ o
-    (c.in_ok-minus.ensures.inside F _ _ (at_minus c.in_ok-check_limit.ensures.there.token _
-    c.in_ok-check_limit.ensures.there.is F c.args.used c.args.owed below o
-    (kind_there c.in_ok-check_limit.ensures.there.token _ _ c.in_ok-check_limit.ensures.there.is c.requires.first)
-    (omega (arith, c.in_ok-check_limit.ensures.within)) a))
+    (c.in_ok-minus.ensures.follows F _ _ (open_minus F _ _ below o a))
 
 pub read_negated-returns-clause-text : goal.read_negated-returns-clause-text
 read_negated-returns-clause-text t c = record {
@@ -59,86 +42,53 @@ read_negated-returns-clause-text t c = record {
   grows = extended-twice _ _ _ _ _ c.in_ok-count.ensures.text.grows c.in_ok-push_node.ensures.ok;
 }
 
-pub read_group-returns-in_err-check_limit-clause-follows : goal.read_group-returns-in_err-check_limit-clause-follows
-read_group-returns-in_err-check_limit-clause-follows t c = λ F below o a.
-    let e = c.in_err-check_limit.field-0.0 in
+pub read_group-returns-in_err-expect_within-clause-follows : goal.read_group-returns-in_err-expect_within-clause-follows
+read_group-returns-in_err-expect_within-clause-follows t c = λ F below o a.
+    let e = c.in_err-expect_within.field-0.0 in
     let is = passed c.from_residual.result e c.from_residual.ensures.1 in
-    stopped F below _ e _ is (deep_says F _ _ e _ c.in_err-check_limit.ensures.deep
-    (deep_group c.in_err-check_limit.ensures.deep.token _ c.in_err-check_limit.ensures.deep.is F c.args.used
-    c.args.owed below o (kind_there c.in_err-check_limit.ensures.deep.token _ _ c.in_err-check_limit.ensures.deep.is
-    c.requires.first) (omega (arith, c.in_err-check_limit.ensures.deep.passes)) a))
-
-pub read_group-returns-in_err-expect-clause-follows : goal.read_group-returns-in_err-expect-clause-follows
-read_group-returns-in_err-expect-clause-follows t c = λ F below o a.
-    let e = c.in_err-expect.field-0.0 in
-    let is = passed c.from_residual-in_err-expect.result e c.from_residual-in_err-expect.ensures.1 in
-    stopped F below _ e _ is (c.in_err-expect.ensures.inside F _ _ (at_group c.in_ok-check_limit.ensures.there.token _
-    c.in_ok-check_limit.ensures.there.is F c.args.used c.args.owed below o
-    (kind_there c.in_ok-check_limit.ensures.there.token _ _ c.in_ok-check_limit.ensures.there.is c.requires.first)
-    (omega (arith, c.in_ok-check_limit.ensures.within)) a))
+    stopped F below _ e _ is (c.in_err-expect_within.ensures.follows F _ _ (open_group F _ _ below o a))
 
 pub read_group-returns-in_err-count-clause-follows : goal.read_group-returns-in_err-count-clause-follows
 read_group-returns-in_err-count-clause-follows t c = λ F below o a.
     let e = c.in_err-count.field-0.0 in
     let is = passed c.from_residual-in_err-count.result e c.from_residual-in_err-count.ensures.1 in
     stopped F below _ e _ is (c.in_err-count.ensures.follows F _ (owes_sign close_parenthesis below _ o)
-    (c.in_ok-expect.ensures.inside F _ _ (at_group c.in_ok-check_limit.ensures.there.token _
-    c.in_ok-check_limit.ensures.there.is F c.args.used c.args.owed below o
-    (kind_there c.in_ok-check_limit.ensures.there.token _ _ c.in_ok-check_limit.ensures.there.is c.requires.first)
-    (omega (arith, c.in_ok-check_limit.ensures.within)) a)))
+    (c.in_ok-expect_within.ensures.follows F _ _ (open_group F _ _ below o a)))
 
-pub read_group-returns-in_err-expect-2-clause-follows : goal.read_group-returns-in_err-expect-2-clause-follows
-read_group-returns-in_err-expect-2-clause-follows t c = λ F below o a.
-    let e = c.in_err-expect-2.field-0.0 in
-    let is = passed c.from_residual-in_err-expect-2.result e c.from_residual-in_err-expect-2.ensures.1 in
-    stopped F below _ e _ is (c.in_err-expect-2.ensures.inside F _ _ (c.in_ok-count.ensures.follows F _
-    (owes_sign close_parenthesis below _ o) (c.in_ok-expect.ensures.inside F _ _
-    (at_group c.in_ok-check_limit.ensures.there.token _ c.in_ok-check_limit.ensures.there.is F c.args.used
-    c.args.owed below o (kind_there c.in_ok-check_limit.ensures.there.token _ _ c.in_ok-check_limit.ensures.there.is
-    c.requires.first) (omega (arith, c.in_ok-check_limit.ensures.within)) a))))
+pub read_group-returns-in_err-expect-clause-follows : goal.read_group-returns-in_err-expect-clause-follows
+read_group-returns-in_err-expect-clause-follows t c = λ F below o a.
+    let e = c.in_err-expect.field-0.0 in
+    let is = passed c.from_residual-in_err-expect.result e c.from_residual-in_err-expect.ensures.1 in
+    stopped F below _ e _ is (c.in_err-expect.ensures.inside F _ _ (c.in_ok-count.ensures.follows F _
+    (owes_sign close_parenthesis below _ o) (c.in_ok-expect_within.ensures.follows F _ _
+    (open_group F _ _ below o a))))
 
 pub read_group-returns-clause-follows : goal.read_group-returns-clause-follows
-read_group-returns-clause-follows t c = λ F below o a. c.in_ok-expect-2.ensures.inside F _ _
-    (c.in_ok-count.ensures.follows F _ (owes_sign close_parenthesis below _ o) (c.in_ok-expect.ensures.inside F _ _
-    (at_group c.in_ok-check_limit.ensures.there.token _ c.in_ok-check_limit.ensures.there.is F c.args.used c.args.owed
-    below o (kind_there c.in_ok-check_limit.ensures.there.token _ _ c.in_ok-check_limit.ensures.there.is
-    c.requires.first) (omega (arith, c.in_ok-check_limit.ensures.within)) a)))
+read_group-returns-clause-follows t c = λ F below o a. c.in_ok-expect.ensures.inside F _ _
+    (c.in_ok-count.ensures.follows F _ (owes_sign close_parenthesis below _ o) (c.in_ok-expect_within.ensures.follows F _ _
+    (open_group F _ _ below o a)))
 
 pub read_group-returns-clause-text : goal.read_group-returns-clause-text
 read_group-returns-clause-text t c = record {
-  form = group (leaf_at c.in_ok-expect.ensures.text.bytes c.in_ok-expect.field-0) c.in_ok-count.ensures.text.form
-      (leaf_at c.in_ok-expect-2.ensures.text.bytes c.in_ok-expect-2.field-0);
-  spells = rw (c.in_ok-expect.ensures.text.text, c.in_ok-count.ensures.text.spells, c.in_ok-expect-2.ensures.text.text)
+  form = group (leaf_at c.in_ok-expect_within.ensures.text.bytes c.in_ok-expect_within.field-0) c.in_ok-count.ensures.text.form
+      (leaf_at c.in_ok-expect.ensures.text.bytes c.in_ok-expect.field-0);
+  spells = rw (c.in_ok-expect_within.ensures.text.text, c.in_ok-count.ensures.text.spells, c.in_ok-expect.ensures.text.text)
       refl;
   grows = c.in_ok-count.ensures.text.grows;
 }
 
-pub read_pick-returns-in_err-check_limit-clause-follows : goal.read_pick-returns-in_err-check_limit-clause-follows
-read_pick-returns-in_err-check_limit-clause-follows t c = λ F below o a.
-    let e = c.in_err-check_limit.field-0.0 in
-    let is = passed c.from_residual.result e c.from_residual.ensures.1 in
-    stopped F below _ e _ is (deep_says F _ _ e _ c.in_err-check_limit.ensures.deep
-    (deep_pick c.in_err-check_limit.ensures.deep.token _ c.in_err-check_limit.ensures.deep.is F c.args.used
-    c.args.owed below o (kind_there c.in_err-check_limit.ensures.deep.token _ _ c.in_err-check_limit.ensures.deep.is
-    c.requires.first) (omega (arith, c.in_err-check_limit.ensures.deep.passes)) a))
-
 pub read_pick-returns-in_err-word-clause-follows : goal.read_pick-returns-in_err-word-clause-follows
 read_pick-returns-in_err-word-clause-follows t c = λ F below o a.
     let e = c.in_err-word.field-0.0 in
-    let is = passed c.from_residual-in_err-word.result e c.from_residual-in_err-word.ensures.1 in
-    stopped F below _ e _ is (c.in_err-word.ensures.inside F _ _ (at_pick c.in_ok-check_limit.ensures.there.token _
-    c.in_ok-check_limit.ensures.there.is F c.args.used c.args.owed below o
-    (kind_there c.in_ok-check_limit.ensures.there.token _ _ c.in_ok-check_limit.ensures.there.is c.requires.first)
-    (omega (arith, c.in_ok-check_limit.ensures.within)) a))
+    let is = passed c.from_residual.result e c.from_residual.ensures.1 in
+    stopped F below _ e _ is (c.in_err-word.ensures.follows F _ _ (open_pick F _ _ below o a))
 
 pub read_pick-returns-in_err-expect-clause-follows : goal.read_pick-returns-in_err-expect-clause-follows
 read_pick-returns-in_err-expect-clause-follows t c = λ F below o a.
     let e = c.in_err-expect.field-0.0 in
     let is = passed c.from_residual-in_err-expect.result e c.from_residual-in_err-expect.ensures.1 in
-    stopped F below _ e _ is (c.in_err-expect.ensures.inside F _ _ (c.in_ok-word.ensures.inside F _ _
-    (at_pick c.in_ok-check_limit.ensures.there.token _ c.in_ok-check_limit.ensures.there.is F c.args.used
-    c.args.owed below o (kind_there c.in_ok-check_limit.ensures.there.token _ _ c.in_ok-check_limit.ensures.there.is
-    c.requires.first) (omega (arith, c.in_ok-check_limit.ensures.within)) a)))
+    stopped F below _ e _ is (c.in_err-expect.ensures.inside F _ _ (c.in_ok-word.ensures.follows F _ _
+    (open_pick F _ _ below o a)))
 
 pub read_pick-returns-in_err-count-clause-follows : goal.read_pick-returns-in_err-count-clause-follows
 read_pick-returns-in_err-count-clause-follows t c = λ F below o a.
@@ -146,10 +96,7 @@ read_pick-returns-in_err-count-clause-follows t c = λ F below o a.
     let is = passed c.from_residual-in_err-count.result e c.from_residual-in_err-count.ensures.1 in
     stopped F below _ e _ is (c.in_err-count.ensures.follows F _ (owes_sign close_parenthesis below _ o)
     (recount F (c.args.used + 1 + 1) (c.args.used + 2) _ _ (omega arith) (c.in_ok-expect.ensures.inside F _ _
-    (c.in_ok-word.ensures.inside F _ _ (at_pick c.in_ok-check_limit.ensures.there.token _
-    c.in_ok-check_limit.ensures.there.is F c.args.used c.args.owed below o
-    (kind_there c.in_ok-check_limit.ensures.there.token _ _ c.in_ok-check_limit.ensures.there.is c.requires.first)
-    (omega (arith, c.in_ok-check_limit.ensures.within)) a)))))
+    (c.in_ok-word.ensures.follows F _ _ (open_pick F _ _ below o a)))))
 
 pub read_pick-returns-in_err-expect-2-clause-follows : goal.read_pick-returns-in_err-expect-2-clause-follows
 read_pick-returns-in_err-expect-2-clause-follows t c = λ F below o a.
@@ -157,10 +104,8 @@ read_pick-returns-in_err-expect-2-clause-follows t c = λ F below o a.
     let is = passed c.from_residual-in_err-expect-2.result e c.from_residual-in_err-expect-2.ensures.1 in
     stopped F below _ e _ is (c.in_err-expect-2.ensures.inside F _ _ (c.in_ok-count.ensures.follows F _
     (owes_sign close_parenthesis below _ o) (recount F (c.args.used + 1 + 1) (c.args.used + 2) _ _ (omega arith)
-    (c.in_ok-expect.ensures.inside F _ _ (c.in_ok-word.ensures.inside F _ _
-    (at_pick c.in_ok-check_limit.ensures.there.token _ c.in_ok-check_limit.ensures.there.is F c.args.used
-    c.args.owed below o (kind_there c.in_ok-check_limit.ensures.there.token _ _ c.in_ok-check_limit.ensures.there.is
-    c.requires.first) (omega (arith, c.in_ok-check_limit.ensures.within)) a))))))
+    (c.in_ok-expect.ensures.inside F _ _ (c.in_ok-word.ensures.follows F _ _
+    (open_pick F _ _ below o a))))))
 
 pub read_pick-returns-in_err-push_node-clause-follows : goal.read_pick-returns-in_err-push_node-clause-follows
 read_pick-returns-in_err-push_node-clause-follows t c = λ F below o a.
@@ -171,10 +116,8 @@ read_pick-returns-in_err-push_node-clause-follows t c = λ F below o a.
 pub read_pick-returns-clause-follows : goal.read_pick-returns-clause-follows
 read_pick-returns-clause-follows t c = λ F below o a. c.in_ok-expect-2.ensures.inside F _ _
     (c.in_ok-count.ensures.follows F _ (owes_sign close_parenthesis below _ o) (recount F (c.args.used + 1 + 1)
-    (c.args.used + 2) _ _ (omega arith) (c.in_ok-expect.ensures.inside F _ _ (c.in_ok-word.ensures.inside F _ _
-    (at_pick c.in_ok-check_limit.ensures.there.token _ c.in_ok-check_limit.ensures.there.is F c.args.used c.args.owed
-    below o (kind_there c.in_ok-check_limit.ensures.there.token _ _ c.in_ok-check_limit.ensures.there.is
-    c.requires.first) (omega (arith, c.in_ok-check_limit.ensures.within)) a)))))
+    (c.args.used + 2) _ _ (omega arith) (c.in_ok-expect.ensures.inside F _ _ (c.in_ok-word.ensures.follows F _ _
+    (open_pick F _ _ below o a)))))
 
 pub read_pick-returns-clause-text : goal.read_pick-returns-clause-text
 read_pick-returns-clause-text t c = record {
@@ -252,37 +195,18 @@ read_two-returns-clause-text t c = record {
   grows = extended-twice _ _ _ _ _ c.in_ok-first.ensures.text.grows c.in_ok-second.ensures.text.grows;
 }
 
-pub read_compared-returns-in_err-check_limit-clause-follows :
-    goal.read_compared-returns-in_err-check_limit-clause-follows
-read_compared-returns-in_err-check_limit-clause-follows t c = λ F below o a.
-    let e = c.in_err-check_limit.field-0.0 in
-    let is = passed c.from_residual.result e c.from_residual.ensures.1 in
-    stopped F below _ e _ is (deep_says F _ _ e _ c.in_err-check_limit.ensures.deep
-    (deep_compared c.in_err-check_limit.ensures.deep.token _ c.in_err-check_limit.ensures.deep.is F c.args.used
-    c.args.owed below o c.requires.compares.sort (kind_there c.in_err-check_limit.ensures.deep.token _ _
-    c.in_err-check_limit.ensures.deep.is c.requires.first ∙ ap kinds.Keyword c.requires.compares.word_is)
-    (omega (arith, c.in_err-check_limit.ensures.deep.passes)) a))
-
 pub read_compared-returns-in_err-place-clause-follows : goal.read_compared-returns-in_err-place-clause-follows
 read_compared-returns-in_err-place-clause-follows t c = λ F below o a.
     let e = c.in_err-place.field-0.0 in
-    let is = passed c.from_residual-in_err-place.result e c.from_residual-in_err-place.ensures.1 in
-    stopped F below _ e _ is (c.in_err-place.ensures.inside F _ _ (marked_comparing F _ _ c.requires.compares.sort _
-    c.requires.compares.word_is (at_compared c.in_ok-check_limit.ensures.there.token _
-    c.in_ok-check_limit.ensures.there.is F c.args.used c.args.owed below o c.requires.compares.sort
-    (kind_there c.in_ok-check_limit.ensures.there.token _ _ c.in_ok-check_limit.ensures.there.is c.requires.first
-    ∙ ap kinds.Keyword c.requires.compares.word_is) (omega (arith, c.in_ok-check_limit.ensures.within)) a)))
+    let is = passed c.from_residual.result e c.from_residual.ensures.1 in
+    stopped F below _ e _ is (c.in_err-place.ensures.follows F _ _ (open_compared F _ _ below o _ _ c.requires.compares.word_is a))
 
 pub read_compared-returns-in_err-count-clause-follows : goal.read_compared-returns-in_err-count-clause-follows
 read_compared-returns-in_err-count-clause-follows t c = λ F below o a.
     let e = c.in_err-count.field-0.0 in
     let is = passed c.from_residual-in_err-count.result e c.from_residual-in_err-count.ensures.1 in
-    stopped F below _ e _ is (c.in_err-count.ensures.follows F _ o (c.in_ok-place.ensures.inside F _ _
-    (marked_comparing F _ _ c.requires.compares.sort _ c.requires.compares.word_is
-    (at_compared c.in_ok-check_limit.ensures.there.token _ c.in_ok-check_limit.ensures.there.is F c.args.used
-    c.args.owed below o c.requires.compares.sort (kind_there c.in_ok-check_limit.ensures.there.token _ _
-    c.in_ok-check_limit.ensures.there.is c.requires.first ∙ ap kinds.Keyword c.requires.compares.word_is)
-    (omega (arith, c.in_ok-check_limit.ensures.within)) a))))
+    stopped F below _ e _ is (c.in_err-count.ensures.follows F _ o (c.in_ok-place.ensures.follows F _ _
+    (open_compared F _ _ below o _ _ c.requires.compares.word_is a)))
 
 pub read_compared-returns-in_err-push_node-clause-follows : goal.read_compared-returns-in_err-push_node-clause-follows
 read_compared-returns-in_err-push_node-clause-follows t c = λ F below o a.
@@ -292,11 +216,7 @@ read_compared-returns-in_err-push_node-clause-follows t c = λ F below o a.
 
 pub read_compared-returns-clause-follows : goal.read_compared-returns-clause-follows
 read_compared-returns-clause-follows t c = λ F below o a. c.in_ok-count.ensures.follows F _ o
-    (c.in_ok-place.ensures.inside F _ _ (marked_comparing F _ _ c.requires.compares.sort _ c.requires.compares.word_is
-    (at_compared c.in_ok-check_limit.ensures.there.token _ c.in_ok-check_limit.ensures.there.is F c.args.used
-    c.args.owed below o c.requires.compares.sort (kind_there c.in_ok-check_limit.ensures.there.token _ _
-    c.in_ok-check_limit.ensures.there.is c.requires.first ∙ ap kinds.Keyword c.requires.compares.word_is)
-    (omega (arith, c.in_ok-check_limit.ensures.within)) a)))
+    (c.in_ok-place.ensures.follows F _ _ (open_compared F _ _ below o _ _ c.requires.compares.word_is a))
 
 pub read_compared-returns-clause-text : goal.read_compared-returns-clause-text
 read_compared-returns-clause-text t c = record {
@@ -310,31 +230,18 @@ read_compared-returns-clause-text t c = record {
       c.in_ok-push_node.ensures.ok;
 }
 
-pub read_terms-returns-in_err-check_limit-clause-follows : goal.read_terms-returns-in_err-check_limit-clause-follows
-read_terms-returns-in_err-check_limit-clause-follows t c = λ F below o a.
-    let e = c.in_err-check_limit.field-0.0 in
-    let is = passed c.from_residual.result e c.from_residual.ensures.1 in
-    stopped F below _ e _ is (deep_here F _ _ e _ _ c.peek-token.ensures c.in_err-check_limit.ensures.deep
-    (deep_scaling _ _ c.peek-token.ensures F c.args.used c.args.owed below o c.in-Some.ensures.some.sign
-    c.in-Some.ensures.some.kind_is (omega (arith, c.in_err-check_limit.ensures.deep.passes)) a))
-
 pub read_terms-returns-in_err-spot-clause-follows : goal.read_terms-returns-in_err-spot-clause-follows
 read_terms-returns-in_err-spot-clause-follows t c = λ F below o a.
     let e = c.in_err-spot.field-0.0 in
-    let is = passed c.from_residual-in_err-spot.result e c.from_residual-in_err-spot.ensures.1 in
-    stopped F below _ e _ is (c.in_err-spot.ensures.inside F _ _ (marked_scaling F _ _ _ _
-    c.in-Some.ensures.some.kind_is (at_scaling _ _ c.peek-token.ensures F c.args.used c.args.owed below o
-    c.in-Some.ensures.some.sign c.in-Some.ensures.some.kind_is (omega (arith, c.in_ok-check_limit.ensures.within))
-    a)))
+    let is = passed c.from_residual.result e c.from_residual.ensures.1 in
+    stopped F below _ e _ is (c.in_err-spot.ensures.follows F _ _ (open_scaling F _ _ below o _ _ c.in-Some.ensures.some.kind_is a))
 
 pub read_terms-returns-in_err-first-clause-follows : goal.read_terms-returns-in_err-first-clause-follows
 read_terms-returns-in_err-first-clause-follows t c = λ F below o a.
     let e = c.in_err-first.field-0.0 in
     let is = passed c.from_residual-in_err-first.result e c.from_residual-in_err-first.ensures.1 in
-    stopped F below _ e _ is (c.in_err-first.ensures.follows F _ (owes_terms below _ o) (c.in_ok-spot.ensures.inside F _
-    _ (marked_scaling F _ _ _ _ c.in-Some.ensures.some.kind_is (at_scaling _ _ c.peek-token.ensures F c.args.used
-    c.args.owed below o c.in-Some.ensures.some.sign c.in-Some.ensures.some.kind_is
-    (omega (arith, c.in_ok-check_limit.ensures.within)) a))))
+    stopped F below _ e _ is (c.in_err-first.ensures.follows F _ (owes_terms below _ o) (c.in_ok-spot.ensures.follows F _
+    _ (open_scaling F _ _ below o _ _ c.in-Some.ensures.some.kind_is a)))
 
 pub read_terms-returns-in_err-push_node-clause-follows : goal.read_terms-returns-in_err-push_node-clause-follows
 read_terms-returns-in_err-push_node-clause-follows t c = λ F below o a.
@@ -347,17 +254,12 @@ read_terms-returns-in_err-count-clause-follows t c = λ F below o a.
     let e = c.in_err-count.field-0.0 in
     let is = passed c.from_residual-in_err-count.result e c.from_residual-in_err-count.ensures.1 in
     stopped F below _ e _ is (c.in_err-count.ensures.follows F _ o (c.in_ok-first.ensures.follows F _
-    (owes_terms below _ o) (c.in_ok-spot.ensures.inside F _ _ (marked_scaling F _ _ _ _
-    c.in-Some.ensures.some.kind_is (at_scaling _ _ c.peek-token.ensures F c.args.used c.args.owed below o
-    c.in-Some.ensures.some.sign c.in-Some.ensures.some.kind_is (omega (arith, c.in_ok-check_limit.ensures.within))
-    a)))))
+    (owes_terms below _ o) (c.in_ok-spot.ensures.follows F _ _ (open_scaling F _ _ below o _ _ c.in-Some.ensures.some.kind_is a))))
 
 pub read_terms-returns-clause-follows : goal.read_terms-returns-clause-follows
 read_terms-returns-clause-follows t c = λ F below o a. c.in_ok-count.ensures.follows F _ o
-    (c.in_ok-first.ensures.follows F _ (owes_terms below _ o) (c.in_ok-spot.ensures.inside F _ _
-    (marked_scaling F _ _ _ _ c.in-Some.ensures.some.kind_is (at_scaling _ _ c.peek-token.ensures F c.args.used
-    c.args.owed below o c.in-Some.ensures.some.sign c.in-Some.ensures.some.kind_is
-    (omega (arith, c.in_ok-check_limit.ensures.within)) a))))
+    (c.in_ok-first.ensures.follows F _ (owes_terms below _ o) (c.in_ok-spot.ensures.follows F _ _
+    (open_scaling F _ _ below o _ _ c.in-Some.ensures.some.kind_is a)))
 
 pub read_terms-returns-in_default-clause-follows : goal.read_terms-returns-in_default-clause-follows
 read_terms-returns-in_default-clause-follows t c = λ F below o a. no_scaling _ _ c.peek-token.ensures F c.args.used
@@ -377,40 +279,25 @@ read_terms-returns-clause-text t c = record {
       c.in_ok-push_node.ensures.ok c.in_ok-count.ensures.text.grows;
 }
 
-pub read_sums-returns-in_err-check_limit-clause-follows : goal.read_sums-returns-in_err-check_limit-clause-follows
-read_sums-returns-in_err-check_limit-clause-follows t c = λ F below o a.
-    let e = c.in_err-check_limit.field-0.0 in
-    let is = passed c.from_residual.result e c.from_residual.ensures.1 in
-    stopped F below _ e _ is (deep_here F _ _ e _ _ c.peek-token.ensures c.in_err-check_limit.ensures.deep
-    (deep_adding _ _ c.peek-token.ensures F c.args.used c.args.owed below o c.in-Some.ensures.some.sign
-    c.in-Some.ensures.some.kind_is (omega (arith, c.in_err-check_limit.ensures.deep.passes)) a))
-
 pub read_sums-returns-in_err-spot-clause-follows : goal.read_sums-returns-in_err-spot-clause-follows
 read_sums-returns-in_err-spot-clause-follows t c = λ F below o a.
     let e = c.in_err-spot.field-0.0 in
-    let is = passed c.from_residual-in_err-spot.result e c.from_residual-in_err-spot.ensures.1 in
-    stopped F below _ e _ is (c.in_err-spot.ensures.inside F _ _ (marked_adding F _ _ _ _ c.in-Some.ensures.some.kind_is
-    (at_adding _ _ c.peek-token.ensures F c.args.used c.args.owed below o c.in-Some.ensures.some.sign
-    c.in-Some.ensures.some.kind_is (omega (arith, c.in_ok-check_limit.ensures.within)) a)))
+    let is = passed c.from_residual.result e c.from_residual.ensures.1 in
+    stopped F below _ e _ is (c.in_err-spot.ensures.follows F _ _ (open_adding F _ _ below o _ _ c.in-Some.ensures.some.kind_is a))
 
 pub read_sums-returns-in_err-factor-clause-follows : goal.read_sums-returns-in_err-factor-clause-follows
 read_sums-returns-in_err-factor-clause-follows t c = λ F below o a.
     let e = c.in_err-factor.field-0.0 in
     let is = passed c.from_residual-in_err-factor.result e c.from_residual-in_err-factor.ensures.1 in
     stopped F below _ e _ is (c.in_err-factor.ensures.follows F _ (owes_terms _ _ (owes_sums below _ o))
-    (c.in_ok-spot.ensures.inside F _ _ (marked_adding F _ _ _ _ c.in-Some.ensures.some.kind_is
-    (at_adding _ _ c.peek-token.ensures F c.args.used c.args.owed below o c.in-Some.ensures.some.sign
-    c.in-Some.ensures.some.kind_is (omega (arith, c.in_ok-check_limit.ensures.within)) a))))
+    (c.in_ok-spot.ensures.follows F _ _ (open_adding F _ _ below o _ _ c.in-Some.ensures.some.kind_is a)))
 
 pub read_sums-returns-in_err-term-clause-follows : goal.read_sums-returns-in_err-term-clause-follows
 read_sums-returns-in_err-term-clause-follows t c = λ F below o a.
     let e = c.in_err-term.field-0.0 in
     let is = passed c.from_residual-in_err-term.result e c.from_residual-in_err-term.ensures.1 in
     stopped F below _ e _ is (c.in_err-term.ensures.follows F _ (owes_sums below _ o) (c.in_ok-factor.ensures.follows F
-    _ (owes_terms _ _ (owes_sums below _ o)) (c.in_ok-spot.ensures.inside F _ _ (marked_adding F _ _ _ _
-    c.in-Some.ensures.some.kind_is (at_adding _ _ c.peek-token.ensures F c.args.used c.args.owed below o
-    c.in-Some.ensures.some.sign c.in-Some.ensures.some.kind_is (omega (arith, c.in_ok-check_limit.ensures.within))
-    a)))))
+    _ (owes_terms _ _ (owes_sums below _ o)) (c.in_ok-spot.ensures.follows F _ _ (open_adding F _ _ below o _ _ c.in-Some.ensures.some.kind_is a))))
 
 pub read_sums-returns-in_err-push_node-clause-follows : goal.read_sums-returns-in_err-push_node-clause-follows
 read_sums-returns-in_err-push_node-clause-follows t c = λ F below o a.
@@ -424,16 +311,12 @@ read_sums-returns-in_err-count-clause-follows t c = λ F below o a.
     let is = passed c.from_residual-in_err-count.result e c.from_residual-in_err-count.ensures.1 in
     stopped F below _ e _ is (c.in_err-count.ensures.follows F _ o (c.in_ok-term.ensures.follows F _
     (owes_sums below _ o) (c.in_ok-factor.ensures.follows F _ (owes_terms _ _ (owes_sums below _ o))
-    (c.in_ok-spot.ensures.inside F _ _ (marked_adding F _ _ _ _ c.in-Some.ensures.some.kind_is
-    (at_adding _ _ c.peek-token.ensures F c.args.used c.args.owed below o c.in-Some.ensures.some.sign
-    c.in-Some.ensures.some.kind_is (omega (arith, c.in_ok-check_limit.ensures.within)) a))))))
+    (c.in_ok-spot.ensures.follows F _ _ (open_adding F _ _ below o _ _ c.in-Some.ensures.some.kind_is a)))))
 
 pub read_sums-returns-clause-follows : goal.read_sums-returns-clause-follows
 read_sums-returns-clause-follows t c = λ F below o a. c.in_ok-count.ensures.follows F _ o (c.in_ok-term.ensures.follows
     F _ (owes_sums below _ o) (c.in_ok-factor.ensures.follows F _ (owes_terms _ _ (owes_sums below _ o))
-    (c.in_ok-spot.ensures.inside F _ _ (marked_adding F _ _ _ _ c.in-Some.ensures.some.kind_is
-    (at_adding _ _ c.peek-token.ensures F c.args.used c.args.owed below o c.in-Some.ensures.some.sign
-    c.in-Some.ensures.some.kind_is (omega (arith, c.in_ok-check_limit.ensures.within)) a)))))
+    (c.in_ok-spot.ensures.follows F _ _ (open_adding F _ _ below o _ _ c.in-Some.ensures.some.kind_is a))))
 
 pub read_sums-returns-in_default-clause-follows : goal.read_sums-returns-in_default-clause-follows
 read_sums-returns-in_default-clause-follows t c = λ F below o a. no_adding _ _ c.peek-token.ensures F c.args.used
