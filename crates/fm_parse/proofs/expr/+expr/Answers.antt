@@ -1,11 +1,10 @@
 -- Each function of an expression follows the table, and grows the draft by the nodes of its form.
 use Rattle.std.proofs.Common.{◌+◌, refl, ap, ◌∙◌, arith}
-use Rattle.fm_lex.specs.declared.kind.Kind.TheVariants as kinds
 use Rattle.fm_grammar.specs.Signs.{close_parenthesis}
 use Rattle.fm_grammar.specs.Grammar.{negate, group, pick, compare, no_term, term, no_sum, sum, expr}
 use Rattle.fm_grammar.specs.Rules.{factor, kind_code, rules_of}
 use Rattle.fm_grammar.specs.Table.{taking}
-use Rattle.fm_parse.proofs.Steps.{passed, deep_says, kind_there, no_memory, recount}
+use Rattle.fm_parse.proofs.Steps.{passed, kind_there, no_memory, recount}
 use Rattle.fm_parse.proofs.Insides.{owes_sign, owes_terms, owes_sums, owes_second, open_minus, open_group, open_pick, open_compared, open_scaling, open_adding, no_scaling, no_adding, stopped, no_factor, no_function}
 use Rattle.fm_parse.proofs.Pieces.{compared_text, compared_nodes, scaled_text, scaled_nodes, added_text, added_nodes}
 use Rattle.fm_parse.proofs.Drafting.{extended-none, extended-twice}
