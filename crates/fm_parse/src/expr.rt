@@ -230,8 +230,7 @@ fn read_terms(r: &mut Reader, draft: &mut Expr, used: u32, owed: u32) -> Result<
     let spot = expect_within(r, token.kind, used + 2 + owed)?;
     let first = read_factor(r, draft, used + 1, owed)?;
     push_node(draft, node, spot)?;
-    let count = read_terms(r, draft, first, owed)?;
-    Ok(count)
+    read_terms(r, draft, first, owed)
 }
 
 // The operators between terms, and the terms behind them.
@@ -252,8 +251,7 @@ fn read_sums(r: &mut Reader, draft: &mut Expr, used: u32, owed: u32) -> Result<u
     let factor = read_factor(r, draft, used + 1, owed)?;
     let term = read_terms(r, draft, factor, owed)?;
     push_node(draft, node, spot)?;
-    let count = read_sums(r, draft, term, owed)?;
-    Ok(count)
+    read_sums(r, draft, term, owed)
 }
 
 // An expression.
@@ -268,8 +266,7 @@ fn read_inner(r: &mut Reader, draft: &mut Expr, used: u32, owed: u32) -> Result<
 {
     let factor = read_factor(r, draft, used, owed)?;
     let term = read_terms(r, draft, factor, owed)?;
-    let count = read_sums(r, draft, term, owed)?;
-    Ok(count)
+    read_sums(r, draft, term, owed)
 }
 
 /// Reads an outermost expression, which a token outside of it follows.

@@ -1,12 +1,12 @@
 -- Each function of an expression follows the table, and grows the draft by the nodes of its form.
 use Rattle.std.proofs.Common.{◌+◌, refl, ap, ◌∙◌, arith}
 use Rattle.fm_grammar.specs.Signs.{close_parenthesis}
-use Rattle.fm_grammar.specs.Grammar.{negate, group, pick, compare, no_term, term, no_sum, sum, expr}
+use Rattle.fm_grammar.specs.Grammar.{negate, group, pick, compare, no_term, no_sum}
 use Rattle.fm_grammar.specs.Rules.{factor, kind_code, rules_of}
 use Rattle.fm_grammar.specs.Table.{taking}
 use Rattle.fm_parse.proofs.Steps.{passed, kind_there, no_memory, recount}
 use Rattle.fm_parse.proofs.Insides.{owes_sign, owes_terms, owes_sums, owes_second, open_minus, open_group, open_pick, open_compared, open_scaling, open_adding, no_scaling, no_adding, stopped, no_factor, no_function}
-use Rattle.fm_parse.proofs.Pieces.{compared_text, compared_nodes, scaled_text, scaled_nodes, added_text, added_nodes}
+use Rattle.fm_parse.proofs.Pieces.{compared_text, compared_nodes, at_least, more_than, inner_read, scaled_read, added_read}
 use Rattle.fm_parse.proofs.Drafting.{extended-none, extended-twice}
 use Rattle.fm_parse.specs.Follow.{leaf_at}
 use Rattle.fm_parse.proofs.expr.+expr.Goals as goal
@@ -248,15 +248,8 @@ read_terms-returns-in_err-push_node-clause-follows t c = λ F below o a.
     let is = passed c.from_residual-in_err-push_node.result e c.from_residual-in_err-push_node.ensures.1 in
     stopped F below _ e _ is (no_memory F e c.in_err-push_node.ensures.memory)
 
-pub read_terms-returns-in_err-count-clause-follows : goal.read_terms-returns-in_err-count-clause-follows
-read_terms-returns-in_err-count-clause-follows t c = λ F below o a.
-    let e = c.in_err-count.field-0.0 in
-    let is = passed c.from_residual-in_err-count.result e c.from_residual-in_err-count.ensures.1 in
-    stopped F below _ e _ is (c.in_err-count.ensures.follows F _ o (c.in_ok-first.ensures.follows F _
-    (owes_terms below _ o) (c.in_ok-spot.ensures.follows F _ _ (open_scaling F _ _ below o _ _ c.in-Some.ensures.some.kind_is a))))
-
 pub read_terms-returns-clause-follows : goal.read_terms-returns-clause-follows
-read_terms-returns-clause-follows t c = λ F below o a. c.in_ok-count.ensures.follows F _ o
+read_terms-returns-clause-follows t c = λ F below o a. c.read_terms.ensures.follows F _ o
     (c.in_ok-first.ensures.follows F _ (owes_terms below _ o) (c.in_ok-spot.ensures.follows F _ _
     (open_scaling F _ _ below o _ _ c.in-Some.ensures.some.kind_is a)))
 
@@ -267,16 +260,15 @@ read_terms-returns-in_default-clause-follows t c = λ F below o a. no_scaling _ 
 pub read_terms-returns-in_default-clause-text : goal.read_terms-returns-in_default-clause-text
 read_terms-returns-in_default-clause-text t c = record { form = no_term; spells = refl; grows = extended-none _ }
 
+pub read_terms-returns-clause-more : goal.read_terms-returns-clause-more
+read_terms-returns-clause-more t c =
+    at_least _ c.args.used c.in_ok-first.first (omega (arith, c.in_ok-first.ensures.more)) c.read_terms.ensures.more
+
 pub read_terms-returns-clause-text : goal.read_terms-returns-clause-text
-read_terms-returns-clause-text t c = record {
-  form = term c.in-Some.ensures.some.sign (leaf_at c.in_ok-spot.ensures.text.bytes c.in_ok-spot.spot)
-      c.in_ok-first.ensures.text.form c.in_ok-count.ensures.text.form;
-  spells = c.in_ok-spot.ensures.text.text ∙ scaled_text _ _ c.in-Some.ensures.some.kind_is _
-      c.in_ok-first.ensures.text.form c.in_ok-count.ensures.text.form _ _ c.read_terms.new.r
-      c.in_ok-first.ensures.text.spells c.in_ok-count.ensures.text.spells;
-  grows = scaled_nodes _ _ c.in-Some.ensures.some.node_is _ _ _ _ _ _ _ c.in_ok-first.ensures.text.grows
-      c.in_ok-push_node.ensures.ok c.in_ok-count.ensures.text.grows;
-}
+read_terms-returns-clause-text t c =
+    scaled_read _ _ _ c.in-Some.ensures.some.sign c.in-Some.ensures.some.kind_is c.in-Some.ensures.some.node_is
+    (leaf_at c.in_ok-spot.ensures.text.bytes c.in_ok-spot.spot) _ _ _ _ _ _ _ _ c.in_ok-spot.ensures.text.text
+    c.in_ok-first.ensures.text c.in_ok-push_node.ensures.ok c.read_terms.ensures.text
 
 pub read_sums-returns-in_err-spot-clause-follows : goal.read_sums-returns-in_err-spot-clause-follows
 read_sums-returns-in_err-spot-clause-follows t c = λ F below o a.
@@ -304,16 +296,8 @@ read_sums-returns-in_err-push_node-clause-follows t c = λ F below o a.
     let is = passed c.from_residual-in_err-push_node.result e c.from_residual-in_err-push_node.ensures.1 in
     stopped F below _ e _ is (no_memory F e c.in_err-push_node.ensures.memory)
 
-pub read_sums-returns-in_err-count-clause-follows : goal.read_sums-returns-in_err-count-clause-follows
-read_sums-returns-in_err-count-clause-follows t c = λ F below o a.
-    let e = c.in_err-count.field-0.0 in
-    let is = passed c.from_residual-in_err-count.result e c.from_residual-in_err-count.ensures.1 in
-    stopped F below _ e _ is (c.in_err-count.ensures.follows F _ o (c.in_ok-term.ensures.follows F _
-    (owes_sums below _ o) (c.in_ok-factor.ensures.follows F _ (owes_terms _ _ (owes_sums below _ o))
-    (c.in_ok-spot.ensures.follows F _ _ (open_adding F _ _ below o _ _ c.in-Some.ensures.some.kind_is a)))))
-
 pub read_sums-returns-clause-follows : goal.read_sums-returns-clause-follows
-read_sums-returns-clause-follows t c = λ F below o a. c.in_ok-count.ensures.follows F _ o (c.in_ok-term.ensures.follows
+read_sums-returns-clause-follows t c = λ F below o a. c.read_sums.ensures.follows F _ o (c.in_ok-term.ensures.follows
     F _ (owes_sums below _ o) (c.in_ok-factor.ensures.follows F _ (owes_terms _ _ (owes_sums below _ o))
     (c.in_ok-spot.ensures.follows F _ _ (open_adding F _ _ below o _ _ c.in-Some.ensures.some.kind_is a))))
 
@@ -324,17 +308,16 @@ read_sums-returns-in_default-clause-follows t c = λ F below o a. no_adding _ _ 
 pub read_sums-returns-in_default-clause-text : goal.read_sums-returns-in_default-clause-text
 read_sums-returns-in_default-clause-text t c = record { form = no_sum; spells = refl; grows = extended-none _ }
 
+pub read_sums-returns-clause-more : goal.read_sums-returns-clause-more
+read_sums-returns-clause-more t c =
+    at_least _ c.args.used c.in_ok-term.term (omega (arith, c.in_ok-factor.ensures.more, c.in_ok-term.ensures.more))
+    c.read_sums.ensures.more
+
 pub read_sums-returns-clause-text : goal.read_sums-returns-clause-text
-read_sums-returns-clause-text t c = record {
-  form = sum c.in-Some.ensures.some.sign (leaf_at c.in_ok-spot.ensures.text.bytes c.in_ok-spot.spot)
-      c.in_ok-factor.ensures.text.form c.in_ok-term.ensures.text.form c.in_ok-count.ensures.text.form;
-  spells = c.in_ok-spot.ensures.text.text ∙ added_text _ _ c.in-Some.ensures.some.kind_is _
-      c.in_ok-factor.ensures.text.form c.in_ok-term.ensures.text.form c.in_ok-count.ensures.text.form _ _ _
-      c.read_sums.new.r c.in_ok-factor.ensures.text.spells c.in_ok-term.ensures.text.spells
-      c.in_ok-count.ensures.text.spells;
-  grows = added_nodes _ _ c.in-Some.ensures.some.node_is _ _ _ _ _ _ _ _ _ c.in_ok-factor.ensures.text.grows
-      c.in_ok-term.ensures.text.grows c.in_ok-push_node.ensures.ok c.in_ok-count.ensures.text.grows;
-}
+read_sums-returns-clause-text t c =
+    added_read _ _ _ c.in-Some.ensures.some.sign c.in-Some.ensures.some.kind_is c.in-Some.ensures.some.node_is
+    (leaf_at c.in_ok-spot.ensures.text.bytes c.in_ok-spot.spot) _ _ _ _ _ _ _ _ _ _ c.in_ok-spot.ensures.text.text
+    c.in_ok-factor.ensures.text c.in_ok-term.ensures.text c.in_ok-push_node.ensures.ok c.read_sums.ensures.text
 
 pub read_inner-returns-in_err-factor-clause-follows : goal.read_inner-returns-in_err-factor-clause-follows
 read_inner-returns-in_err-factor-clause-follows t c = λ F below o a.
@@ -349,25 +332,18 @@ read_inner-returns-in_err-term-clause-follows t c = λ F below o a.
     stopped F below _ e _ is (c.in_err-term.ensures.follows F _ (owes_sums below _ o) (c.in_ok-factor.ensures.follows F
     _ (owes_terms _ _ (owes_sums below _ o)) a))
 
-pub read_inner-returns-in_err-count-clause-follows : goal.read_inner-returns-in_err-count-clause-follows
-read_inner-returns-in_err-count-clause-follows t c = λ F below o a.
-    let e = c.in_err-count.field-0.0 in
-    let is = passed c.from_residual-in_err-count.result e c.from_residual-in_err-count.ensures.1 in
-    stopped F below _ e _ is (c.in_err-count.ensures.follows F _ o (c.in_ok-term.ensures.follows F _
-    (owes_sums below _ o) (c.in_ok-factor.ensures.follows F _ (owes_terms _ _ (owes_sums below _ o)) a)))
-
 pub read_inner-returns-clause-follows : goal.read_inner-returns-clause-follows
-read_inner-returns-clause-follows t c = λ F below o a. c.in_ok-count.ensures.follows F _ o (c.in_ok-term.ensures.follows
+read_inner-returns-clause-follows t c = λ F below o a. c.read_sums.ensures.follows F _ o (c.in_ok-term.ensures.follows
     F _ (owes_sums below _ o) (c.in_ok-factor.ensures.follows F _ (owes_terms _ _ (owes_sums below _ o)) a))
 
+pub read_inner-returns-clause-more : goal.read_inner-returns-clause-more
+read_inner-returns-clause-more t c =
+    more_than _ c.args.used c.in_ok-term.term (omega (arith, c.in_ok-factor.ensures.more, c.in_ok-term.ensures.more))
+    c.read_sums.ensures.more
+
 pub read_inner-returns-clause-text : goal.read_inner-returns-clause-text
-read_inner-returns-clause-text t c = record {
-  form = expr c.in_ok-factor.ensures.text.form c.in_ok-term.ensures.text.form c.in_ok-count.ensures.text.form;
-  spells = rw (c.in_ok-factor.ensures.text.spells, c.in_ok-term.ensures.text.spells, c.in_ok-count.ensures.text.spells)
-      refl;
-  grows = extended-twice _ _ _ _ _ c.in_ok-factor.ensures.text.grows (extended-twice _ _ _ _ _
-      c.in_ok-term.ensures.text.grows c.in_ok-count.ensures.text.grows);
-}
+read_inner-returns-clause-text t c = inner_read _ _ _ _ _ _ _ _ _ c.in_ok-factor.ensures.text c.in_ok-term.ensures.text
+    c.read_sums.ensures.text
 
 pub read_function-returns-in_default : goal.read_function-returns-in_default
 read_function-returns-in_default t c = record {
