@@ -6,7 +6,7 @@ use fm_lex::Spot;
 use fm_program::{Count, Draw, Point};
 
 /// A statement with the spot of its keyword.
-#[derive(Debug, Drop)]
+#[derive(Drop)]
 #[cycle(step)]
 pub struct Step {
     pub spot: Spot,
@@ -18,7 +18,7 @@ pub struct Step {
 
 /// What a statement says. Expressions, lists, chords and deformations are given by their places in
 /// the tables, phrases by their numbers, all from 0.
-#[derive(Debug, Drop)]
+#[derive(Drop)]
 #[cycle(step)]
 pub enum Instruction {
     Note {
