@@ -1,14 +1,16 @@
 -- What stands inside a statement without faults has none.
-use Rattle.std.proofs.Common.{◌≡◌, ℕ, zero, suc, ◌<◌, List, [], ◌∷◌, ◌++◌, length, get_or, map, ap, sym, ◌∙◌, arith}
+use Rattle.std.proofs.Common.{◌≡◌, ℕ, zero, suc, ◌<◌, List, [], ◌∷◌, ◌++◌, length, get_or, map, ap, sym, ◌∙◌, arith, rules}
+use Rattle.std.specs.Prelude.{pos, neg_ℤ, ◌-ℤ◌}
 use Rattle.fm_grammar.specs.declared.item.Item.{Item}
 use Rattle.fm_grammar.specs.declared.length.Length.{Length}
 use Rattle.fm_grammar.specs.declared.number.Number.{Number}
 use Rattle.fm_grammar.specs.Score as text
 use Rattle.fm_grammar.specs.View.{item_view, items_view, branches_of}
 use Rattle.fm_pattern.specs.declared.cursor.TheConstants.{MAX_ENTRIES}
-use Rattle.fm_meaning.specs.Rules.{most_rounds, most_data, most_gate}
-use Rattle.fm_meaning.specs.Ranges.{stmt_faults, body_faults, branches_faults, expr_faults, number_faults, numbers_faults, each_faults, length_faults, length_spot, pitches_faults, duration_faults}
-use Rattle.fm_outline.specs.InRange.{StmtInRange, BodyInRange, BranchesInRange}
+use Rattle.fm_meaning.specs.Rules.{most_rounds, most_data, most_gate, bend_centre, most_bend}
+use Rattle.fm_meaning.specs.Ranges.{stmt_faults, body_faults, branches_faults, expr_faults, number_faults, numbers_faults}
+use Rattle.fm_meaning.specs.Ranges.{each_faults, length_faults, length_spot, pitches_faults, duration_faults, amount_faults}
+use Rattle.fm_outline.specs.InRange.{AmountFits, StmtInRange, BodyInRange, BranchesInRange}
 use Rattle.fm_outline.proofs.RangeLemmas.{none_first, none_second}
 
 -- the pitches of a note
@@ -21,6 +23,38 @@ pub note_duration : (ps : List text.Pitch) (d : text.Duration) → StmtInRange (
 note_duration ps d r =
     ap (λ w. duration_faults w d) (sym r.whole)
     ∙ none_second (pitches_faults ps) (duration_faults r.names.whole d) r.faultless
+
+-- the duration of a rest
+pub rest_duration : (d : text.Duration) → StmtInRange (text.rest d) → duration_faults 1920 d ≡ []
+rest_duration d r = ap (λ w. duration_faults w d) (sym r.whole) ∙ r.faultless
+
+-- a number of seven bits fits
+data_fits : (a : text.Amount) → amount_faults (pos 0) (pos most_data) a ≡ [] → AmountFits a
+data_fits (text.literal v spot) none = search rules
+data_fits (text.Amount.computed e) none = tt
+
+-- so does a bend
+bend_fits : (a : text.Amount) → amount_faults (neg_ℤ (pos bend_centre)) (pos most_bend -ℤ pos bend_centre) a ≡ []
+    → AmountFits a
+bend_fits (text.literal v spot) none = search rules
+bend_fits (text.Amount.computed e) none = tt
+
+-- the number of a controller
+pub control_number : (n : Number) (a : text.Amount) → StmtInRange (text.control n a) → number_faults 0 most_data n ≡ []
+control_number n a r = none_first (number_faults 0 most_data n) (amount_faults (pos 0) (pos most_data) a) r.faultless
+
+-- and its value
+pub control_amount : (n : Number) (a : text.Amount) → StmtInRange (text.control n a) → AmountFits a
+control_amount n a r =
+    data_fits a (none_second (number_faults 0 most_data n) (amount_faults (pos 0) (pos most_data) a) r.faultless)
+
+-- the number of a program
+pub program_amount : (a : text.Amount) → StmtInRange (text.program a) → AmountFits a
+program_amount a r = data_fits a r.faultless
+
+-- a bend
+pub bend_amount : (a : text.Amount) → StmtInRange (text.bend a) → AmountFits a
+bend_amount a r = bend_fits a r.faultless
 
 -- the first block
 pub first_block : (e : text.Postfix) (a b : text.Body) → StmtInRange (text.choice e a b) → BodyInRange a

@@ -4,3 +4,5 @@ pub mod SeenLemmas
 pub mod GrowingLemmas
 pub mod KeyLemmas
 pub mod WalkLemmas
+pub mod ItemLemmas
+pub mod MapLemmas

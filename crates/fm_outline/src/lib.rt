@@ -9,6 +9,7 @@
 mod fork;
 mod known;
 mod lasting;
+mod leaf;
 mod number;
 mod outline;
 mod quality;

@@ -1,12 +1,15 @@
 //! Lengths and the numbers of lists.
 
-ghost use Rattle.std.specs.Prelude.{◌≡◌, ◌≤◌, [], map, IfOk};
+ghost use Rattle.std.specs.Prelude.{◌≡◌, ◌≤◌, [], length, map, IfOk, OnOk};
 ghost use Rattle.fm_pattern.specs.declared.cursor.TheConstants.{MAX_ENTRIES};
 ghost use Rattle.fm_program.specs.declared.op.TheConstants.{MAX_LENGTH};
 ghost use Rattle.fm_grammar.specs.declared.number.Number.{Number};
 ghost use Rattle.fm_meaning.specs.Resolve.{length_ticks};
 ghost use Rattle.fm_meaning.specs.Ranges.{each_faults, length_faults, length_spot};
+ghost use Rattle.fm_expansion.specs.Numbering.{list_added};
+ghost use Rattle.fm_outline.specs.View.{tables_view};
 
+use crate::tables::Tables;
 use fm_grammar::{Length, Number};
 use std::alloc::{AllocError, Global};
 
@@ -29,7 +32,7 @@ pub(crate) fn ticks(length: &Length) -> u32
 }
 
 /// The entries of a rhythm, which have no fault.
-pub(crate) fn lengths(alloc: Global, list: &[Length]) -> Result<Vec<u32>, AllocError>
+fn lengths(alloc: Global, list: &[Length]) -> Result<Vec<u32>, AllocError>
     requires { each_faults (length_faults 1920) length_spot MAX_ENTRIES list.now ≡ [] }
     ensures { IfOk result (λ l. l.items ≡ map (length_ticks 1920) list.now) }
 {
@@ -41,7 +44,7 @@ pub(crate) fn lengths(alloc: Global, list: &[Length]) -> Result<Vec<u32>, AllocE
 }
 
 /// The numbers of a list.
-pub(crate) fn numbers(alloc: Global, list: &[Number]) -> Result<Vec<u32>, AllocError>
+fn numbers(alloc: Global, list: &[Number]) -> Result<Vec<u32>, AllocError>
     ensures { IfOk result (λ l. l.items ≡ map Number.value list.now) }
 {
     let mut entries = Vec::with_capacity(alloc, list.len())?;
@@ -49,4 +52,33 @@ pub(crate) fn numbers(alloc: Global, list: &[Number]) -> Result<Vec<u32>, AllocE
         entries.push(number.value)?;
     }
     Ok(entries)
+}
+
+/// Appends a rhythm, whose entries have no fault, and gives its place.
+pub(crate) fn add_lengths(
+    alloc: Global,
+    list: &[Length],
+    tables: &mut Tables,
+) -> Result<u32, AllocError>
+    requires { each_faults (length_faults 1920) length_spot MAX_ENTRIES list.now ≡ [] }
+    ensures at { IfOk result (λ p. p ≡ length (tables_view tables.old).lists) }
+    ensures added { OnOk result (tables_view tables.new
+        ≡ list_added (map (length_ticks 1920) list.now) (tables_view tables.old)) }
+{
+    let entries = lengths(alloc, list)?;
+    tables.add_list(entries)
+}
+
+/// Appends a list of numbers and gives its place.
+pub(crate) fn add_numbers(
+    alloc: Global,
+    list: &[Number],
+    tables: &mut Tables,
+) -> Result<u32, AllocError>
+    ensures at { IfOk result (λ p. p ≡ length (tables_view tables.old).lists) }
+    ensures added { OnOk result (tables_view tables.new
+        ≡ list_added (map Number.value list.now) (tables_view tables.old)) }
+{
+    let entries = numbers(alloc, list)?;
+    tables.add_list(entries)
 }

@@ -1,10 +1,8 @@
 //! Statements.
 
 ghost use Rattle.std.specs.Prelude.{◌≡◌, [], map, IfOk};
-ghost use Rattle.fm_grammar.specs.View.{item_view, items_view, pitch_view, duration_view};
-ghost use Rattle.fm_meaning.specs.Ranges.{pitches_faults, duration_faults};
-ghost use Rattle.fm_expansion.specs.Outline.{beat};
-ghost use Rattle.fm_expansion.specs.Numbering.{Catalogue, numbered, note_numbered, span_numbered, instruction_of, block_of};
+ghost use Rattle.fm_grammar.specs.View.{item_view, items_view};
+ghost use Rattle.fm_expansion.specs.Numbering.{Catalogue, numbered, instruction_of, block_of};
 ghost use Rattle.fm_outline.specs.View.{Look, tables_view, instruction_view, block_view};
 ghost use Rattle.fm_outline.specs.InRange.{StmtInRange, BodyInRange};
 ghost use Rattle.fm_outline.specs.Knows.{Knows};
@@ -12,53 +10,16 @@ ghost use Rattle.fm_outline.specs.Knows.{Knows};
 use crate::fork::before_fork_inside;
 use crate::known::Known;
 use crate::lasting::Lasting;
-use crate::number::{lengths, numbers};
+use crate::leaf::{
+    outline_control, outline_note, outline_play, outline_rest, outline_send, outline_set,
+};
+use crate::number::{add_lengths, add_numbers};
 use crate::quality::Quality;
 use crate::step::{Instruction, Step};
 use crate::tables::Tables;
-use crate::value::{outline_draw, outline_duration, outline_keys};
-use fm_grammar::{Duration, Item, Pitch, What};
+use fm_grammar::{Item, What};
 use fm_program::{Count, Point};
 use std::alloc::{AllocError, Global};
-
-/// A note of a duration of its own.
-fn outline_note(
-    alloc: Global,
-    pitches: &[Pitch],
-    duration: &Duration,
-    tables: &mut Tables,
-) -> Result<Instruction, AllocError>
-    requires pitches { pitches_faults (map pitch_view pitches.now) ≡ [] }
-    requires duration { duration_faults 1920 (duration_view duration.now) ≡ [] }
-    ensures { IfOk result (λ i. (look : Look) →
-        numbered (instruction_view look i) (tables_view tables.new)
-        ≡ note_numbered (map pitch_view pitches.now)
-        (span_numbered 1920 (duration_view duration.now)) (tables_view tables.old)) }
-{
-    let keys = outline_keys(alloc, pitches, tables)?;
-    let lasting = outline_duration(alloc, duration, tables)?;
-    let chord = tables.add_chord(keys)?;
-    Ok(Instruction::Note { chord, lasting })
-}
-
-/// A note of the innermost rhythm.
-fn outline_play(
-    alloc: Global,
-    pitches: &[Pitch],
-    tables: &mut Tables,
-) -> Result<Instruction, AllocError>
-    requires { pitches_faults (map pitch_view pitches.now) ≡ [] }
-    ensures { IfOk result (λ i. (look : Look) →
-        numbered (instruction_view look i) (tables_view tables.new)
-        ≡ note_numbered (map pitch_view pitches.now) (numbered beat) (tables_view tables.old)) }
-{
-    let keys = outline_keys(alloc, pitches, tables)?;
-    let chord = tables.add_chord(keys)?;
-    Ok(Instruction::Note {
-        chord,
-        lasting: Lasting::Beat,
-    })
-}
 
 /// A statement.
 #[cycle(statement)]
@@ -76,41 +37,16 @@ pub(crate) fn outline_item(
     match &item.what {
         What::Note { pitches, duration } => outline_note(alloc, pitches, duration, tables),
         What::Play { pitches } => outline_play(alloc, pitches, tables),
-        What::Rest { duration } => {
-            let lasting = outline_duration(alloc, duration, tables)?;
-            Ok(Instruction::Rest { lasting })
-        }
+        What::Rest { duration } => outline_rest(alloc, duration, tables),
         What::Skip => Ok(Instruction::Rest {
             lasting: Lasting::Beat,
         }),
         What::Control { controller, amount } => {
-            let draw = outline_draw(alloc, amount, tables)?;
-            let point = Point::Control {
-                controller: controller.value as u8,
-            };
-            Ok(Instruction::Send { point, draw })
+            outline_control(alloc, *controller, amount, tables)
         }
-        What::Program { amount } => {
-            let draw = outline_draw(alloc, amount, tables)?;
-            Ok(Instruction::Send {
-                point: Point::Program,
-                draw,
-            })
-        }
-        What::Bend { amount } => {
-            let draw = outline_draw(alloc, amount, tables)?;
-            Ok(Instruction::Send {
-                point: Point::Bend,
-                draw,
-            })
-        }
-        What::Set { register, value } => {
-            let expr = tables.add_expr(alloc, value)?;
-            Ok(Instruction::Set {
-                register: *register,
-                expr,
-            })
-        }
+        What::Program { amount } => outline_send(alloc, Point::Program, amount, tables),
+        What::Bend { amount } => outline_send(alloc, Point::Bend, amount, tables),
+        What::Set { register, value } => outline_set(alloc, *register, value, tables),
         What::If { test, yes, no } => {
             let expr = tables.add_expr(alloc, test)?;
             let yes = outline_items(alloc, yes, known, tables)?;
@@ -168,7 +104,7 @@ pub(crate) fn outline_item(
             })
         }
         What::Rhythm { list, body } => {
-            let list = tables.add_list(lengths(alloc, list)?)?;
+            let list = add_lengths(alloc, list, tables)?;
             let body = outline_items(alloc, body, known, tables)?;
             Ok(Instruction::Under {
                 quality: Quality::Duration,
@@ -177,7 +113,7 @@ pub(crate) fn outline_item(
             })
         }
         What::Artic { list, body } => {
-            let list = tables.add_list(numbers(alloc, list)?)?;
+            let list = add_numbers(alloc, list, tables)?;
             let body = outline_items(alloc, body, known, tables)?;
             Ok(Instruction::Under {
                 quality: Quality::Articulation,
@@ -186,7 +122,7 @@ pub(crate) fn outline_item(
             })
         }
         What::Loud { list, body } => {
-            let list = tables.add_list(numbers(alloc, list)?)?;
+            let list = add_numbers(alloc, list, tables)?;
             let body = outline_items(alloc, body, known, tables)?;
             Ok(Instruction::Under {
                 quality: Quality::Loudness,

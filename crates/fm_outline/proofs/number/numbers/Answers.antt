@@ -1,0 +1,8 @@
+use Rattle.fm_grammar.specs.declared.number.Number.{Number}
+use Rattle.fm_outline.proofs.MapLemmas.{mapped_more}
+use Rattle.fm_outline.proofs.number.numbers.Goals as goal
+
+pub loop-number-preserved : goal.loop-number-preserved
+loop-number-preserved c =
+    mapped_more Number.value c.args.list.now c.loop-number.number-index _ c.loop-number.entries.items
+    c.push.new.self.items c.loop-number-test.true c.loop-number.invariant c.in_ok-push.ensures.items
