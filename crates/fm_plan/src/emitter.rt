@@ -46,7 +46,8 @@ impl Emitter {
 
     /// An operation at the end of the program that grows.
     pub(crate) fn push(&mut self, op: Op) -> Result<(), AllocError>
-        ensures { IfOk result (λ _. Makes self.old self.new (with_ops (op ∷ []) (emitting_of self.old))) }
+        ensures { IfOk result (λ _. Makes self.old self.new
+            (with_ops (op ∷ []) (emitting_of self.old))) }
     {
         self.current.ops.push(op)?;
         Ok(())

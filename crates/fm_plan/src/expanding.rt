@@ -1,19 +1,18 @@
 //! The programs of an outline.
-ghost use Rattle.std.specs.Prelude.{◌≡◌, ℕ, ◌+◌, ◌∷◌, [], ◌&&◌, false, length, map, slice_index_or};
-ghost use Rattle.std.specs.Prelude.{vec_items, IfOk};
+ghost use Rattle.std.specs.Prelude.{◌≡◌, ◌+◌, ◌∷◌, [], length, map, vec_items, IfOk};
 ghost use Rattle.fm_expansion.specs.Outline as plain;
 ghost use Rattle.fm_expansion.specs.Homes.{Inside as Open, loop_round, slots_of, in_scope};
 ghost use Rattle.fm_expansion.specs.Emission as emission;
 ghost use Rattle.fm_expansion.specs.Expansion as expansion;
 ghost use Rattle.fm_expansion.specs.Expansion.{straight, unrolled, with_scopes};
 ghost use Rattle.fm_program.specs.Parts.{program_parts};
-ghost use Rattle.fm_outline.specs.View.{Look, arms_of_blocks, block_view, outline_view};
+ghost use Rattle.fm_outline.specs.View.{arms_of_blocks, block_view, outline_view};
 ghost use Rattle.fm_outline.specs.View.{phrases_view, quality_view, step_view};
 ghost use Rattle.fm_plan.specs.Made.{made, made_in};
 ghost use Rattle.fm_plan.specs.Seen.{emitting_of, look_at, Agrees, Makes};
 
 use crate::emitter::Emitter;
-use crate::forks::{phrases_fork, steps_fork};
+use crate::forks::{is_written_out, phrases_fork};
 use crate::inside::{Inside, place};
 use fm_outline::{Instruction, Outline, Quality, Step};
 use fm_program::{Count, Op, Program, Scopes, Slot};
@@ -36,19 +35,6 @@ fn written_rounds(count: Count) -> u32
     }
 }
 
-/// Whether a loop is written out: it forks, and stands where statements may. The statement of its
-/// body at the place `first` is asked before all others.
-fn is_written_out(body: &[Step], first: usize, forks: &[bool], forking: bool) -> bool
-    ensures { (look : Look) → ((n : ℕ) → slice_index_or forks.now n false ≡ emission.forks_in (look n)) →
-        result ≡ (forking && emission.forks_in (block_view look body.now)) }
-{
-    if forking {
-        steps_fork(body, first, forks)
-    } else {
-        false
-    }
-}
-
 /// A statement. It names phrases of `earlier`, of which `forks` says which fork; it is written out
 /// where `forking` says that it may fork.
 #[cycle(expand)]
@@ -62,7 +48,8 @@ fn expand_step(
 ) -> Result<(), AllocError>
     requires known { forks.now ≡ map emission.forks_in (phrases_view (map vec_items earlier.now)) }
     ensures { (i : Open) → Agrees m.old inside i → IfOk result (λ _. Makes m.old m.new
-        (made forking (step_view (look_at (map vec_items earlier.now)) step.now).what i (emitting_of m.old))) }
+        (made forking (step_view (look_at (map vec_items earlier.now)) step.now).what i
+        (emitting_of m.old))) }
 {
     match &step.what {
         Instruction::Note { chord, lasting } => m.push(Op::Note {
@@ -147,7 +134,8 @@ fn expand_steps(
 ) -> Result<(), AllocError>
     requires known { forks.now ≡ map emission.forks_in (phrases_view (map vec_items earlier.now)) }
     ensures { (i : Open) → Agrees m.old inside i → IfOk result (λ _. Makes m.old m.new
-        (made_in forking (block_view (look_at (map vec_items earlier.now)) steps.now) i (emitting_of m.old))) }
+        (made_in forking (block_view (look_at (map vec_items earlier.now)) steps.now) i
+        (emitting_of m.old))) }
 {
     for step in steps {
         expand_step(m, earlier, forks, step, inside, forking)?;
@@ -237,7 +225,8 @@ fn expand_loop(
 ) -> Result<(), AllocError>
     requires known { forks.now ≡ map emission.forks_in (phrases_view (map vec_items earlier.now)) }
     ensures { (i : Open) → Agrees m.old inside i → IfOk result (λ _. Makes m.old m.new
-        (straight (plain.loop count (block_view (look_at (map vec_items earlier.now)) body.now)) i (emitting_of m.old))) }
+        (straight (plain.loop count (block_view (look_at (map vec_items earlier.now)) body.now)) i
+        (emitting_of m.old))) }
 {
     let start = m.size();
     let outer = inside.scope;
@@ -280,8 +269,10 @@ fn expand_rounds(
 ) -> Result<(), AllocError>
     requires known { forks.now ≡ map emission.forks_in (phrases_view (map vec_items earlier.now)) }
     ensures { (i : Open) → Agrees m.old inside i → IfOk result (λ _. Makes m.old m.new
-        (unrolled (λ j f. expansion.expand_in (block_view (look_at (map vec_items earlier.now)) body.now)
-        (in_scope (loop_round j) (length f.scopes) i) (with_scopes (slots_of (loop_round j ∷ i.homes) ∷ []) f))
+        (unrolled (λ j f. expansion.expand_in
+        (block_view (look_at (map vec_items earlier.now)) body.now)
+        (in_scope (loop_round j) (length f.scopes) i)
+        (with_scopes (slots_of (loop_round j ∷ i.homes) ∷ []) f))
         (expansion.written_rounds count) 0 (emitting_of m.old))) }
 {
     for round in 0..written_rounds(count) {
@@ -303,7 +294,8 @@ fn expand_fork(
     requires known { forks.now ≡ map emission.forks_in (phrases_view (map vec_items earlier.now)) }
     ensures { (i : Open) → Agrees m.old inside i → IfOk result (λ _. Makes m.old m.new
         (expansion.expand (plain.par (arms_of_blocks
-        (map (λ b. block_view (look_at (map vec_items earlier.now)) b.items) branches.now))) i (emitting_of m.old))) }
+        (map (λ b. block_view (look_at (map vec_items earlier.now)) b.items) branches.now))) i
+        (emitting_of m.old))) }
 {
     let forked = place(m.finished.len())?;
     let mut lasts = Vec::new(m.alloc);
@@ -331,7 +323,8 @@ fn expand_warp(
 ) -> Result<(), AllocError>
     requires known { forks.now ≡ map emission.forks_in (phrases_view (map vec_items earlier.now)) }
     ensures { (i : Open) → Agrees m.old inside i → IfOk result (λ _. Makes m.old m.new
-        (made forking (plain.warp number (block_view (look_at (map vec_items earlier.now)) body.now)) i (emitting_of m.old))) }
+        (made forking (plain.warp number
+        (block_view (look_at (map vec_items earlier.now)) body.now)) i (emitting_of m.old))) }
 {
     m.push(Op::Enter { warp: number })?;
     m.levels.push(number)?;
@@ -370,7 +363,8 @@ fn expand_list(
 /// The programs of an outline.
 pub fn expand(alloc: Global, outline: &Outline) -> Result<Expanded, AllocError>
     ensures programs { IfOk result (λ x.
-        map program_parts x.programs.items ≡ expansion.whole (expansion.expanded (outline_view outline.now).value)) }
+        map program_parts x.programs.items
+        ≡ expansion.whole (expansion.expanded (outline_view outline.now).value)) }
     ensures scopes { IfOk result (λ x.
         x.scopes ≡ (expansion.expanded (outline_view outline.now).value).scopes) }
 {

@@ -1,6 +1,6 @@
 //! Which statements fork.
 
-ghost use Rattle.std.specs.Prelude.{◌≡◌, ℕ, false, IfOk, map, slice_index_or, vec_items};
+ghost use Rattle.std.specs.Prelude.{◌≡◌, ℕ, ◌&&◌, false, IfOk, map, slice_index_or, vec_items};
 ghost use Rattle.fm_expansion.specs.Emission as emission;
 ghost use Rattle.fm_outline.specs.View.{Look, block_view, step_view, phrase_at, phrases_view};
 
@@ -10,7 +10,8 @@ use std::alloc::{AllocError, Global};
 /// Whether a statement forks, where it is known of phrases.
 #[cycle(forks)]
 fn step_forks(step: &Step, phrases: &[bool]) -> bool
-    ensures { (look : Look) → ((n : ℕ) → slice_index_or phrases.now n false ≡ emission.forks_in (look n)) →
+    ensures { (look : Look) →
+        ((n : ℕ) → slice_index_or phrases.now n false ≡ emission.forks_in (look n)) →
         result ≡ emission.forks (step_view look step.now).what }
 {
     match &step.what {
@@ -33,8 +34,9 @@ fn step_forks(step: &Step, phrases: &[bool]) -> bool
 
 /// Whether one of the statements does. The one at the place `first` is asked before all others.
 #[cycle(forks)]
-pub(crate) fn steps_fork(steps: &[Step], first: usize, phrases: &[bool]) -> bool
-    ensures { (look : Look) → ((n : ℕ) → slice_index_or phrases.now n false ≡ emission.forks_in (look n)) →
+fn steps_fork(steps: &[Step], first: usize, phrases: &[bool]) -> bool
+    ensures { (look : Look) →
+        ((n : ℕ) → slice_index_or phrases.now n false ≡ emission.forks_in (look n)) →
         result ≡ emission.forks_in (block_view look steps.now) }
 {
     if first < steps.len() && step_forks(&steps[first], phrases) {
@@ -50,7 +52,8 @@ pub(crate) fn steps_fork(steps: &[Step], first: usize, phrases: &[bool]) -> bool
 
 /// Whether a phrase does.
 fn phrase_forks(number: Option<u32>, phrases: &[bool]) -> bool
-    ensures { (look : Look) → ((n : ℕ) → slice_index_or phrases.now n false ≡ emission.forks_in (look n)) →
+    ensures { (look : Look) →
+        ((n : ℕ) → slice_index_or phrases.now n false ≡ emission.forks_in (look n)) →
         result ≡ emission.forks_in (phrase_at look number) }
 {
     match number {
@@ -59,6 +62,20 @@ fn phrase_forks(number: Option<u32>, phrases: &[bool]) -> bool
             None => false,
         },
         None => false,
+    }
+}
+
+/// Whether a loop is written out: it forks, and stands where statements may. The statement of its
+/// body at the place `first` is asked before all others.
+pub(crate) fn is_written_out(body: &[Step], first: usize, forks: &[bool], forking: bool) -> bool
+    ensures { (look : Look) →
+        ((n : ℕ) → slice_index_or forks.now n false ≡ emission.forks_in (look n)) →
+        result ≡ (forking && emission.forks_in (block_view look body.now)) }
+{
+    if forking {
+        steps_fork(body, first, forks)
+    } else {
+        false
     }
 }
 

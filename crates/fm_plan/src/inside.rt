@@ -119,7 +119,8 @@ impl Inside {
 
     /// In a list in a frame.
     pub(crate) fn in_list(self, quality: Quality) -> Result<Inside, AllocError>
-        ensures { IfOk result (λ r. r ≡ record (turned self quality (turn.Cycle self.frames)) { frames = self.frames + 1 }) }
+        ensures { IfOk result (λ r. r
+            ≡ record (turned self quality (turn.Cycle self.frames)) { frames = self.frames + 1 }) }
     {
         let frames = one_more(self.frames)?;
         let inside = self.with_turn(quality, Turn::Cycle { frame: self.frames });

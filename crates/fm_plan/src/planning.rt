@@ -41,12 +41,13 @@ pub fn outline_plan(alloc: Global, outline: Outline) -> Result<Plan, AllocError>
     Ok(Plan::of(stock, programs, u64::from(seed), Profile::first()))
 }
 
-/// The plan of a score that is accepted: its processes have the lines that the score means, and take
-/// no more steps together than its static totals say.
+/// The plan of a score that is accepted: its processes have the lines that the score means, and
+/// take no more steps together than its static totals say.
 pub fn plan(alloc: Global, score: &Score) -> Result<Plan, AllocError>
     requires accepted { (text : List ℕ) × Means text (score_view score.now) }
     ensures parts { IfOk result (λ p. p ≡ score_plan (score_view score.now)) }
-    ensures lines { IfOk result (λ p. plan_lines p ≡ played_lines (resolved (score_view score.now))) }
+    ensures lines { IfOk result (λ p.
+        plan_lines p ≡ played_lines (resolved (score_view score.now))) }
     ensures steps { IfOk result (λ p.
         all_steps (plan_played p) ≤ (score_bounds (resolved (score_view score.now))).steps) }
 {

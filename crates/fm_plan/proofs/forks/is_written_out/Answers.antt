@@ -2,7 +2,7 @@ use Rattle.std.proofs.Common.{◌∙◌, ap, sym}
 use Rattle.std.specs.Prelude.{◌&&◌}
 use Rattle.fm_expansion.specs.Emission.{forks_in}
 use Rattle.fm_outline.specs.View.{block_view}
-use Rattle.fm_plan.proofs.expanding.is_written_out.Goals as goal
+use Rattle.fm_plan.proofs.forks.is_written_out.Goals as goal
 
 pub returns-then-forking : goal.returns-then-forking
 returns-then-forking c = λ look known.
