@@ -61,8 +61,8 @@ impl<'s> Walk<'s> {
             Walked score self.old (tree.phrase (name_view name.now) (items_view body.now) ∷ rest) →
             Walked score self.new rest) }
     {
-        let steps = outline_items(alloc, body, &self.known, &mut self.tables)?;
         let number = place(self.phrases.len())?;
+        let steps = outline_items(alloc, body, &self.known, &mut self.tables)?;
         let forks = before_fork(&steps, &self.known.forking) < steps.len();
         self.phrases.push(steps)?;
         self.known.forking.push(forks)?;
