@@ -2,6 +2,7 @@ pub mod Checked
 pub mod Chosen
 pub mod Desks
 pub mod Finishing
+pub mod Giving
 pub mod Halls
 pub mod Least
 pub mod Waiting

@@ -1,4 +1,5 @@
 pub mod Checks
+pub mod Given
 pub mod Hall
 pub mod Limits
 pub mod Stored

@@ -26,7 +26,7 @@ use std::marker::Model;
 
 /// The state of processes, seats and released events, which one step changes at a time. Every
 /// hall is sound.
-#[derive(Debug, Drop)]
+#[derive(Drop)]
 pub struct Hall {
     rules: Rules,
     tables: Tables,

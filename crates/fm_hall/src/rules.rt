@@ -8,7 +8,7 @@ use fm_line::Line;
 use std::marker::Model;
 
 /// The lines, the room of an outbox in events, and the lead in ticks.
-#[derive(Debug, Drop)]
+#[derive(Drop)]
 pub(crate) struct Rules {
     lines: Vec<Line>,
     room: u32,

@@ -25,7 +25,7 @@ const UNBORN: Cell = Cell {
 };
 
 /// The state of the core. No call but `new` takes memory.
-#[derive(Debug, Drop)]
+#[derive(Drop)]
 pub(crate) struct Tables {
     cells: Vec<Cell>,
     floor: Floor,
@@ -80,10 +80,10 @@ impl Tables {
     {
         let mut cells = vec![in alloc; UNBORN; processes as usize]?;
         cells[0].tag = Tag::Home;
-        let desks = empty_desks(alloc, processes, seats)?;
         let visited = vec![in alloc; false; processes as usize]?;
         let gather = Gather::new(alloc, gathers)?;
         let released = Vec::with_capacity(alloc, releases)?;
+        let desks = empty_desks(alloc, processes, seats)?;
         Ok(Tables {
             cells,
             floor: Floor::At(0),
@@ -269,13 +269,21 @@ fn empty_desks(alloc: Global, processes: u32, seats: u32) -> Result<Vec<Desk>, A
 {
     let mut desks = Vec::with_capacity(alloc, seats as usize)?;
     for _ in 0..seats {
-        let sweep = Vec::with_capacity(alloc, processes as usize)?;
-        desks.push(Desk {
-            sweep,
-            paced: Floor::At(0),
-        })?;
+        desks.push(empty_desk(alloc, processes)?)?;
     }
     Ok(desks)
+}
+
+// An empty sweep with memory for all processes.
+fn empty_desk(alloc: Global, processes: u32) -> Result<Desk, AllocError>
+    ensures desk { IfOk result (λ desk. desk_of desk ≡ no_desk) }
+    ensures sweep { IfOk result (λ desk. processes ≤ vec_capacity desk.sweep) }
+{
+    let sweep = Vec::with_capacity(alloc, processes as usize)?;
+    Ok(Desk {
+        sweep,
+        paced: Floor::At(0),
+    })
 }
 
 // Enters a look in a sweep.

@@ -1,0 +1,16 @@
+-- Behind the first four tests the later ones decide.
+use Rattle.std.proofs.Common.{length, sym, ◌∙◌, ap, arith}
+use Rattle.std.specs.Prelude.{◌<◌}
+use Rattle.fm_core.specs.State.{held_by}
+use Rattle.fm_hall.proofs.Giving.{give_on}
+use Rattle.fm_hall.proofs.refusals.why_not_give.Goals as goal
+
+pub returns : goal.returns
+returns c =
+    let a = c.args in let g = a.rules.now in let h = a.tables.now.state in
+    let seat : a.seat < length h.desks = omega arith in
+    let process : a.process < length h.cells = omega arith in
+    let held = sym (c.is_held_by.ensures ∙ ap (held_by a.seat) c.cell-from.ensures) ∙ c.if-not-is_held_by.false in
+    let take = c.if-taken-must_be_taken.false ∙ c.must_be_taken.ensures in
+    let later = rw (c.line-own.ensures.value, c.cell-from.ensures, c.paced-paced.ensures) at c.why_not_given.ensures in
+    give_on g h a.seat a.process a.taken a.computed a.clock a.ended seat process held take c.why_not_given.result later
