@@ -1,5 +1,5 @@
 -- The first of a give's tests that holds.
-use Rattle.std.proofs.Common.{◌≡◌, ℕ, ◌<◌, List, [], ◌∷◌, length, Bool, true, false, Option, Some, None, refl, ◌∙◌}
+use Rattle.std.proofs.Common.{◌≡◌, ℕ, ◌<◌, List, [], ◌∷◌, length, Bool, true, Option, refl, ◌∙◌}
 use Rattle.std.specs.Prelude.{not, nat_eq, nat_lt}
 use Rattle.std.proofs.lemmas.Bool.{lt-ltb, eq-eqb}
 use Rattle.fm_line.specs.Line.{line}
@@ -7,7 +7,7 @@ use Rattle.fm_core.specs.State.{Setting, State, cell, desk, held_by}
 use Rattle.fm_core.specs.Steps.{first, reason}
 use Rattle.fm_core.specs.Taking.{must_take}
 use Rattle.fm_core.specs.declared.reason.Reason.{Reason}
-use Rattle.fm_core.specs.declared.reason.Reason.TheVariants.{NoSeat, NoProcess, NotHeld, WrongTake, WrongCount, AboveLead, OverRoom, WrongClock, WrongEnd}
+use Rattle.fm_core.specs.declared.reason.Reason.TheVariants.{NoSeat, NoProcess, NotHeld, WrongTake}
 use Rattle.fm_core.specs.declared.step.Step.TheVariants.{Give}
 use Rattle.fm_hall.specs.Given.{given_table}
 
@@ -24,20 +24,3 @@ give_on g h s p t n now ends seat process held take o is =
     is ∙ four (nat_lt s (length h.desks)) (nat_lt p (length h.cells)) (held_by s (cell h p)) (nat_eq t (must_take g h s p))
     (given_table g (line g.lines p) (cell h p) (desk h s).paced t n now ends)
     (lt-ltb _ _ seat) (lt-ltb _ _ process) held (eq-eqb _ _ take)
-
--- the later tests
-abbrev later : Bool → Bool → Bool → Bool → Bool → List (Bool × Reason)
-later a b c d e = (a, WrongCount) ∷ (b, AboveLead) ∷ (c, OverRoom) ∷ (d, WrongClock) ∷ (e, WrongEnd) ∷ []
-
-module _ (a b c d e : Bool) where
-  pub wrong_count : a ≡ true → Some WrongCount ≡ first (later a b c d e)
-  wrong_count h = rw h refl
-
-  pub above_lead : a ≡ false → b ≡ true → Some AboveLead ≡ first (later a b c d e)
-  above_lead h i = rw (h, i) refl
-
-  pub wrong_end : a ≡ false → b ≡ false → c ≡ false → d ≡ false → e ≡ true → Some WrongEnd ≡ first (later a b c d e)
-  wrong_end h i j k l = rw (h, i, j, k, l) refl
-
-  pub none_wrong : a ≡ false → b ≡ false → c ≡ false → d ≡ false → e ≡ false → None ≡ first (later a b c d e)
-  none_wrong h i j k l = rw (h, i, j, k, l) refl

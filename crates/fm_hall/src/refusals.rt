@@ -2,7 +2,7 @@
 ghost use Rattle.std.specs.Prelude.{◌≡◌, ◌+◌, ◌^◌, ◌<◌, length, not, ◌&&◌, ◌||◌, nat_lt};
 ghost use Rattle.fm_line.specs.Line.{upper};
 ghost use Rattle.fm_core.specs.Numbers.{any_below};
-ghost use Rattle.fm_core.specs.State.{Setting, held_by, cell};
+ghost use Rattle.fm_core.specs.State.{Setting, held_by, cell, desk};
 ghost use Rattle.fm_core.specs.Floors.{within};
 ghost use Rattle.fm_core.specs.Tags as words;
 ghost use Rattle.fm_core.specs.Steps.{first, reason, holding, waits, unvisited, wrong_clock, wrong_end};
@@ -236,26 +236,31 @@ fn why_not_give(
     if taken != must_be_taken(rules, tables, seat, process) {
         return Some(Reason::WrongTake);
     }
-    let paced = tables.paced(seat);
-    why_not_given(rules, own, from, paced, taken, computed, clock, ended)
+    why_not_given(
+        rules, tables, seat, own, from, taken, computed, clock, ended,
+    )
 }
 
 // The same of a give of a held process, of which as much is taken as must be.
 fn why_not_given(
     rules: &Rules,
+    tables: &Tables,
+    seat: u32,
     own: &Line,
     from: Cell,
-    paced: Floor,
     taken: u32,
     computed: u32,
     clock: u64,
     ended: bool,
 ) -> Option<Reason>
-    ensures { result ≡ first (given_table rules.now own.now from paced taken computed clock ended) }
+    requires { seat < length tables.now.state.desks }
+    ensures { let paced = (desk tables.now.state seat).paced in
+        result ≡ first (given_table rules.now own.now from paced taken computed clock ended) }
 {
     if is_wrong_count(own, from, computed) {
         return Some(Reason::WrongCount);
     }
+    let paced = tables.paced(seat);
     if is_above_lead(
         own,
         from.computed as usize,
