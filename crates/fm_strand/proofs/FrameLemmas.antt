@@ -1,6 +1,6 @@
 -- Open frames by their number: what is read and changed at one of them.
 use Rattle.std.proofs.Common.{◌≡◌, ◌≢◌, refl, sym, ◌∙◌, ap, subst, arith, ℕ, zero, suc, ◌+◌, ◌-◌, ◌<◌, ◌≤◌, List, [], ◌∷◌, ◌++◌, length, Bool, true, false, nat_eq, if◌then◌else◌, slice_index_or, slice_set, length-append, length-set, drop, All}
-use Rattle.std.proofs.lemmas.Grind.{common_steps}
+use Rattle.std.proofs.lemmas.Bool.{eqb-true, eq-eqb}
 use Rattle.std.specs.List.{refill}
 use Rattle.std.proofs.lemmas.List.{take_at, get_or-set_other, get_or-set_same, get_or_default}
 use Rattle.std.proofs.lemmas.List.Elements.{All-cons, All-nil, All-append}
@@ -18,10 +18,17 @@ use Rattle.fm_strand.specs.Drawing.{no_frame, no_open, frame_at, FrameStands, Fr
 -- ---- tests on numbers
 
 pub nat_eq-same : (n : ℕ) → nat_eq n n ≡ true
-nat_eq-same n = grind arith
+nat_eq-same n = eq-eqb n n refl
+
+pub nat_eq-other : (k n : ℕ) → k ≢ n → nat_eq k n ≡ false
+nat_eq-other k n apart = go (nat_eq k n) refl
+  where
+    go : (b : Bool) → nat_eq k n ≡ b → nat_eq k n ≡ false
+    go true e = absurd (apart (eqb-true k n e))
+    go false e = e
 
 pub nat_eq-less : (k n : ℕ) → k < n → nat_eq k n ≡ false
-nat_eq-less k n less = grind arith
+nat_eq-less k n less = nat_eq-other k n (λ e. omega arith)
 
 -- a list that was lent as a slice comes back whole
 pub refilled : {A : Type 0} (xs back : List A) → length back ≡ length xs → refill (length xs) xs back ≡ back
@@ -29,6 +36,10 @@ refilled xs back same = take_at back (drop (length back) xs) (length xs) same
 
 pub false_true : false ≡ true → ⊥
 false_true is = cc
+
+-- a test that fails is of two numbers
+nat_eq-apart : (k n : ℕ) → nat_eq k n ≡ false → k ≢ n
+nat_eq-apart k n is = λ e. false_true (sym is ∙ eq-eqb k n e)
 
 -- ---- one frame
 
@@ -62,14 +73,14 @@ frame_at-none k [] past = refl
 frame_at-none k (f ∷ fs) past = rw other (frame_at-none k fs (omega arith))
   where
     other : nat_eq k (length fs) ≡ false
-    other = grind arith
+    other = nat_eq-other k (length fs) (λ e. omega arith)
 
 pub cycle_moved-none : (k : ℕ) (fs : List OpenFrame) → length fs ≤ k → cycle_moved k fs ≡ fs
 cycle_moved-none k [] past = refl
 cycle_moved-none k (f ∷ fs) past = rw other (ap (λ ys. f ∷ ys) (cycle_moved-none k fs (omega arith)))
   where
     other : nat_eq k (length fs) ≡ false
-    other = grind arith
+    other = nat_eq-other k (length fs) (λ e. omega arith)
 
 -- ---- a cursor that moves on
 
@@ -94,7 +105,7 @@ frame_at-moved k (f ∷ fs) less = on (frame_at-moved k fs) (nat_eq k (length fs
         ≡ frame_moved (if b then f else frame_at k fs)
     on later true is = rw is refl
     on later false is =
-        let apart : k ≢ length fs = grind arith in
+        let apart = nat_eq-apart k (length fs) is in
         rw (cycle_moved-length, is) (later (omega arith))
 
 -- any other one
@@ -108,7 +119,7 @@ frame_at-kept j k (f ∷ fs) other = on (frame_at-kept j k fs other) (nat_eq k (
     on later true is = rw apart refl
       where
         apart : nat_eq j (length fs) ≡ false
-        apart = grind arith
+        apart = nat_eq-other j (length fs) (λ e. other (e ∙ sym (eqb-true k (length fs) is)))
     on later false is = rw (cycle_moved-length, later) refl
 
 -- ---- frames of a state
@@ -140,7 +151,7 @@ pub FramesStand-moved : (t : StockParts) (xs : List Frame) (fs : List OpenFrame)
     → FramesStand t xs fs → k < length xs → FrameStands t y (frame_moved (frame_at k fs))
     → FramesStand t (slice_set xs k y) (cycle_moved k fs)
 FramesStand-moved t xs fs k y stands within moved = record {
-  count = grind (arith, common_steps, cycle_moved-length k fs, stands.count);
+  count = omega (arith, length-set xs k y, cycle_moved-length k fs, stands.count);
   each = λ j below. at j (omega (arith, length-set xs k y)) (nat_eq j k) refl;
 }
   where
@@ -150,40 +161,44 @@ FramesStand-moved t xs fs k y stands within moved = record {
     at : (j : ℕ) → j < length xs → (b : Bool) → nat_eq j k ≡ b
         → FrameStands t (slice_index_or (slice_set xs k y) j no_frame) (frame_at j (cycle_moved k fs))
     at j below true is =
-        let here : j ≡ k = grind arith in
+        let here = eqb-true j k is in
         rw (here, get_or-set_same, frame_at-moved k fs inside) moved
     at j below false is =
-        let apart : j ≢ k = grind arith in
+        let apart = nat_eq-apart j k is in
         rw (get_or-set_other, frame_at-kept j k fs apart) (stands.each j below)
 
 -- a frame that is opened
 pub FramesStand-pushed : (t : StockParts) (xs : List Frame) (fs : List OpenFrame) (x : Frame) (f : OpenFrame)
     → FramesStand t xs fs → FrameStands t x f → FramesStand t (xs ++ x ∷ []) (f ∷ fs)
 FramesStand-pushed t xs fs x f stands one = record {
-  count = grind (arith, common_steps, stands.count);
+  count = omega (arith, length-append xs (x ∷ []), stands.count);
   each = λ k below. at k (omega (arith, length-append xs (x ∷ []))) (nat_eq k (length fs)) refl;
 }
   where
     at : (k : ℕ) → k < suc (length xs) → (b : Bool) → nat_eq k (length fs) ≡ b
         → FrameStands t (slice_index_or (xs ++ x ∷ []) k no_frame) (if b then f else frame_at k fs)
-    at k below true is = let here : k ≡ length xs = grind (arith, stands.count) in
+    at k below true is =
+        let same = eqb-true k (length fs) is in
+        let here : k ≡ length xs = omega (arith, stands.count) in
         rw (here, get_or-append_seam xs x [] no_frame) one
-    at k below false is = let less : k < length xs = grind (arith, stands.count) in
+    at k below false is =
+        let apart = nat_eq-apart k (length fs) is in
+        let less : k < length xs = omega (arith, stands.count) in
         rw get_or-append (stands.each k less)
 
 -- a frame that is closed
 pub FramesStand-popped : (t : StockParts) (xs : List Frame) (fs : List OpenFrame) (x : Frame) (f : OpenFrame)
     → FramesStand t (xs ++ x ∷ []) (f ∷ fs) → FramesStand t xs fs
 FramesStand-popped t xs fs x f stands = record {
-  count = grind (arith, common_steps, stands.count, length-append xs (x ∷ []));
+  count = omega (arith, stands.count, length-append xs (x ∷ []));
   each = λ k below. at k below (nat_eq k (length fs)) refl;
 }
   where
     counted : length xs ≡ length fs
-    counted = grind (arith, common_steps, stands.count, length-append xs (x ∷ []))
+    counted = omega (arith, stands.count, length-append xs (x ∷ []))
 
     at : (k : ℕ) → k < length xs → (b : Bool) → nat_eq k (length fs) ≡ b → FrameStands t (slice_index_or xs k no_frame) (frame_at k fs)
-    at k below true is = absurd (grind (arith, counted))
+    at k below true is = let same = eqb-true k (length fs) is in absurd (omega (arith, counted))
     at k below false is =
         rw (← frame_at-outer k f fs (omega (arith, counted)), ← get_or-append xs (x ∷ []) no_frame k below)
         (stands.each k (omega (arith, length-append xs (x ∷ []))))
@@ -191,7 +206,7 @@ FramesStand-popped t xs fs x f stands = record {
 pub FrameStands-popped : (t : StockParts) (xs : List Frame) (fs : List OpenFrame) (x : Frame) (f : OpenFrame)
     → FramesStand t (xs ++ x ∷ []) (f ∷ fs) → FrameStands t x f
 FrameStands-popped t xs fs x f stands =
-    let counted : length xs ≡ length fs = grind (arith, common_steps, stands.count, length-append xs (x ∷ [])) in
+    let counted : length xs ≡ length fs = omega (arith, stands.count, length-append xs (x ∷ [])) in
     let one = stands.each (length xs) (omega (arith, length-append xs (x ∷ []))) in
     let seen = subst (λ (y : Frame). FrameStands t y (frame_at (length xs) (f ∷ fs))) (get_or-append_seam xs x [] no_frame) one in
     let numbered = subst (λ (k : ℕ). FrameStands t x (frame_at k (f ∷ fs))) counted seen in

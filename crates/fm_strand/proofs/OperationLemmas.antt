@@ -270,6 +270,46 @@ loop-does p s w count scope past u v d e rounds can ut vt draws some opens frame
       index = omega arith;
     }
 
+-- a loop of no rounds is passed over
+loop-passed : (p : PlanParts) (s : Strand) (w x : Standing) (d : Draws) (k past : ℕ) → Stands p s w → Kept w x → w.due ≡ []
+    → k ≡ 0 → DrawsStand p.stock d x → Stands p (record s { place = past; draws = d }) (loop_opened k past x)
+loop-passed p s w x d zero past stands kept due none drawn = record {
+  process = kept.process ∙ stands.process;
+  place = refl;
+  index = stands.index ∙ sym kept.index;
+  draws = record { registers = drawn.registers; dice = drawn.dice; frames = drawn.frames };
+  time = record {
+    position = stands.time.position ∙ sym kept.position;
+    levels = stands.time.levels ∙ sym kept.levels;
+  };
+  note = NoteStands-none s.process s.note w (loop_opened zero past x) stands.note due (kept.due ∙ due);
+}
+loop-passed p s w x d (suc k) past stands kept due none drawn = absurd (omega arith)
+
+pub loop-skips : (p : PlanParts) (s : Strand) (w : Standing) (count : Count) (scope past : ℕ) (u : StockParts) (d : Draws) (rounds : ℕ)
+    → CanDo p s w (loop (repeats_of p.stock count) (scope_at p.stock scope) past) → u ≡ p.stock
+    → DrawsTo u s.draws d rounds (repeats_drawn (repeats_of u count) (scope_at u scope)) → d.frames ≡ s.draws.frames
+    → rounds ≡ 0
+    → Does p s (record s { place = past; draws = d }) w (loop (repeats_of p.stock count) (scope_at p.stock scope) past)
+loop-skips p s w count scope past u d rounds can ut draws same none =
+    let n = repeats_drawn (repeats_of p.stock count) (scope_at p.stock scope) w in
+    let drawn = subst (λ (x : StockParts). DrawsTo x s.draws d rounds (repeats_drawn (repeats_of x count) (scope_at x scope))) ut draws in
+    let kept = repeats-kept (repeats_of p.stock count) (scope_at p.stock scope) w in
+    let value : n.value ≡ 0 = sym (drawn.value w can.stands.draws) ∙ none in
+    let stands = loop-passed p s w n.after d n.value past can.stands kept can.due value (drawn.after w can.stands.draws) in
+    record {
+      process = refl;
+      made = refl;
+      ready = record {
+        frames = frames-same p s d p.stock can.ready same refl;
+        time = can.ready.time;
+        note = can.ready.note;
+        few = few-held p (record s { place = past; draws = d }) (loop_opened n.value past n.after) stands can.within;
+      };
+      stands = stands;
+      index = omega arith;
+    }
+
 -- ---- messages
 
 pub point-plain : (pt : Point) (ch : ℕ) (v : ℤ) → has_ending (Some (point_msg pt ch v)) ≡ false
