@@ -2,12 +2,14 @@
 ghost use Rattle.std.specs.Prelude.{◌≡◌, IfOk};
 ghost use Rattle.fm_msg.specs.declared.profile.TheConstants.{DIVISION};
 
-use crate::Rounds;
+use crate::{Played, Rounds};
 use fm_edge::{MemorySink, OpenGate};
 use fm_msg::Profile;
 use fm_program::{Draw, Op, Plan, Program, Scopes, Span, Stock, Turn};
 use std::alloc::{AllocError, Global};
-use std::test::Fail;
+use std::process::Abort;
+use std::test::*;
+use std::thread::Threads;
 
 /// The file: two note-ons at 0, note-offs at 216 and 432, the end at 480.
 const FILE: [u8; 51] = [
@@ -77,27 +79,44 @@ fn plan_of_two_voices(alloc: Global) -> Result<Plan, AllocError>
     Ok(Plan::of(stock, programs, 0, Profile::first()))
 }
 
+// Plays the plan on one thread.
+fn plays_alone<R: Abort + AllocGlobal>(rt: &R, plan: Plan) -> Result<(), Fail>
+    requires { plan.profile.division ≡ DIVISION }
+{
+    let alloc = rt.alloc();
+    let mut sink = MemorySink::new(alloc, 100, Vec::new(alloc))?;
+    let played = Rounds::open(alloc, plan, 1, 0)?.play_alone(&mut sink).ok();
+    has_played(rt, played);
+    assert_eq!(rt; sink.content(), FILE.as_slice());
+    Ok(())
+}
+
+// Plays the plan on four threads.
+fn plays_shared<R: Abort + AllocGlobal + Threads + Sync>(rt: &R, plan: Plan) -> Result<(), Fail>
+    requires { plan.profile.division ≡ DIVISION }
+{
+    let alloc = rt.alloc();
+    let mut sink = MemorySink::new(alloc, 100, Vec::new(alloc))?;
+    let rounds = Rounds::open(alloc, plan, 64, 1_000_000)?;
+    let played = rounds.play(rt, 4, &OpenGate, &mut sink).ok();
+    has_played(rt, played);
+    assert_eq!(rt; sink.content(), FILE.as_slice());
+    Ok(())
+}
+
+// Compares the size of the piece.
+fn has_played<R: Abort>(rt: &R, played: Option<Played>) {
+    assert_eq!(rt;
+        played.map(|p| (p.events, p.last, p.bytes)),
+        Some((4, 480, 51))
+    );
+}
+
 #[test]
 fn two_voices_have_these_bytes(rt: HostRuntime) -> Result<(), Fail> {
     let alloc = rt.alloc();
     let plan = plan_of_two_voices(alloc)?;
     let copy = plan.copy(alloc)?;
-
-    let mut alone = MemorySink::new(alloc, 100, Vec::new(alloc))?;
-    let played = Rounds::open(alloc, plan, 1, 0)?.play_alone(&mut alone).ok();
-    assert_eq!(rt;
-        played.map(|p| (p.events, p.last, p.bytes)),
-        Some((4, 480, 51))
-    );
-    assert_eq!(rt; alone.content(), FILE.as_slice());
-
-    let mut shared = MemorySink::new(alloc, 100, Vec::new(alloc))?;
-    let rounds = Rounds::open(alloc, copy, 64, 1_000_000)?;
-    let played = rounds.play(&rt, 4, &OpenGate, &mut shared).ok();
-    assert_eq!(rt;
-        played.map(|p| (p.events, p.last, p.bytes)),
-        Some((4, 480, 51))
-    );
-    assert_eq!(rt; shared.content(), FILE.as_slice());
-    Ok(())
+    plays_alone(&rt, plan)?;
+    plays_shared(&rt, copy)
 }
