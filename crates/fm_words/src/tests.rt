@@ -3,7 +3,7 @@ use std::alloc::{AllocError, Global};
 use std::test::Fail;
 
 /// Lines of words that are refused, with a `|` between two words.
-const REFUSED: [&str; 50] = [
+const REFUSED: &[&str] = &[
     "a|b|--rounds=",
     "a|b|--rounds=1",
     "a|b|--rounds|--rounds",
@@ -68,7 +68,7 @@ type Row = (
 );
 
 /// Lines of words that are taken.
-const TAKEN: [Row; 21] = [
+const TAKEN: &[Row] = &[
     ("a|b", "a", "b", 4, 7_680, 32, false),
     ("a|b|--rounds", "a", "b", 4, 7_680, 32, true),
     ("a|b|--lead|+5", "a", "b", 4, 5, 32, false),
@@ -101,7 +101,7 @@ const TAKEN: [Row; 21] = [
 ];
 
 /// Lines of words, and the number of the large score that they ask for.
-const LARGE: [(&str, Option<u32>); 6] = [
+const LARGE: &[(&str, Option<u32>)] = &[
     ("a|b", None),
     ("a|b|--generate|0", Some(0)),
     ("a|b|--generate=999999999", Some(999_999_999)),
@@ -135,12 +135,10 @@ fn words_ask_for_what_they_say(rt: HostRuntime) -> Result<(), Fail> {
     let alloc = rt.alloc();
     for (line, source, target, workers, lead, room, rounds) in TAKEN {
         let options = read_options(alloc, &words_of(alloc, line)?)?;
-        assert_eq!(rt; options.source.as_str(), source, "{line}");
-        assert_eq!(rt; options.target.as_str(), target, "{line}");
-        assert_eq!(rt; options.workers, workers, "{line}");
-        assert_eq!(rt; options.lead, lead, "{line}");
-        assert_eq!(rt; options.room, room, "{line}");
-        assert_eq!(rt; options.rounds, rounds, "{line}");
+        let names = (options.source.as_str(), options.target.as_str());
+        let numbers = (options.workers, options.lead, options.room, options.rounds);
+        let wanted = ((*source, *target), (*workers, *lead, *room, *rounds));
+        assert_eq!(rt; (names, numbers), wanted, "{line}");
     }
     Ok(())
 }
@@ -150,7 +148,7 @@ fn words_ask_for_the_number_of_a_large_score(rt: HostRuntime) -> Result<(), Fail
     let alloc = rt.alloc();
     for (line, number) in LARGE {
         let options = read_options(alloc, &words_of(alloc, line)?)?;
-        assert_eq!(rt; options.generate, number, "{line}");
+        assert_eq!(rt; options.generate, *number, "{line}");
     }
     Ok(())
 }
