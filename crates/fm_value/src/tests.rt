@@ -25,103 +25,116 @@ fn on_two<R: Abort>(rt: &R, alloc: Global, node: Node, x: i64, y: i64) -> Result
     Ok(value(&expr, &registers, &mut Dice::new(0), &[]))
 }
 
-#[test]
-fn quotients_are_floors_and_0_at_0(rt: HostRuntime) -> Result<(), Fail> {
-    let alloc = rt.alloc();
-    for (x, y, want) in [
-        (7, 2, 3),
-        (-7, 2, -4),
-        (7, -2, -4),
-        (-7, -2, 3),
-        (7, 0, 0),
-        (0, -7, 0),
-        (-1, 1_000_000, -1),
-        (1_000_000, -1, -1_000_000),
-        (-1_000_000, -1, 1_000_000),
-        (-1_000_000, 3, -333_334),
-    ] {
-        assert_eq!(rt; on_two(&rt, alloc, Node::Divide, x, y)?, want, "{x} / {y}");
-    }
-    for (x, y, want) in [
-        (7, 2, 1),
-        (-7, 2, 1),
-        (7, -2, -1),
-        (-7, -2, -1),
-        (7, 0, 0),
-        (0, -7, 0),
-        (-1, 1_000_000, 999_999),
-        (1, -1_000_000, -999_999),
-        (-1_000_000, 3, 2),
-    ] {
-        assert_eq!(rt; on_two(&rt, alloc, Node::Remain, x, y)?, want, "{x} % {y}");
+/// Two numbers and the result of an operation on them.
+type Row = (i64, i64, i64);
+
+const QUOTIENTS: &[Row] = &[
+    (7, 2, 3),
+    (-7, 2, -4),
+    (7, -2, -4),
+    (-7, -2, 3),
+    (7, 0, 0),
+    (0, -7, 0),
+    (-1, 1_000_000, -1),
+    (1_000_000, -1, -1_000_000),
+    (-1_000_000, -1, 1_000_000),
+    (-1_000_000, 3, -333_334),
+];
+
+const REMAINDERS: &[Row] = &[
+    (7, 2, 1),
+    (-7, 2, 1),
+    (7, -2, -1),
+    (-7, -2, -1),
+    (7, 0, 0),
+    (0, -7, 0),
+    (-1, 1_000_000, 999_999),
+    (1, -1_000_000, -999_999),
+    (-1_000_000, 3, 2),
+];
+
+const SUMS: &[Row] = &[
+    (999_999, 1, 1_000_000),
+    (1_000_000, 1, 1_000_000),
+    (-1_000_000, -1, -1_000_000),
+];
+
+const DIFFERENCES: &[Row] = &[
+    (0, -1_000_000, 1_000_000),
+    (1_000_000, -1, 1_000_000),
+    (-1_000_000, 1, -1_000_000),
+];
+
+const PRODUCTS: &[Row] = &[
+    (1_000, 1_000, 1_000_000),
+    (1_001, 1_000, 1_000_000),
+    (-1_001, 1_000, -1_000_000),
+    (-1_000_000, -1_000_000, 1_000_000),
+    (0, -1_000_000, 0),
+];
+
+/// Two numbers, the least and the greatest of them, and whether the first is less or the same.
+const COMPARISONS: &[(i64, i64, (i64, i64, i64, i64))] = &[
+    (-1, 0, (-1, 0, 1, 0)),
+    (0, -1, (-1, 0, 0, 0)),
+    (3, 3, (3, 3, 0, 1)),
+    (-1, 1, (-1, 1, 1, 0)),
+    (0, 0, (0, 0, 0, 1)),
+    (1_000_000, -1_000_000, (-1_000_000, 1_000_000, 0, 0)),
+    (-1_000_000, -1_000_000, (-1_000_000, -1_000_000, 0, 1)),
+];
+
+// Compares what an operation gives with each row.
+fn check_rows<R: Abort>(rt: &R, alloc: Global, node: Node, rows: &[Row]) -> Result<(), AllocError>
+    requires { IsTrue (is_expr 0 (Register 0 ∷ Register 1 ∷ node ∷ [])) }
+{
+    for (x, y, want) in rows {
+        assert_eq!(rt;
+            on_two(rt, alloc, node, *x, *y)?,
+            *want,
+            "{node:?} at {x} and {y}"
+        );
     }
     Ok(())
 }
 
 #[test]
+fn quotients_are_floors_and_0_at_0(rt: HostRuntime) -> Result<(), Fail> {
+    check_rows(&rt, rt.alloc(), Node::Divide, QUOTIENTS)?;
+    check_rows(&rt, rt.alloc(), Node::Remain, REMAINDERS)?;
+    Ok(())
+}
+
+#[test]
 fn results_are_clamped_to_one_million(rt: HostRuntime) -> Result<(), Fail> {
-    let alloc = rt.alloc();
-    for (x, y, want) in [
-        (999_999, 1, 1_000_000),
-        (1_000_000, 1, 1_000_000),
-        (-1_000_000, -1, -1_000_000),
-    ] {
-        assert_eq!(rt; on_two(&rt, alloc, Node::Add, x, y)?, want, "{x} + {y}");
-    }
-    for (x, y, want) in [
-        (0, -1_000_000, 1_000_000),
-        (1_000_000, -1, 1_000_000),
-        (-1_000_000, 1, -1_000_000),
-    ] {
-        assert_eq!(rt;
-            on_two(&rt, alloc, Node::Subtract, x, y)?,
-            want,
-            "{x} - {y}"
-        );
-    }
-    for (x, y, want) in [
-        (1_000, 1_000, 1_000_000),
-        (1_001, 1_000, 1_000_000),
-        (-1_001, 1_000, -1_000_000),
-        (-1_000_000, -1_000_000, 1_000_000),
-        (0, -1_000_000, 0),
-    ] {
-        assert_eq!(rt;
-            on_two(&rt, alloc, Node::Multiply, x, y)?,
-            want,
-            "{x} * {y}"
-        );
-    }
+    check_rows(&rt, rt.alloc(), Node::Add, SUMS)?;
+    check_rows(&rt, rt.alloc(), Node::Subtract, DIFFERENCES)?;
+    check_rows(&rt, rt.alloc(), Node::Multiply, PRODUCTS)?;
     Ok(())
 }
 
 #[test]
 fn comparisons_at_the_signs(rt: HostRuntime) -> Result<(), Fail> {
     let alloc = rt.alloc();
-    for (x, y, least, greatest, less, same) in [
-        (-1, 0, -1, 0, 1, 0),
-        (0, -1, -1, 0, 0, 0),
-        (3, 3, 3, 3, 0, 1),
-        (-1, 1, -1, 1, 1, 0),
-        (0, 0, 0, 0, 0, 1),
-        (1_000_000, -1_000_000, -1_000_000, 1_000_000, 0, 0),
-        (-1_000_000, -1_000_000, -1_000_000, -1_000_000, 0, 1),
-    ] {
-        assert_eq!(rt;
-            on_two(&rt, alloc, Node::Min, x, y)?,
-            least,
-            "min of {x} and {y}"
+    for (x, y, want) in COMPARISONS {
+        let found = (
+            on_two(&rt, alloc, Node::Min, *x, *y)?,
+            on_two(&rt, alloc, Node::Max, *x, *y)?,
+            on_two(&rt, alloc, Node::Less, *x, *y)?,
+            on_two(&rt, alloc, Node::Same, *x, *y)?,
         );
-        assert_eq!(rt;
-            on_two(&rt, alloc, Node::Max, x, y)?,
-            greatest,
-            "max of {x} and {y}"
-        );
-        assert_eq!(rt; on_two(&rt, alloc, Node::Less, x, y)?, less, "{x} less {y}");
-        assert_eq!(rt; on_two(&rt, alloc, Node::Same, x, y)?, same, "{x} same {y}");
+        assert_eq!(rt; found, *want, "{x} and {y}");
     }
     Ok(())
 }
+
+/// What a register holds, and 20 less it.
+const NEGATED: &[(i64, i64)] = &[
+    (0, 20),
+    (7, 13),
+    (1_000_000, -999_980),
+    (-1_000_000, 1_000_000),
+];
 
 #[test]
 fn a_negated_register_and_an_index(rt: HostRuntime) -> Result<(), Fail> {
@@ -130,21 +143,12 @@ fn a_negated_register_and_an_index(rt: HostRuntime) -> Result<(), Fail> {
     let spots = vec![in alloc; SPOT, SPOT, SPOT, SPOT]?;
     let expr = Expr { nodes, spots }.clone()?;
     let mut registers = Registers::new();
-    for (x, want) in [
-        (0, 20),
-        (7, 13),
-        (1_000_000, -999_980),
-        (-1_000_000, 1_000_000),
-    ] {
-        assert!(rt; -1_000_000 <= x && x <= 1_000_000);
-        registers.set(7, x);
-        assert_eq!(rt; registers.get(7), x);
+    for (x, want) in NEGATED {
+        assert!(rt; -1_000_000 <= *x && *x <= 1_000_000);
+        registers.set(7, *x);
         let mut dice = Dice::new(5);
-        assert_eq!(rt;
-            value(&expr, &registers, &mut dice, &[10, 20]),
-            want,
-            "at {x}"
-        );
+        let found = value(&expr, &registers, &mut dice, &[10, 20]);
+        assert_eq!(rt; (registers.get(7), found), (*x, *want), "at {x}");
     }
     Ok(())
 }
