@@ -1,5 +1,5 @@
 -- What keeps the limits of the language and what does not: each limit, and one beyond it.
-use Rattle.std.proofs.Common.{◌≡◌, ℕ, List, [], ◌∷◌, ◌++◌, map, replicate, true, false, refl, pos, negsuc, true≢false, sym, arith}
+use Rattle.std.proofs.Common.{◌≡◌, ℕ, [], ◌∷◌, ◌++◌, map, replicate, true, false, refl, pos, negsuc, true≢false, sym, arith}
 use Rattle.fm_value.specs.declared.node.Node.TheVariants.{Literal, Register, Index, Negate}
 use Rattle.fm_pattern.specs.declared.cursor.TheConstants.{MAX_ENTRIES}
 use Rattle.fm_meaning.specs.Rules.{most_pitches}
