@@ -1,99 +1,155 @@
 //! The totals of texts, and both sides of each of their limits. The numbers were worked out by
 //! hand.
 
-use super::{bounds, verdict};
+use super::{Row, bounds, check_rows, verdict};
 use crate::Bounds;
 use std::test::Fail;
 
+/// Texts with their processes, operations, length, events and steps.
+const TOTALS: &[(&str, u32, u32, u64, u32, u32)] = &[
+    ("formula 1;", 1, 1, 0, 0, 1),
+    (
+        "formula 1; shape w = flat 1/4 by 1000, breath ticks 120; \
+             gate 100 { warp w { note c4 1/4; note d4 1/4; } }",
+        1,
+        6,
+        1080,
+        4,
+        9,
+    ),
+    (
+        "formula 1; shape w = flat 1/4 by 1000, pause ticks 120; \
+             gate 100 { warp w { note c4 1/4; note d4 1/4; } }",
+        1,
+        6,
+        1080,
+        4,
+        9,
+    ),
+    (
+        "formula 1; shape b = breath ticks 120; shape f = flat 1/1 by 500; \
+             gate 100 { warp b { warp f { note c4 ticks 1; } } }",
+        1,
+        7,
+        120,
+        2,
+        8,
+    ),
+    (
+        "formula 1; repeat 1365 { par { branch { } branch { } } }",
+        4096,
+        5462,
+        0,
+        0,
+        4096,
+    ),
+    (
+        "formula 1; repeat 1000000 { rest ticks 1000000; } \
+             repeat 99511 { rest ticks 1000000; } rest ticks 627776;",
+        1,
+        8,
+        1_099_511_627_776,
+        0,
+        2_199_028,
+    ),
+    // The list of a phrase that nothing brings in counts for the lengths of all rhythms.
+    (
+        "formula 1; phrase p { rhythm [1/1] { } } rhythm [1/4] { play c4; skip; }",
+        1,
+        5,
+        3840,
+        2,
+        7,
+    ),
+    (
+        "formula 1; if 1 { rest ticks 9; } else { note c4 ticks 3; }",
+        1,
+        5,
+        9,
+        2,
+        6,
+    ),
+    (
+        "formula 1; phrase p { note c4 ticks 3; } do p; do p;",
+        1,
+        5,
+        6,
+        4,
+        7,
+    ),
+    // No rounds hide all of a body but its operations.
+    (
+        "formula 1; repeat 0 { par { branch { note c4 1/1; } } }",
+        1,
+        2,
+        0,
+        0,
+        1,
+    ),
+];
+
+/// Texts at and past each limit.
+const LIMITS: &[Row] = &[
+    // 4,096 processes and one more.
+    (
+        "formula 1; repeat 1365 { par { branch { } branch { } } }",
+        (0, 0, 0),
+    ),
+    ("formula 1; repeat 2048 { par { branch { } } }", (13, 1, 12)),
+    // 2^40 ticks and one more.
+    (
+        "formula 1; repeat 1000000 { rest ticks 1000000; } \
+             repeat 99511 { rest ticks 1000000; } rest ticks 627776;",
+        (0, 0, 0),
+    ),
+    (
+        "formula 1; repeat 1000000 { rest ticks 1000000; } \
+             repeat 99511 { rest ticks 1000000; } rest ticks 627777;",
+        (15, 1, 88),
+    ),
+    // 4,000,000 events and one more.
+    (
+        "formula 1; repeat 1000000 { note c4, d4 ticks 0; }",
+        (0, 0, 0),
+    ),
+    (
+        "formula 1; repeat 1000000 { note c4, d4 ticks 0; } program 1;",
+        (16, 1, 52),
+    ),
+    (
+        "formula 1; repeat 1000000 { note c4, d4, e4 ticks 0; }",
+        (16, 1, 12),
+    ),
+    // 16,777,216 steps and one more.
+    (
+        "formula 1; repeat 1000000 { repeat 13 { } } repeat 777211 { }",
+        (0, 0, 0),
+    ),
+    (
+        "formula 1; repeat 1000000 { repeat 13 { } } repeat 777212 { }",
+        (17, 1, 45),
+    ),
+    ("formula 1; repeat 1000000 { repeat 16 { } }", (17, 1, 12)),
+    // Operations beside other totals: the lowest number counts.
+    (
+        "formula 1; repeat 1000000 { repeat 1000000 { repeat 0 { par { branch { } } } } }",
+        (14, 1, 12),
+    ),
+    (
+        "formula 1; repeat 1000000 { repeat 1000000 { par { branch { } } } }",
+        (13, 1, 12),
+    ),
+];
+
 #[test]
 fn totals_are_counted(rt: HostRuntime) -> Result<(), Fail> {
-    for (text, processes, operations, length, events, steps) in [
-        ("formula 1;", 1, 1, 0, 0, 1),
-        (
-            "formula 1; shape w = flat 1/4 by 1000, breath ticks 120; \
-             gate 100 { warp w { note c4 1/4; note d4 1/4; } }",
-            1,
-            6,
-            1080,
-            4,
-            9,
-        ),
-        (
-            "formula 1; shape w = flat 1/4 by 1000, pause ticks 120; \
-             gate 100 { warp w { note c4 1/4; note d4 1/4; } }",
-            1,
-            6,
-            1080,
-            4,
-            9,
-        ),
-        (
-            "formula 1; shape b = breath ticks 120; shape f = flat 1/1 by 500; \
-             gate 100 { warp b { warp f { note c4 ticks 1; } } }",
-            1,
-            7,
-            120,
-            2,
-            8,
-        ),
-        (
-            "formula 1; repeat 1365 { par { branch { } branch { } } }",
-            4096,
-            5462,
-            0,
-            0,
-            4096,
-        ),
-        (
-            "formula 1; repeat 1000000 { rest ticks 1000000; } \
-             repeat 99511 { rest ticks 1000000; } rest ticks 627776;",
-            1,
-            8,
-            1_099_511_627_776,
-            0,
-            2_199_028,
-        ),
-        // The list of a phrase that nothing brings in counts for the lengths of all rhythms.
-        (
-            "formula 1; phrase p { rhythm [1/1] { } } rhythm [1/4] { play c4; skip; }",
-            1,
-            5,
-            3840,
-            2,
-            7,
-        ),
-        (
-            "formula 1; if 1 { rest ticks 9; } else { note c4 ticks 3; }",
-            1,
-            5,
-            9,
-            2,
-            6,
-        ),
-        (
-            "formula 1; phrase p { note c4 ticks 3; } do p; do p;",
-            1,
-            5,
-            6,
-            4,
-            7,
-        ),
-        // No rounds hide all of a body but its operations.
-        (
-            "formula 1; repeat 0 { par { branch { note c4 1/1; } } }",
-            1,
-            2,
-            0,
-            0,
-            1,
-        ),
-    ] {
+    for (text, processes, operations, length, events, steps) in TOTALS {
         let want = Bounds {
-            processes,
-            operations,
-            length,
-            events,
-            steps,
+            processes: *processes,
+            operations: *operations,
+            length: *length,
+            events: *events,
+            steps: *steps,
         };
         assert_eq!(rt; bounds(rt.alloc(), text)?, want, "{text}");
     }
@@ -102,60 +158,7 @@ fn totals_are_counted(rt: HostRuntime) -> Result<(), Fail> {
 
 #[test]
 fn each_limit_is_kept_and_passed(rt: HostRuntime) -> Result<(), Fail> {
-    for (text, want) in [
-        // 4,096 processes and one more.
-        (
-            "formula 1; repeat 1365 { par { branch { } branch { } } }",
-            (0, 0, 0),
-        ),
-        ("formula 1; repeat 2048 { par { branch { } } }", (13, 1, 12)),
-        // 2^40 ticks and one more.
-        (
-            "formula 1; repeat 1000000 { rest ticks 1000000; } \
-             repeat 99511 { rest ticks 1000000; } rest ticks 627776;",
-            (0, 0, 0),
-        ),
-        (
-            "formula 1; repeat 1000000 { rest ticks 1000000; } \
-             repeat 99511 { rest ticks 1000000; } rest ticks 627777;",
-            (15, 1, 88),
-        ),
-        // 4,000,000 events and one more.
-        (
-            "formula 1; repeat 1000000 { note c4, d4 ticks 0; }",
-            (0, 0, 0),
-        ),
-        (
-            "formula 1; repeat 1000000 { note c4, d4 ticks 0; } program 1;",
-            (16, 1, 52),
-        ),
-        (
-            "formula 1; repeat 1000000 { note c4, d4, e4 ticks 0; }",
-            (16, 1, 12),
-        ),
-        // 16,777,216 steps and one more.
-        (
-            "formula 1; repeat 1000000 { repeat 13 { } } repeat 777211 { }",
-            (0, 0, 0),
-        ),
-        (
-            "formula 1; repeat 1000000 { repeat 13 { } } repeat 777212 { }",
-            (17, 1, 45),
-        ),
-        ("formula 1; repeat 1000000 { repeat 16 { } }", (17, 1, 12)),
-        // Operations beside other totals: the lowest number counts.
-        (
-            "formula 1; repeat 1000000 { repeat 1000000 { repeat 0 { par { branch { } } } } }",
-            (14, 1, 12),
-        ),
-        (
-            "formula 1; repeat 1000000 { repeat 1000000 { par { branch { } } } }",
-            (13, 1, 12),
-        ),
-    ] {
-        assert_eq!(rt; verdict(rt.alloc(), text)?, want, "{text}");
-    }
-    Ok(())
+    check_rows(&rt, rt.alloc(), LIMITS)
 }
 
 /// Sixteen phrases, each of which brings in the one before twice, from one that is empty: `q16` has
