@@ -35,21 +35,24 @@ fn three_notes_of_two_durations_and_two_articulations(rt: HostRuntime) {
     assert_eq!(rt; [first, second, third], [240, 720, 960]);
 }
 
+/// An onset, a duration and a gate, and the end of the note.
+const ENDS: &[(u64, u32, u32, u64)] = &[
+    (0, 480, 90, 432),
+    (7, 1, 99, 7),
+    (7, 1, 100, 8),
+    (7, 3, 150, 11),
+    (7, 1, 400, 11),
+    (7, 480, 0, 7),
+    (MAX_ONSET, 1_000_000, 400, 1_099_515_627_776),
+];
+
 #[test]
 fn note_ends_are_rounded_down(rt: HostRuntime) {
-    for (on, duration, gate, end) in [
-        (0, 480, 90, 432),
-        (7, 1, 99, 7),
-        (7, 1, 100, 8),
-        (7, 3, 150, 11),
-        (7, 1, 400, 11),
-        (7, 480, 0, 7),
-        (MAX_ONSET, 1_000_000, 400, 1_099_515_627_776),
-    ] {
-        assert!(rt; on <= MAX_ONSET && gate <= MAX_GATE);
+    for (on, duration, gate, end) in ENDS {
+        assert!(rt; *on <= MAX_ONSET && *gate <= MAX_GATE);
         assert_eq!(rt;
-            end_of(on, duration, gate),
-            end,
+            end_of(*on, *duration, *gate),
+            *end,
             "at {on}, {duration}, {gate}"
         );
     }
