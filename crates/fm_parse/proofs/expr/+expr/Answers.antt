@@ -288,7 +288,8 @@ read_sums-returns-in_err-term-clause-follows t c = λ F below o a.
     let e = c.in_err-term.field-0.0 in
     let is = passed c.from_residual-in_err-term.result e c.from_residual-in_err-term.ensures.1 in
     stopped F below _ e _ is (c.in_err-term.ensures.follows F _ (owes_sums below _ o) (c.in_ok-factor.ensures.follows F
-    _ (owes_terms _ _ (owes_sums below _ o)) (c.in_ok-spot.ensures.follows F _ _ (open_adding F _ _ below o _ _ c.in-Some.ensures.some.kind_is a))))
+    _ (owes_terms _ _ (owes_sums below _ o)) (c.in_ok-spot.ensures.follows F _ _
+    (open_adding F _ _ below o _ _ c.in-Some.ensures.some.kind_is a))))
 
 pub read_sums-returns-in_err-push_node-clause-follows : goal.read_sums-returns-in_err-push_node-clause-follows
 read_sums-returns-in_err-push_node-clause-follows t c = λ F below o a.
