@@ -4,23 +4,24 @@ mod rows;
 mod ways;
 
 use super::*;
-use fm_edge::{MemorySink, MemorySource, NullSink, OpenGate, SureSource};
+use fm_edge::{MemorySink, MemorySource, OpenGate};
 use std::alloc::{AllocError, Global};
+use std::process::Abort;
 use std::sync::Wait;
 use std::test::Fail;
 use std::thread::Threads;
 
 /// The header with length 0, and the tempo.
-const BEGUN: [u8; 29] = [
+const BEGUN: &[u8] = &[
     0x4D, 0x54, 0x68, 0x64, 0, 0, 0, 6, 0, 0, 0, 1, 1, 0xE0, 0x4D, 0x54, 0x72, 0x6B, 0, 0, 0, 0, 0,
     0xFF, 0x51, 3, 7, 0xA1, 0x20,
 ];
 
-const QUARTER: [u8; 13] = [
+const QUARTER: &[u8] = &[
     0, 0x90, 0x3C, 0x40, 0x83, 0x30, 0x80, 0x3C, 0x40, 0x30, 0xFF, 0x2F, 0,
 ];
 
-const AFTER_LONG_RESTS: [u8; 23] = [
+const AFTER_LONG_RESTS: &[u8] = &[
     0xFF, 0xFF, 0xFF, 0x7F, 0xFF, 1, 0, 0x8F, 0x86, 0xC6, 1, 0x90, 0x3C, 0x40, 0x83, 0x30, 0x80,
     0x3C, 0x40, 0x30, 0xFF, 0x2F, 0,
 ];
@@ -31,12 +32,21 @@ const THREE_BRANCHES: &str = "formula 1; par { branch { note c4 1/4; } branch { 
     branch { note g4 1/2; } }";
 
 /// More bytes than any file of these tests has.
-const CAPACITY: usize = 40_000;
+const CAPACITY: usize = 130_000;
 
-fn some_words(alloc: Global, count: usize) -> Result<Vec<String>, AllocError> {
+/// The words of a run without options.
+const FILES: &str = "a.txt b.mid";
+
+/// The calls of an object that fail, and after how many bytes.
+type Failing = &'static [(u64, u32)];
+
+// The words of a line.
+fn words_of(alloc: Global, line: &str) -> Result<Vec<String>, AllocError> {
     let mut words = Vec::new(alloc);
-    for name in ["a.txt", "b.mid", "c"].iter().take(count) {
-        words.push(String::from_str(alloc, name)?)?;
+    for word in line.split(' ') {
+        if !word.is_empty() {
+            words.push(String::from_str(alloc, word)?)?;
+        }
     }
     Ok(words)
 }
@@ -55,31 +65,6 @@ fn file_with(alloc: Global, tail: &[u8], patched: usize) -> Result<Vec<u8>, Allo
     Ok(file)
 }
 
-/// The file of a text, where it has one.
-fn file_of<R: Threads + Wait + Sync>(
-    rt: &R,
-    alloc: Global,
-    text: &str,
-) -> Result<Option<Vec<u8>>, AllocError> {
-    let words = some_words(alloc, 2)?;
-    let mut source = SureSource::new(text.as_bytes().to_vec(alloc)?);
-    let mut sink = MemorySink::new(alloc, CAPACITY, Vec::new(alloc))?;
-    let mut console = NullSink::new();
-    let status = formula(
-        rt,
-        alloc,
-        &words,
-        &mut source,
-        &mut sink,
-        &mut console,
-        &OpenGate,
-    );
-    if status == 0 {
-        return Ok(Some(sink.content().to_vec(alloc)?));
-    }
-    Ok(None)
-}
-
 /// What a run leaves.
 #[derive(Drop)]
 struct Ran {
@@ -88,35 +73,23 @@ struct Ran {
     console: MemorySink,
 }
 
-// A run on a text and so many words, where these reads, and these calls of the sink and of the
+// A run on a line of words and a text, where these reads, and these calls of the sink and of the
 // console, fail.
-fn run_with_faults<R: Threads + Wait + Sync>(
-    rt: &R,
-    alloc: Global,
-    text: &[u8],
-    count: usize,
-    faults: (&[u64], &[(u64, u32)], &[(u64, u32)]),
-) -> Result<Ran, AllocError> {
-    let words = some_words(alloc, count)?;
-    run_on(rt, alloc, &words, text, faults)
-}
-
-// The same on these words.
 fn run_on<R: Threads + Wait + Sync>(
     rt: &R,
     alloc: Global,
-    words: &[String],
+    words: &str,
     text: &[u8],
     faults: (&[u64], &[(u64, u32)], &[(u64, u32)]),
 ) -> Result<Ran, AllocError> {
-    let text = text.to_vec(alloc)?;
-    let mut source = MemorySource::new(text, 5_000, faults.0.to_vec(alloc)?);
+    let words = words_of(alloc, words)?;
+    let mut source = MemorySource::new(text.to_vec(alloc)?, 5_000, faults.0.to_vec(alloc)?);
     let mut sink = MemorySink::new(alloc, CAPACITY, faults.1.to_vec(alloc)?)?;
     let mut console = MemorySink::new(alloc, CAPACITY, faults.2.to_vec(alloc)?)?;
     let status = formula(
         rt,
         alloc,
-        words,
+        &words,
         &mut source,
         &mut sink,
         &mut console,
@@ -127,6 +100,12 @@ fn run_on<R: Threads + Wait + Sync>(
         sink,
         console,
     })
+}
+
+// Compares what a run leaves with a status, what the console is told and what the sink holds.
+fn check_left<R: Abort>(rt: &R, ran: &Ran, wanted: (u8, &[u8], &[u8]), row: &str) {
+    let left = (ran.status, ran.console.content(), ran.sink.content());
+    assert_eq!(rt; left, wanted, "at {row}");
 }
 
 // A text, so many times, between two others.
@@ -148,50 +127,54 @@ fn repeated(
 #[test]
 fn rests_longer_than_a_quantity(rt: HostRuntime) -> Result<(), Fail> {
     let alloc = rt.alloc();
-    let mut text = String::from_str(alloc, "formula 1;")?;
-    for _ in 0..300 {
-        text.push_str(" rest ticks 1000000;")?;
-    }
-    text.push_str(" note c4 1/4;")?;
-    let file = file_of(&rt, alloc, text.as_str())?;
-    assert_eq!(rt; file, Some(file_with(alloc, &AFTER_LONG_RESTS, 4)?));
+    let ends = ("formula 1;", " note c4 1/4;");
+    let text = repeated(alloc, ends, " rest ticks 1000000;", 300)?;
+    let ran = run_on(&rt, alloc, FILES, text.as_bytes(), (&[], &[], &[]))?;
+    let file = file_with(alloc, AFTER_LONG_RESTS, 4)?;
+    check_left(&rt, &ran, (0, b"", file.as_slice()), "long rests");
     Ok(())
 }
+
+/// Words, a text, the reads that fail, and the status.
+const UNREAD: &[(&str, &str, &[u64], u8)] = &[
+    ("", NOTE, &[], 1),
+    ("a.txt", NOTE, &[], 1),
+    ("a.txt b.mid c", NOTE, &[], 1),
+    (FILES, NOTE, &[1], 2),
+    (FILES, NOTE, &[2], 2),
+    (FILES, "", &[1], 2),
+];
 
 #[test]
 fn statuses_and_texts_that_leave_the_sink(rt: HostRuntime) -> Result<(), Fail> {
     let alloc = rt.alloc();
-    let words = "formula: words refused\n";
-    let read = "formula: read fault\n";
-    for (text, count, reads, status, said) in [
-        (NOTE, 0, [].as_slice(), 1, words),
-        (NOTE, 1, [].as_slice(), 1, words),
-        (NOTE, 3, [].as_slice(), 1, words),
-        (NOTE, 2, [1].as_slice(), 2, read),
-        (NOTE, 2, [2].as_slice(), 2, read),
-        ("", 2, [1].as_slice(), 2, read),
-    ] {
-        let ran = run_with_faults(&rt, alloc, text.as_bytes(), count, (reads, &[], &[]))?;
-        assert_eq!(rt; ran.status, status, "at {count} words and the text {text}");
-        assert_eq!(rt; ran.console.content(), said.as_bytes());
-        assert_eq!(rt; ran.sink.content().len(), 0);
+    for (words, text, reads, status) in UNREAD {
+        let ran = run_on(&rt, alloc, words, text.as_bytes(), (reads, &[], &[]))?;
+        let said = if *status == 1 {
+            b"formula: words refused\n".as_slice()
+        } else {
+            b"formula: read fault\n".as_slice()
+        };
+        check_left(&rt, &ran, (*status, said, b""), words);
     }
     Ok(())
 }
+
+/// Lengths of a text of blanks, and what is said of it.
+const BLANKS: &[(usize, &str)] = &[
+    (1_048_577, "formula: score refused: 1:1 fault 18\n"),
+    (1_048_576, "formula: score refused: 1:1048577 fault 3\n"),
+];
 
 // A text that passes the limit is refused before it is judged.
 #[test]
 fn one_byte_too_many(rt: HostRuntime) -> Result<(), Fail> {
     let alloc = rt.alloc();
     let blanks = vec![in alloc; b' '; 1_048_577]?;
-    for (length, said) in [
-        (1_048_577, "formula: score refused: 1:1 fault 18\n"),
-        (1_048_576, "formula: score refused: 1:1048577 fault 3\n"),
-    ] {
-        let text = blanks.get(..length).unwrap_or(&[]);
-        let ran = run_with_faults(&rt, alloc, text, 2, (&[], &[], &[]))?;
-        assert_eq!(rt; ran.status, 3);
-        assert_eq!(rt; ran.console.content(), said.as_bytes());
+    for (length, said) in BLANKS {
+        let text = blanks.get(..*length).unwrap_or(&[]);
+        let ran = run_on(&rt, alloc, FILES, text, (&[], &[], &[]))?;
+        check_left(&rt, &ran, (3, said.as_bytes(), b""), said);
     }
     Ok(())
 }
@@ -200,45 +183,66 @@ fn one_byte_too_many(rt: HostRuntime) -> Result<(), Fail> {
 #[test]
 fn the_console_fails_after_each_byte(rt: HostRuntime) -> Result<(), Fail> {
     let alloc = rt.alloc();
-    let said = b"formula: words refused\n";
+    let said = b"formula: words refused\n".as_slice();
     for count in 0u32..=23 {
-        let ran = run_with_faults(&rt, alloc, b"", 1, (&[], &[], &[(1, count)]))?;
-        assert_eq!(rt; ran.status, 5);
-        assert_eq!(rt; Some(ran.console.content()), said.get(..count as usize));
-        let ran = run_with_faults(&rt, alloc, b"", 1, (&[], &[], &[(2, count)]))?;
-        assert_eq!(rt; ran.status, 1);
+        let ran = run_on(&rt, alloc, "a.txt", b"", (&[], &[], &[(1, count)]))?;
+        let front = said.get(..count as usize).unwrap_or(&[]);
+        check_left(&rt, &ran, (5, front, b""), "the first call");
+        let ran = run_on(&rt, alloc, "a.txt", b"", (&[], &[], &[(2, count)]))?;
+        check_left(&rt, &ran, (1, said, b""), "the second call");
     }
-    let ran = run_with_faults(&rt, alloc, NOTE.as_bytes(), 2, (&[], &[], &[(1, 0)]))?;
-    assert_eq!(rt; ran.status, 0);
-    let ran = run_with_faults(&rt, alloc, NOTE.as_bytes(), 2, (&[], &[(2, 2)], &[(1, 0)]))?;
-    assert_eq!(rt; ran.status, 5);
-    assert_eq!(rt; ran.sink.content().len(), 31);
     Ok(())
 }
 
-// The header, the note-on, the note-off, End of Track and the length are one call each.
+#[test]
+fn the_console_fails_beside_a_file(rt: HostRuntime) -> Result<(), Fail> {
+    let alloc = rt.alloc();
+    let file = file_with(alloc, QUARTER, 4)?;
+    let note = NOTE.as_bytes();
+    let ran = run_on(&rt, alloc, FILES, note, (&[], &[], &[(1, 0)]))?;
+    check_left(&rt, &ran, (0, b"", file.as_slice()), "a whole file");
+    let ran = run_on(&rt, alloc, FILES, note, (&[], &[(2, 2)], &[(1, 0)]))?;
+    let front = file_with(alloc, &[0, 0x90], 0)?;
+    check_left(
+        &rt,
+        &ran,
+        (5, b"", front.as_slice()),
+        "a file that breaks off",
+    );
+    Ok(())
+}
+
+/// The calls of the sink that append, where they begin and how many bytes they have: the header,
+/// the note-on, the note-off and End of Track.
+const CALLS: &[(u64, usize, u32)] = &[(1, 0, 29), (2, 29, 4), (3, 33, 5), (4, 38, 4)];
+
 #[test]
 fn each_write_fails_after_each_byte(rt: HostRuntime) -> Result<(), Fail> {
     let alloc = rt.alloc();
-    let blank = file_with(alloc, &QUARTER, 0)?;
+    let blank = file_with(alloc, QUARTER, 0)?;
     let said = b"formula: write fault\n".as_slice();
-    for (call, begin, length) in [(1, 0usize, 29), (2, 29, 4), (3, 33, 5), (4, 38, 4)] {
-        for count in 0..=length {
-            let calls = [(call, count)];
-            let ran = run_with_faults(&rt, alloc, NOTE.as_bytes(), 2, (&[], &calls, &[]))?;
+    for (call, begin, length) in CALLS {
+        for count in 0..=*length {
+            let calls = [(*call, count)];
+            let ran = run_on(&rt, alloc, FILES, NOTE.as_bytes(), (&[], &calls, &[]))?;
             let end = begin.saturating_add(count as usize);
-            assert_eq!(rt; ran.status, 4, "at call {call} after {count} bytes");
-            assert_eq!(rt; Some(ran.sink.content()), blank.get(..end));
-            assert_eq!(rt; ran.console.content(), said);
+            let front = blank.get(..end).unwrap_or(&[]);
+            check_left(&rt, &ran, (4, said, front), "an appended call");
         }
     }
-    for count in 0..=4 {
+    Ok(())
+}
+
+// The length is one call, the last one.
+#[test]
+fn the_length_fails_after_each_byte(rt: HostRuntime) -> Result<(), Fail> {
+    let alloc = rt.alloc();
+    let said = b"formula: write fault\n".as_slice();
+    for count in 0u32..=4 {
         let calls = [(5, count)];
-        let ran = run_with_faults(&rt, alloc, NOTE.as_bytes(), 2, (&[], &calls, &[]))?;
-        let patched = file_with(alloc, &QUARTER, count as usize)?;
-        assert_eq!(rt; ran.status, 4, "at the length after {count} bytes");
-        assert_eq!(rt; ran.sink.content(), patched.as_slice());
-        assert_eq!(rt; ran.console.content(), said);
+        let ran = run_on(&rt, alloc, FILES, NOTE.as_bytes(), (&[], &calls, &[]))?;
+        let patched = file_with(alloc, QUARTER, count as usize)?;
+        check_left(&rt, &ran, (4, said, patched.as_slice()), "the length");
     }
     Ok(())
 }

@@ -18,7 +18,7 @@ use std::test::Fail;
 
 /// Texts, and a line for each of their processes: its number, those that it waits for, its events,
 /// each a tick and the bytes of its message, and the tick of its end.
-const SCORES: [(&str, &str); 25] = [
+const SCORES: &[(&str, &str)] = &[
     // an else block
     (
         "formula 1; if 0 { note c4 1/4; } else { note d4 1/4; } if 1 { note e4 1/4; } else { \
@@ -319,7 +319,7 @@ fn lines_of(alloc: Global, text: &str) -> Result<String, RunFault> {
 fn processes_alone_have_these_lines(rt: HostRuntime) -> Result<(), Fail> {
     let alloc = rt.alloc();
     for (text, lines) in SCORES {
-        assert_eq!(rt; lines_of(alloc, text)?.as_str(), lines, "at {text}");
+        assert_eq!(rt; lines_of(alloc, text)?.as_str(), *lines, "at {text}");
     }
     let lines = lines_of(alloc, PIECE)?;
     assert_eq!(rt; (lines.len(), sum_of(lines.as_bytes())), LINES_OF_PIECE);

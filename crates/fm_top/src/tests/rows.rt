@@ -1,6 +1,8 @@
 //! Runs of the command on texts, with what each of them leaves.
 
-use super::{AFTER_LONG_RESTS, NOTE, Ran, THREE_BRANCHES, file_with, repeated, run_on};
+use super::{
+    AFTER_LONG_RESTS, FILES, NOTE, THREE_BRANCHES, check_left, file_with, repeated, run_on,
+};
 use std::alloc::{AllocError, Global};
 use std::fmt::Write;
 use std::process::Abort;
@@ -8,11 +10,8 @@ use std::sync::Wait;
 use std::test::Fail;
 use std::thread::Threads;
 
-/// The words of a run without options.
-pub const FILES: &str = "a.txt b.mid";
-
 /// The track of the three branches behind the tempo.
-pub const THREE_TRACK: [u8; 31] = [
+pub const THREE_TRACK: &[u8] = &[
     0, 0x90, 0x3C, 0x40, 0, 0x90, 0x40, 0x40, 0, 0x90, 0x43, 0x40, 0x81, 0x58, 0x80, 0x40, 0x40,
     0x81, 0x58, 0x80, 0x3C, 0x40, 0x83, 0x30, 0x80, 0x43, 0x40, 0x60, 0xFF, 0x2F, 0,
 ];
@@ -21,7 +20,7 @@ pub const THREE_TRACK: [u8; 31] = [
 type Piece = (&'static str, &'static str, &'static [u8]);
 
 /// Pieces with the bytes that are worked out for them.
-const PLAYED: [Piece; 14] = [
+const PLAYED: &[Piece] = &[
     // an empty piece
     (FILES, "formula 1;", &[0, 0xFF, 0x2F, 0]),
     // a quarter note: a program that always answers want of memory is refused here
@@ -75,7 +74,7 @@ const PLAYED: [Piece; 14] = [
         ],
     ),
     // three branches
-    (FILES, THREE_BRANCHES, &THREE_TRACK),
+    (FILES, THREE_BRANCHES, THREE_TRACK),
     // what follows starts at the greatest end
     (
         FILES,
@@ -91,7 +90,7 @@ const PLAYED: [Piece; 14] = [
     (
         FILES,
         "formula 1; repeat 300 { rest ticks 1000000; } note c4 1/4;",
-        &AFTER_LONG_RESTS,
+        AFTER_LONG_RESTS,
     ),
     // a chord of sixteen pitches, of which one waits at a time
     (
@@ -139,7 +138,7 @@ const PLAYED: [Piece; 14] = [
 ];
 
 /// Texts that are refused, with the place and the number of their fault.
-const REFUSED: [(&str, &str); 17] = [
+const REFUSED: &[(&str, &str)] = &[
     ("formula 1; Note", "1:12 fault 1"),
     ("formula 1x;", "1:9 fault 2"),
     ("formula 1; note c4,", "1:20 fault 3"),
@@ -181,32 +180,6 @@ const REFUSED: [(&str, &str); 17] = [
     ),
 ];
 
-fn words_of(alloc: Global, line: &str) -> Result<Vec<String>, AllocError> {
-    let mut words = Vec::new(alloc);
-    for word in line.split(' ') {
-        words.push(String::from_str(alloc, word)?)?;
-    }
-    Ok(words)
-}
-
-/// A run on a text and a line of words, where these calls of the sink and of the console fail.
-pub fn run_words<R: Threads + Wait + Sync>(
-    rt: &R,
-    alloc: Global,
-    words: &str,
-    text: &str,
-    faults: (&[(u64, u32)], &[(u64, u32)]),
-) -> Result<Ran, AllocError> {
-    let words = words_of(alloc, words)?;
-    run_on(
-        rt,
-        alloc,
-        &words,
-        text.as_bytes(),
-        (&[], faults.0, faults.1),
-    )
-}
-
 /// Compares what a run without a fault leaves with a status, a text on the console and, at status
 /// 0, a track. The sink is untouched at each other status.
 pub fn check_run<R: Threads + Wait + Sync + Abort>(
@@ -215,14 +188,12 @@ pub fn check_run<R: Threads + Wait + Sync + Abort>(
     (words, text): (&str, &str),
     (status, said, track): (u8, &str, &[u8]),
 ) -> Result<(), AllocError> {
-    let ran = run_words(rt, alloc, words, text, (&[], &[]))?;
-    assert_eq!(rt; ran.status, status, "at {text}");
-    assert_eq!(rt; ran.console.content(), said.as_bytes(), "at {text}");
+    let ran = run_on(rt, alloc, words, text.as_bytes(), (&[], &[], &[]))?;
     let mut file = Vec::new(alloc);
     if status == 0 {
         file = file_with(alloc, track, 4)?;
     }
-    assert_eq!(rt; ran.sink.content(), file.as_slice(), "at {text}");
+    check_left(rt, &ran, (status, said.as_bytes(), file.as_slice()), text);
     Ok(())
 }
 
@@ -248,14 +219,9 @@ fn texts_become_files(rt: HostRuntime) -> Result<(), Fail> {
 #[test]
 fn refused_words_and_texts(rt: HostRuntime) -> Result<(), Fail> {
     let alloc = rt.alloc();
-    for words in ["a.txt", "a.txt b.mid --room 65"] {
-        check_run(
-            &rt,
-            alloc,
-            (words, NOTE),
-            (1, "formula: words refused\n", &[]),
-        )?;
-    }
+    let words = "a.txt b.mid --room 65";
+    let refused = (1, "formula: words refused\n", [].as_slice());
+    check_run(&rt, alloc, (words, NOTE), refused)?;
     for (text, place) in REFUSED {
         check_refusal(&rt, alloc, text, place)?;
     }
@@ -273,19 +239,36 @@ fn doubled_phrases(alloc: Global, count: u32) -> Result<String, AllocError> {
     Ok(text)
 }
 
+/// Two ends, a part that stands so many times between them, and the place and the number of the
+/// fault.
+type Long = (
+    (&'static str, &'static str),
+    &'static str,
+    u64,
+    &'static str,
+);
+
+/// Long texts that are refused.
+const LONG: &[Long] = &[
+    (("formula 1; ", ""), "if 1 {", 65, "1:396 fault 4"),
+    (("formula 1; set r0 = ", "1;"), "-", 64, "1:84 fault 4"),
+    (("", "x"), "\n", 41_000, "41001:1 fault 3"),
+    (
+        ("formula 1; ", "}}}}}}}}}}}}}}}}}"),
+        "repeat 1 {",
+        17,
+        "1:172 fault 12",
+    ),
+];
+
 #[test]
 fn long_texts_are_refused(rt: HostRuntime) -> Result<(), Fail> {
     let alloc = rt.alloc();
-    let head = "formula 1; ";
-    let braces = repeated(alloc, (head, ""), "if 1 {", 65)?;
-    let minuses = repeated(alloc, ("formula 1; set r0 = ", "1;"), "-", 64)?;
-    let lines = repeated(alloc, ("", "x"), "\n", 41_000)?;
-    let loops = repeated(alloc, (head, "}}}}}}}}}}}}}}}}}"), "repeat 1 {", 17)?;
+    for (ends, part, times, place) in LONG {
+        let text = repeated(alloc, *ends, part, *times)?;
+        check_refusal(&rt, alloc, text.as_str(), place)?;
+    }
     let phrases = doubled_phrases(alloc, 40)?;
-    check_refusal(&rt, alloc, braces.as_str(), "1:396 fault 4")?;
-    check_refusal(&rt, alloc, minuses.as_str(), "1:84 fault 4")?;
-    check_refusal(&rt, alloc, lines.as_str(), "41001:1 fault 3")?;
-    check_refusal(&rt, alloc, loops.as_str(), "1:172 fault 12")?;
     check_refusal(&rt, alloc, phrases.as_str(), "1:1237 fault 14")?;
     Ok(())
 }
@@ -294,9 +277,7 @@ fn long_texts_are_refused(rt: HostRuntime) -> Result<(), Fail> {
 fn a_refusal_that_the_console_does_not_take(rt: HostRuntime) -> Result<(), Fail> {
     let alloc = rt.alloc();
     let text = "formula 1; note c4 1/7;";
-    let ran = run_words(&rt, alloc, FILES, text, (&[], &[(1, 0)]))?;
-    assert_eq!(rt; ran.status, 5);
-    assert_eq!(rt; ran.console.content().len(), 0);
-    assert_eq!(rt; ran.sink.content().len(), 0);
+    let ran = run_on(&rt, alloc, FILES, text.as_bytes(), (&[], &[], &[(1, 0)]))?;
+    check_left(&rt, &ran, (5, b"", b""), text);
     Ok(())
 }

@@ -3,8 +3,8 @@ ghost use Rattle.std.specs.Prelude.{◌≡◌, IfOk};
 ghost use Rattle.fm_msg.specs.declared.profile.TheConstants.{DIVISION};
 
 use super::lines::sum_of;
-use super::rows::{FILES, THREE_TRACK, check_run, run_words};
-use super::{CAPACITY, THREE_BRANCHES, file_with};
+use super::rows::{THREE_TRACK, check_run};
+use super::{CAPACITY, FILES, THREE_BRANCHES, check_left, file_with, repeated, run_on};
 use crate::run_fault::RunFault;
 use crate::score::read_score;
 use fm_edge::{MemorySink, SureSource};
@@ -40,7 +40,7 @@ warp rubato { par {
 const FILE_OF_PIECE: (usize, u32) = (33_486, 3_919_667_144);
 
 /// Some ways of playing the piece.
-const WAYS: [&str; 9] = [
+const WAYS: &[&str] = &[
     "a.txt b.mid --workers 0 --room 1 --lead 0",
     "a.txt b.mid --workers 0 --room 1 --lead 1000000",
     "a.txt b.mid --workers 0 --room 64 --lead 0",
@@ -52,17 +52,34 @@ const WAYS: [&str; 9] = [
     "a.txt b.mid --workers 16 --room 64 --lead 1000000",
 ];
 
+/// Numbers of threads.
+const WORKERS: &[&str] = &[
+    "a.txt b.mid --workers 0",
+    "a.txt b.mid --workers 1",
+    "a.txt b.mid --workers 4",
+    "a.txt b.mid --workers 16",
+];
+
+/// Rooms of the queues, and how far a process may run ahead.
+const QUEUES: &[&str] = &[
+    " --room 1 --lead 0",
+    " --room 1 --lead 1000000",
+    " --room 64 --lead 0",
+    " --room 64 --lead 1000000",
+    " --room 1 --lead 0 --rounds",
+    " --room 1 --lead 1000000 --rounds",
+    " --room 64 --lead 0 --rounds",
+    " --room 64 --lead 1000000 --rounds",
+];
+
 #[test]
 fn branches_have_the_same_file_in_each_way(rt: HostRuntime) -> Result<(), Fail> {
     let alloc = rt.alloc();
-    for workers in [0, 1, 4, 16] {
-        for (room, lead) in [(1, 0), (1, 1_000_000), (64, 0), (64, 1_000_000)] {
-            for rounds in ["", " --rounds"] {
-                let numbers = format!(in alloc; "--workers {workers} --room {room} --lead {lead}")?;
-                let words = format!(in alloc; "{FILES} {numbers}{rounds}")?;
-                let run = (words.as_str(), THREE_BRANCHES);
-                check_run(&rt, alloc, run, (0, "", &THREE_TRACK))?;
-            }
+    for workers in WORKERS {
+        for queues in QUEUES {
+            let words = repeated(alloc, (workers, ""), queues, 1)?;
+            let run = (words.as_str(), THREE_BRANCHES);
+            check_run(&rt, alloc, run, (0, "", THREE_TRACK))?;
         }
     }
     Ok(())
@@ -71,14 +88,12 @@ fn branches_have_the_same_file_in_each_way(rt: HostRuntime) -> Result<(), Fail> 
 #[test]
 fn the_piece_has_the_same_file_in_each_way(rt: HostRuntime) -> Result<(), Fail> {
     let alloc = rt.alloc();
-    let piece = run_words(&rt, alloc, FILES, PIECE, (&[], &[]))?;
-    assert_eq!(rt; piece.status, 0);
+    let piece = run_on(&rt, alloc, FILES, PIECE.as_bytes(), (&[], &[], &[]))?;
     let file = piece.sink.content();
     assert_eq!(rt; (file.len(), sum_of(file)), FILE_OF_PIECE);
     for words in WAYS {
-        let ran = run_words(&rt, alloc, words, PIECE, (&[], &[]))?;
-        assert_eq!(rt; ran.status, 0, "at {words}");
-        assert_eq!(rt; ran.sink.content(), file, "at {words}");
+        let ran = run_on(&rt, alloc, words, PIECE.as_bytes(), (&[], &[], &[]))?;
+        check_left(&rt, &ran, (0, b"", file), words);
     }
     Ok(())
 }
@@ -98,11 +113,11 @@ fn track_of_longest(alloc: Global) -> Result<Vec<u8>, AllocError> {
 fn a_length_of_which_three_bytes_are_written(rt: HostRuntime) -> Result<(), Fail> {
     let alloc = rt.alloc();
     let words = "a.txt b.mid --workers 0";
-    let ran = run_words(&rt, alloc, words, LONGEST, (&[(4_099, 3)], &[]))?;
-    assert_eq!(rt; ran.status, 4);
-    assert_eq!(rt; ran.console.content(), b"formula: write fault\n".as_slice());
+    let longest = LONGEST.as_bytes();
+    let ran = run_on(&rt, alloc, words, longest, (&[], &[(4_099, 3)], &[]))?;
     let file = file_with(alloc, &track_of_longest(alloc)?, 3)?;
-    assert_eq!(rt; ran.sink.content(), file.as_slice());
+    let said = b"formula: write fault\n";
+    check_left(&rt, &ran, (4, said, file.as_slice()), words);
     Ok(())
 }
 
@@ -136,7 +151,7 @@ fn a_plan_and_its_copy_are_played(rt: HostRuntime) -> Result<(), Fail> {
         last: 960,
         bytes: 60,
     });
-    let file = file_with(alloc, &THREE_TRACK, 4)?;
+    let file = file_with(alloc, THREE_TRACK, 4)?;
     assert_eq!(rt; play_alone(alloc, plan)?, (played, file.clone()?));
     assert_eq!(rt; play_alone(alloc, copy)?, (played, file));
     Ok(())
