@@ -4,7 +4,7 @@ use fm_lex::Spot;
 use fm_value::Expr;
 
 /// A literal with the spot of its first token, which may be a `-`, or an expression.
-#[derive(Debug, Drop)]
+#[derive(Drop)]
 pub enum Amount {
     Literal { value: i64, spot: Spot },
     Computed { value: Expr },

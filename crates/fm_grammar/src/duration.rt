@@ -5,7 +5,7 @@ use crate::number::Number;
 use fm_value::Expr;
 
 /// How long a note or a rest is.
-#[derive(Debug, Drop)]
+#[derive(Drop)]
 pub enum Duration {
     Fixed { length: Length },
     /// As many ticks as the value says, from 0 to `most`.

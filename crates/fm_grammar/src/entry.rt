@@ -5,7 +5,7 @@ use crate::name::Name;
 use crate::part_text::PartText;
 
 /// A definition, or a statement that is played.
-#[derive(Debug, Drop)]
+#[derive(Drop)]
 pub enum Entry<'s> {
     Shape {
         name: Name<'s>,

@@ -10,7 +10,7 @@ use fm_lex::Spot;
 use fm_value::Expr;
 
 /// A statement with the spot of its keyword.
-#[derive(Debug, Drop)]
+#[derive(Drop)]
 #[cycle(item)]
 pub struct Item<'s> {
     pub spot: Spot,
@@ -18,7 +18,7 @@ pub struct Item<'s> {
 }
 
 /// What a statement says. A missing `else` is an empty list.
-#[derive(Debug, Drop)]
+#[derive(Drop)]
 #[cycle(item)]
 pub enum What<'s> {
     Note {

@@ -4,7 +4,7 @@ use crate::amount::Amount;
 use fm_lex::Spot;
 
 /// A pitch by its name, as a MIDI key that may be 128, or by a value behind the word `key`.
-#[derive(Debug, Drop)]
+#[derive(Drop)]
 pub enum Pitch {
     Named { key: u8, spot: Spot },
     /// The spot is that of the word.

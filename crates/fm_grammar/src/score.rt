@@ -4,7 +4,7 @@ use crate::entry::Entry;
 use crate::number::Number;
 
 /// The tree of a text. Its names are slices of the source.
-#[derive(Debug, Drop)]
+#[derive(Drop)]
 pub struct Score<'s> {
     pub version: Number,
     pub seed: Option<Number>,
