@@ -1,6 +1,6 @@
 //! The words that the grammar keeps for itself.
 
-ghost use Rattle.std.specs.Prelude.{◌≡◌};
+ghost use Rattle.std.specs.Prelude.{◌≡◌, find, bytes_eq};
 ghost use Rattle.fm_lex.specs.Words.{spelling, keyword_of};
 
 /// A word of the grammar, which names nothing else.
@@ -138,9 +138,60 @@ impl Keyword {
     pub fn from_text(word: &[u8]) -> Option<Keyword>
         ensures { result ≡ keyword_of word.now }
     {
-        KEYWORDS
-            .iter()
-            .copied()
-            .find(|keyword| keyword.text() == word)
+        match word {
+            [b'a', ..] => spelt(&[Keyword::Artic], word),
+            [b'b', ..] => spelt(
+                &[Keyword::By, Keyword::Breath, Keyword::Bend, Keyword::Branch],
+                word,
+            ),
+            [b'c', ..] => spelt(&[Keyword::Control, Keyword::Channel], word),
+            [b'd', ..] => spelt(&[Keyword::Do], word),
+            [b'e', ..] => spelt(&[Keyword::Else], word),
+            [b'f', ..] => spelt(&[Keyword::Formula, Keyword::Flat], word),
+            [b'g', ..] => spelt(&[Keyword::Gate], word),
+            [b'i', ..] => spelt(&[Keyword::If], word),
+            [b'k', ..] => spelt(&[Keyword::Key], word),
+            [b'l', ..] => spelt(&[Keyword::Loud, Keyword::Less], word),
+            [b'm', ..] => spelt(&[Keyword::Max, Keyword::Min], word),
+            [b'n', ..] => spelt(&[Keyword::Note], word),
+            [b'p', ..] => spelt(
+                &[
+                    Keyword::Pause,
+                    Keyword::Phrase,
+                    Keyword::Play,
+                    Keyword::Program,
+                    Keyword::Par,
+                    Keyword::Pick,
+                ],
+                word,
+            ),
+            [b'r', ..] => spelt(&[Keyword::Rest, Keyword::Repeat, Keyword::Rhythm], word),
+            [b's', ..] => spelt(
+                &[
+                    Keyword::Seed,
+                    Keyword::Shape,
+                    Keyword::Slope,
+                    Keyword::Skip,
+                    Keyword::Set,
+                    Keyword::Same,
+                ],
+                word,
+            ),
+            [b't', ..] => spelt(&[Keyword::To, Keyword::Ticks], word),
+            [b'v', ..] => spelt(&[Keyword::Volume], word),
+            [b'w', ..] => spelt(&[Keyword::Warp], word),
+            [b'h' | b'j' | b'o' | b'q' | b'u' | b'x' | b'y' | b'z', ..] => None,
+            _ => spelt(&KEYWORDS, word),
+        }
     }
+}
+
+// The first of these keywords that a word spells.
+fn spelt(keywords: &[Keyword], word: &[u8]) -> Option<Keyword>
+    ensures { result ≡ find (λ k. bytes_eq (spelling k) word.now) keywords.now }
+{
+    keywords
+        .iter()
+        .copied()
+        .find(|keyword| keyword.text() == word)
 }
