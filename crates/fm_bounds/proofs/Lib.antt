@@ -6,3 +6,4 @@ pub mod RangeLemmas
 pub mod LimitLemmas
 pub mod StandsLemmas
 pub mod WalkLemmas
+mod Numerals

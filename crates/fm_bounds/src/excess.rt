@@ -44,7 +44,7 @@ pub enum Excess {
     TooManySteps,
 }
 
-/// Whether a total passes a limit.
+// Whether a total passes a limit.
 fn passes(total: u64, limit: u64) -> bool
     ensures { result ≡ nat_lt limit total }
 {

@@ -12,7 +12,7 @@ use crate::span::ticks_of;
 use crate::sums::cap;
 use fm_grammar::{Entry, Item, Length, What};
 
-/// The greatest of these lengths, in ticks up to the ceiling.
+// The greatest of these lengths, in ticks up to the ceiling.
 fn longest_length(lengths: &[Length]) -> u64
     ensures { result ≡ capped (greatest (map (length_ticks WHOLE_NOTE) lengths.now)) }
 {
@@ -23,7 +23,7 @@ fn longest_length(lengths: &[Length]) -> u64
     longest
 }
 
-/// The greatest entry of the rhythm lists of a statement.
+// The greatest entry of the rhythm lists of a statement.
 #[cycle(longest)]
 fn longest_item(item: &Item) -> u64
     ensures { result ≡ capped (longest_entry WHOLE_NOTE (item_view item.now).what) }
@@ -58,7 +58,7 @@ fn longest_item(item: &Item) -> u64
     }
 }
 
-/// The greatest entry of the rhythm lists of statements in turn.
+// The greatest entry of the rhythm lists of statements in turn.
 #[cycle(longest)]
 fn longest_items(items: &[Item]) -> u64
     ensures { result ≡ capped (longest_inside WHOLE_NOTE (items_view items.now)) }
@@ -70,7 +70,7 @@ fn longest_items(items: &[Item]) -> u64
     longest
 }
 
-/// The greatest entry of the rhythm lists of an entry of the score.
+// The greatest entry of the rhythm lists of an entry of the score.
 fn longest_in(entry: &Entry) -> u64
     ensures { result ≡ capped (longest_of WHOLE_NOTE (entry_view entry.now ∷ [])) }
 {

@@ -15,7 +15,7 @@ use fm_tick::{MAX_STRETCH, Stretch};
 use fm_warp::{Part, Warp, WarpFault};
 use std::alloc::{AllocError, Global};
 
-/// A stretch.
+// A stretch.
 fn stretch(number: Number) -> Stretch
     ensures { result ≡ stretch_of number.value }
 {
@@ -24,7 +24,7 @@ fn stretch(number: Number) -> Stretch
     }
 }
 
-/// A length that has no fault, in ticks.
+// A length that has no fault, in ticks.
 fn ticks(length: &Length) -> u32
     requires { length_faults WHOLE_NOTE length.now ≡ [] }
     ensures value { result ≡ length_ticks WHOLE_NOTE length.now }
@@ -33,7 +33,7 @@ fn ticks(length: &Length) -> u32
     ticks_of(length) as u32
 }
 
-/// A part that has no fault.
+// A part that has no fault.
 fn part_of(part: &PartText) -> Part
     requires { part_faults WHOLE_NOTE part.now ≡ [] }
     ensures value { result ≡ part_of WHOLE_NOTE part.now }

@@ -17,7 +17,7 @@ pub(crate) fn cap(n: u64) -> u64
     n.min(CEILING)
 }
 
-/// The sum, up to the ceiling.
+// The sum, up to the ceiling.
 #[tactic(auto, unfolding(crate::specs::Saturation::capped))]
 fn sum(a: u64, b: u64) -> u64
     ensures { result ≡ capped (a + b) }
@@ -25,7 +25,7 @@ fn sum(a: u64, b: u64) -> u64
     cap(a.saturating_add(b))
 }
 
-/// The product, up to the ceiling.
+// The product, up to the ceiling.
 #[tactic(auto, unfolding(crate::specs::Saturation::capped))]
 fn product(a: u64, b: u64) -> u64
     ensures { result ≡ capped (a * b) }

@@ -34,7 +34,7 @@ pub(crate) struct Walk<'s> {
 }
 
 impl<'s> Walk<'s> {
-    /// Adds a statement that is played.
+    // Adds a statement that is played.
     fn play(&mut self, item: &Item) -> Result<(), BoundsFault>
         ensures ok { OnOk result ((score : tree.Score) (rest : List tree.Entry) →
             Reached score self.old (played item.now ∷ rest) → Reached score self.new rest) }
@@ -55,7 +55,7 @@ impl<'s> Walk<'s> {
         }
     }
 
-    /// Goes over one entry.
+    // Goes over one entry.
     fn enter(&mut self, alloc: Global, entry: &Entry<'s>) -> Result<(), BoundsFault>
         requires { (score : tree.Score) × (rest : List tree.Entry)
             × Reached score self.old (entry_view entry.now ∷ rest) }

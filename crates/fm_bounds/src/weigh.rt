@@ -13,7 +13,7 @@ use crate::sums::Sums;
 use crate::tables::Tables;
 use fm_grammar::{Item, What};
 
-/// A note of so many pitches.
+// A note of so many pitches.
 fn note(length: u64, pitches: usize) -> Sums
     requires { pitches < 2 ^ 63 }
     ensures { result ≡ saturated (totals 0 1 length (2 * pitches) (2 * pitches + 1)) false }

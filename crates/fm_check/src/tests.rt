@@ -1,7 +1,9 @@
 //! Texts that are accepted or refused.
 
+mod orders;
 mod parsing;
 mod places;
+mod texts;
 mod totals;
 
 use crate::{Bounds, CheckFault, check};
@@ -17,7 +19,7 @@ type Verdict = (u8, u32, u32);
 /// A text and its verdict.
 type Row = (&'static str, Verdict);
 
-/// What the check says of a text that reads as a score.
+// What the check says of a text that reads as a score.
 fn checked(alloc: Global, text: &str) -> Result<Result<Bounds, CheckFault>, Fail> {
     let source = text.as_bytes();
     if source.len() > MAX_TEXT {
@@ -27,12 +29,12 @@ fn checked(alloc: Global, text: &str) -> Result<Result<Bounds, CheckFault>, Fail
     Ok(check(alloc, &score))
 }
 
-/// The totals of a text that is accepted.
+// The totals of a text that is accepted.
 fn bounds(alloc: Global, text: &str) -> Result<Bounds, Fail> {
     Ok(checked(alloc, text)??)
 }
 
-/// The number of the fault of a text with its line and column, zeros where it is accepted.
+// The number of the fault of a text with its line and column, zeros where it is accepted.
 fn verdict(alloc: Global, text: &str) -> Result<Verdict, Fail> {
     match checked(alloc, text)? {
         Ok(_) => Ok((0, 0, 0)),
@@ -41,7 +43,7 @@ fn verdict(alloc: Global, text: &str) -> Result<Verdict, Fail> {
     }
 }
 
-/// Compares the verdict of each text with the one that stands beside it.
+// Compares the verdict of each text with the one that stands beside it.
 fn check_rows<R: Abort>(rt: &R, alloc: Global, rows: &[Row]) -> Result<(), Fail> {
     for (text, want) in rows {
         assert_eq!(rt; verdict(alloc, text)?, *want, "{text}");

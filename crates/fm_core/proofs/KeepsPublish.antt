@@ -10,7 +10,8 @@ use Rattle.fm_core.proofs.Bounds.{bound_born, greatest_on}
 use Rattle.fm_core.proofs.Elements.{or_set, same_all}
 use Rattle.fm_core.proofs.Given.{upper_end}
 use Rattle.fm_core.proofs.Reasons.{none_holds}
-use Rattle.fm_core.proofs.Sweeps.{Lowest, lowest, LeastOf, least_is}
+use Rattle.fm_core.proofs.Sweeps.{lowest, LeastOf, least_is}
+use Rattle.fm_core.specs.Least.{Lowest}
 use Rattle.fm_core.specs.Effects.{after, published}
 use Rattle.fm_core.specs.Floors.{floor_le, floor_of}
 use Rattle.fm_core.specs.Invariant.{ValidSetting, Sound, NotBelow, of_process}

@@ -23,6 +23,7 @@ pub mod Keeps
 pub mod Opening
 pub mod Gathered
 mod Rows
+mod Numerals
 pub mod Walking
 pub mod Walks
 pub mod MoreWalks

@@ -5,7 +5,8 @@ use mathlib.Core.Logic.{dite}
 use native.Mathlib.Decide.{ℕ_discrete}
 use Rattle.fm_core.proofs.Booleans.{not_below}
 use Rattle.fm_core.specs.Invariant.{NotBelow}
-use Rattle.fm_core.specs.Sweep.{sight, lesser, least_from}
+use Rattle.fm_core.specs.Least.{IsLeastOf, Lowest}
+use Rattle.fm_core.specs.Sweep.{sight, least, lesser, least_from}
 use Rattle.fm_core.specs.declared.sight.Sight.{Sight}
 
 -- what the least pair of a sweep is, where the first sight is of the process k
@@ -81,13 +82,6 @@ least_is k (x ∷ xs) = go x.ended refl (least_from (suc k) xs) (least_is (suc k
     go false e None rest = first_is k x xs e (λ j lt f. let g = rest j lt in absurd (cc))
     go false e (Some b) rest = pick (nat_lt b.0 x.clock) b refl e rest
 
--- the least pair of a whole sweep
-pub record Lowest (xs : List Sight) (m i : ℕ) : Type 0 where
-  pub below : i < length xs
-  pub open_there : (sight xs i).ended ≡ false
-  pub clock : (sight xs i).clock ≡ m
-  pub lower : (j : ℕ) → j < length xs → (sight xs j).ended ≡ false → NotBelow m i (sight xs j).clock j
-
 -- the least pair of a whole sweep, by the number of its process
 pub lowest : (xs : List Sight) (a : ℕ × ℕ) → IsLeast 0 xs a → Lowest xs a.0 a.1
 lowest xs a r = let z : a.1 - 0 ≡ a.1 = omega arith in let low = r.below in record {
@@ -96,3 +90,11 @@ lowest xs a r = let z : a.1 - 0 ≡ a.1 = omega arith in let low = r.below in re
   clock = rw z at r.clock;
   lower = λ j lt e. let y : 0 + j ≡ j = omega arith in rw y at (r.lower j lt e);
 }
+
+-- the pair that is computed is the least one
+pub least_of : (xs : List Sight) → IsLeastOf xs (least xs)
+least_of xs = go (least xs) (least_is 0 xs)
+  where
+    go : (o : Option (ℕ × ℕ)) → LeastOf 0 xs o → IsLeastOf xs o
+    go None all = all
+    go (Some a) is = lowest xs a is

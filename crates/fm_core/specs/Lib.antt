@@ -8,3 +8,4 @@ pub mod Steps
 pub mod Effects
 pub mod Giving
 pub mod Invariant
+pub mod Least

@@ -10,6 +10,7 @@ mod cell;
 mod due;
 mod floor;
 mod laws;
+mod limits;
 mod reason;
 mod sight;
 mod step;
@@ -18,7 +19,11 @@ mod tag;
 pub use cell::Cell;
 pub use due::Due;
 pub use floor::Floor;
-pub use laws::{gather_has_room, gives_are_allowed, released_is_a_prefix, steps_keep_sound};
+pub use laws::{
+    bounds_are_told_by_two_equations, gather_has_room, gives_are_allowed, least_is_the_least_pair,
+    released_is_a_prefix, steps_keep_sound,
+};
+pub use limits::{MAX_LEAD, MAX_SEATS};
 pub use reason::Reason;
 pub use sight::Sight;
 pub use step::Step;

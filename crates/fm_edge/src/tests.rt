@@ -143,3 +143,10 @@ fn an_open_gate_returns() {
     OpenGate.pass(0, 0, Moment::Begin);
     OpenGate.pass(0, 0, Moment::End);
 }
+
+#[test]
+fn a_failed_call_says_so(rt: HostRuntime) -> Result<(), Fail> {
+    let said = format!(in rt.alloc(); "{}", Failed)?;
+    assert_eq!(rt; said.as_str(), "the object that was handed in failed");
+    Ok(())
+}

@@ -3,3 +3,4 @@ pub mod TextLemmas
 pub mod LengthLemmas
 pub mod SeedLemmas
 mod Rows
+mod Numerals

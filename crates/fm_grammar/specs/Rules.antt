@@ -59,7 +59,7 @@ kind_code End = 6
 kind_code (kinds.Keyword w) = 10 + 2 * keyword_code w
 kind_code (Symbol b) = 11 + 2 * b
 
--- a number, a register, an index and a pitch, whichever it is
+-- any number
 abbrev pub any_number : Kind
 any_number = Number 0
 

@@ -1,4 +1,3 @@
-pub mod Checked
 pub mod Chosen
 pub mod Desks
 pub mod Finishing

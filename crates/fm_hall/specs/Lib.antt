@@ -1,4 +1,3 @@
-pub mod Checks
 pub mod Given
 pub mod Hall
 pub mod Limits

@@ -1,11 +1,12 @@
 //! Whether lines are valid: the test for what `Hall::open` asks of them.
-ghost use Rattle.std.specs.Prelude.{◌≡◌, ◌<◌, length, not, nat_lt, true, IsTrue};
+ghost use Rattle.std.specs.Prelude.{◌≡◌, ◌<◌, ◌↔◌, ◌&&◌, length, nat_eq, nat_le, nat_lt, IsTrue};
+ghost use Rattle.std.specs.List.{list_all};
 ghost use Rattle.fm_line.specs.Line.{ValidLines, line, total, most_events};
-ghost use Rattle.fm_core.specs.Numbers.{any_below};
-ghost use Rattle.fm_hall.specs.Checks.{are_apart, are_below, counts_from, ends_well, fits_among, is_named, is_valid, rises_from, waits_well};
+ghost use Rattle.fm_line.specs.Validity.{all_once, each_below, has_number};
+ghost use Rattle.fm_line.specs.Validity.{line_valid, lines_valid, run_valid};
 
 use crate::sweeps::greatest_end;
-use fm_line::Line;
+use fm_line::{Line, validity_is_a_test};
 use fm_msg::Event;
 
 const MOST_LINES: usize = 16_384;
@@ -17,22 +18,27 @@ const LAST_TICK: u64 = 1_099_511_627_776;
 /// Whether lines are valid, as `Hall::open` asks: each process after the first waits for smaller
 /// ones, its events are numbered, and their times rise from its start to its end.
 pub fn are_valid(lines: &[Line]) -> bool
-    ensures value { result ≡ is_valid lines.now }
-    ensures valid { IsTrue result → ValidLines lines.now }
+    ensures value { result ≡ lines_valid lines.now }
+    ensures valid { IsTrue result ↔ ValidLines lines.now }
 {
+    validity_is_a_test();
     do_pass(lines)
 }
 
 // Whether lines pass each test.
 fn do_pass(lines: &[Line]) -> bool
-    ensures { result ≡ is_valid lines.now }
+    ensures { result ≡ lines_valid lines.now }
 {
-    !lines.is_empty() && lines.len() <= MOST_LINES && have_few_events(lines) && all_fit(lines)
+    !lines.is_empty()
+        && lines.len() <= MOST_LINES
+        && lines[0].predecessors.as_slice().is_empty()
+        && all_fit(lines)
+        && have_few_events(lines)
 }
 
 // Whether the lines have no more events together than they may.
 fn have_few_events(lines: &[Line]) -> bool
-    ensures { result ≡ not (nat_lt most_events (total lines.now)) }
+    ensures { result ≡ nat_le (total lines.now) most_events }
 {
     let mut count = 0;
     for place in 0..lines.len() {
@@ -57,7 +63,7 @@ fn events_of(lines: &[Line], place: usize) -> &[Event]
 // Whether each line is as it must be among the others.
 fn all_fit(lines: &[Line]) -> bool
     requires { 0 < length lines.now }
-    ensures { result ≡ not (any_below (length lines.now) (λ p. not (fits_among lines.now p))) }
+    ensures { result ≡ each_below (length lines.now) (line_valid lines.now) }
 {
     for place in 0..lines.len() {
         if !does_fit(lines, place) {
@@ -70,38 +76,22 @@ fn all_fit(lines: &[Line]) -> bool
 // Whether the line at this place is as it must be among the others.
 fn does_fit(lines: &[Line], place: usize) -> bool
     requires { place < length lines.now }
-    ensures { result ≡ fits_among lines.now place }
+    ensures { result ≡ line_valid lines.now place }
 {
     let own = &lines[place];
     let predecessors = own.predecessors.as_slice();
     let events = own.events.as_slice();
-    does_wait_well(place, predecessors)
-        && does_rise(greatest_end(lines, predecessors), own.end, events)
-        && does_count(place, events)
-        && does_end_well(lines, place)
-}
-
-// Whether no line ends after the last tick or after the last line.
-fn does_end_well(lines: &[Line], place: usize) -> bool
-    requires { place < length lines.now }
-    ensures { result ≡ ends_well lines.now place }
-{
-    let end = lines[place].end;
-    end <= LAST_TICK && end <= lines[lines.len() - 1].end
-}
-
-// Whether the first process waits for none, and another one for some, each smaller and once.
-fn does_wait_well(process: usize, predecessors: &[u32]) -> bool
-    ensures { result ≡ waits_well process predecessors.now }
-{
-    (process == 0) == predecessors.is_empty()
-        && are_all_below(process, predecessors)
+    (place == 0 || !predecessors.is_empty())
+        && are_all_below(place, predecessors)
         && are_all_apart(predecessors)
+        && is_run(place, greatest_end(lines, predecessors), own.end, events)
+        && own.end <= LAST_TICK
+        && own.end <= lines[lines.len() - 1].end
 }
 
 // Whether each of these has a smaller number.
 fn are_all_below(process: usize, predecessors: &[u32]) -> bool
-    ensures { result ≡ are_below process predecessors.now }
+    ensures { result ≡ list_all (λ q. nat_lt q process) predecessors.now }
 {
     for predecessor in predecessors {
         if process <= *predecessor as usize {
@@ -113,7 +103,7 @@ fn are_all_below(process: usize, predecessors: &[u32]) -> bool
 
 // Whether none of these is named twice.
 fn are_all_apart(predecessors: &[u32]) -> bool
-    ensures { result ≡ are_apart predecessors.now }
+    ensures { result ≡ all_once predecessors.now }
 {
     for place in 0..predecessors.len() {
         if has(predecessors[place], &predecessors[place + 1..]) {
@@ -125,7 +115,7 @@ fn are_all_apart(predecessors: &[u32]) -> bool
 
 // Whether a process is among these.
 fn has(process: u32, among: &[u32]) -> bool
-    ensures { result ≡ is_named process among.now }
+    ensures { result ≡ has_number process among.now }
 {
     for other in among {
         if *other == process {
@@ -135,13 +125,15 @@ fn has(process: u32, among: &[u32]) -> bool
     false
 }
 
-// Whether times never fall, and lie from this tick to the end.
-fn does_rise(from: u64, end: u64, events: &[Event]) -> bool
-    ensures { result ≡ rises_from from end events.now }
+// Whether the events are of this process, numbered from 0 on, and their times never fall and lie
+// from this tick to the end.
+fn is_run(process: usize, from: u64, end: u64, events: &[Event]) -> bool
+    ensures { result ≡ run_valid from end process 0 events.now }
 {
     let mut low = from;
-    for event in events {
-        if event.time() < low {
+    for place in 0..events.len() {
+        let event = &events[place];
+        if !is_next(process, place, low, event) {
             return false;
         }
         low = event.time();
@@ -149,15 +141,10 @@ fn does_rise(from: u64, end: u64, events: &[Event]) -> bool
     low <= end
 }
 
-// Whether the events are of this process, numbered from 0 on.
-fn does_count(process: usize, events: &[Event]) -> bool
-    ensures { result ≡ counts_from process 0 events.now }
+// Whether the event is of this process and this place, and not before this tick.
+fn is_next(process: usize, place: usize, low: u64, event: &Event) -> bool
+    ensures { result ≡ (nat_le low event.now.time && nat_eq event.now.process process
+        && nat_eq event.now.index place) }
 {
-    for place in 0..events.len() {
-        let event = &events[place];
-        if event.process() as usize != process || event.index() as usize != place {
-            return false;
-        }
-    }
-    true
+    low <= event.time() && event.process() as usize == process && event.index() as usize == place
 }

@@ -11,14 +11,14 @@ ghost use Rattle.fm_progress.specs.Progress.{Finished, Nearer};
 ghost use Rattle.fm_hall.specs.Limits.{IsSetting};
 ghost use Rattle.fm_hall.specs.Hall.{HallState, IsSafe, answer, stepped};
 
+use crate::Taken;
 use crate::choices::chosen_step;
 use crate::effects::take_step;
 use crate::refusals::why_not;
 use crate::rules::Rules;
 use crate::sweeps::least_pair;
 use crate::tables::Tables;
-use crate::{MAX_SEATS, Taken};
-use fm_core::{Floor, Step};
+use fm_core::{Floor, MAX_SEATS, Step};
 use fm_line::Line;
 use fm_msg::Event;
 use std::alloc::{AllocError, Global};

@@ -13,7 +13,6 @@ mod desk;
 mod dues;
 mod effects;
 mod hall;
-mod limits;
 mod refusals;
 mod rules;
 mod searches;
@@ -25,6 +24,7 @@ mod taken;
 mod tests;
 
 pub use checks::are_valid;
+pub use fm_core::{Floor, MAX_LEAD, MAX_SEATS, Reason, Step};
+pub use fm_line::Line;
 pub use hall::Hall;
-pub use limits::{MAX_LEAD, MAX_SEATS};
 pub use taken::Taken;

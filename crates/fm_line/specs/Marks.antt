@@ -1,10 +1,10 @@
 -- Marks: what processes make, at positions that can be mapped, and the lines of a list of marks.
-use Rattle.std.specs.Prelude.{ℕ, ◌+◌, List, [], ◌∷◌, ◌++◌, max, Bool, true, false, ◌&&◌, nat_eq, if◌then◌else◌, Option, Some, None, is_none}
+use Rattle.std.specs.Prelude.{ℕ, ◌+◌, List, [], ◌∷◌, ◌++◌, max, Bool, false, ◌&&◌, nat_eq, if◌then◌else◌, Option, Some, None, is_none}
 use Rattle.std.specs.Option.{option_map, option_to_list}
 use Rattle.fm_msg.specs.declared.msg.Msg.{Msg}
-use Rattle.fm_msg.specs.declared.msg.Msg.TheVariants.{On, Off, Control, Program, Bend}
 use Rattle.fm_msg.specs.Event.{TimedMessage}
 use Rattle.fm_line.specs.declared.line.Line.{Line}
+use Rattle.fm_line.specs.Sounds.{Sound, is_note_off, come_out, numbered}
 
 -- a message, or where there is none the end of a process, at two positions of one level
 pub record Mark : Type 0 where
@@ -13,14 +13,6 @@ pub record Mark : Type 0 where
   pub msg : Option Msg
   pub onset : ℕ
   pub ending : ℕ
-
--- whether a message is a note-off
-abbrev pub is_note_off : Msg → Bool
-is_note_off (On channel key velocity) = false
-is_note_off (Off channel key) = true
-is_note_off (Control channel controller value) = false
-is_note_off (Program channel program) = false
-is_note_off (Bend channel bend) = false
 
 -- whether a mark has an ending of its own, as a note-off has
 abbrev pub has_ending : Option Msg → Bool
@@ -41,16 +33,30 @@ abbrev pub mark_event : Mark → Option TimedMessage
 mark_event m =
     option_map (λ x. record { time = mark_time m; process = m.process; index = m.index; msg = x }) m.msg
 
--- the events of the process j, in the order of its marks
-abbrev pub process_events : ℕ → List Mark → List TimedMessage
-process_events j [] = []
-process_events j (m ∷ ms) =
-    (if nat_eq m.process j then option_to_list (mark_event m) else []) ++ process_events j ms
+-- the events of the marks of the process j, in the order of its marks
+abbrev pub events_in_turn : ℕ → List Mark → List TimedMessage
+events_in_turn j [] = []
+events_in_turn j (m ∷ ms) =
+    (if nat_eq m.process j then option_to_list (mark_event m) else []) ++ events_in_turn j ms
+
+-- the sound of a mark of the outermost level, where it has a message
+abbrev pub mark_sound : Mark → Option Sound
+mark_sound m = option_map (λ x. record { time = mark_time m; msg = x }) m.msg
+
+-- the sounds of the process j, in the order of its marks
+abbrev pub process_sounds : ℕ → List Mark → List Sound
+process_sounds j [] = []
+process_sounds j (m ∷ ms) =
+    (if nat_eq m.process j then option_to_list (mark_sound m) else []) ++ process_sounds j ms
 
 -- where the process j ends: the onset of its first mark without a message
 abbrev pub process_end : ℕ → List Mark → ℕ
 process_end j [] = 0
 process_end j (m ∷ ms) = if nat_eq m.process j && is_none m.msg then m.onset else process_end j ms
+
+-- the events of the process j: what comes out of its sounds, numbered in turn
+abbrev pub process_events : ℕ → List Mark → List TimedMessage
+process_events j ms = numbered j 0 (come_out (process_sounds j ms) (process_end j ms))
 
 -- the line of the process j
 abbrev pub process_line : ℕ → List ℕ → List Mark → Line

@@ -2,7 +2,7 @@
 ghost use Rattle.std.specs.Prelude.{◌≡◌, [], None, map, IfOk, string_bytes};
 ghost use Rattle.fm_words.specs.Settings.{settings_of};
 
-use fm_top::{NameFault, names};
+use fm_top::{WordsFault, names};
 use std::alloc::{AllocError, Global};
 use std::rt::Env;
 use std::{env, io};
@@ -29,7 +29,7 @@ pub fn file_names(alloc: Global, words: &[String]) -> Result<(String, String), A
 {
     match names(alloc, words) {
         Ok(names) => Ok(names),
-        Err(NameFault::Words) => Ok((String::new(alloc), String::new(alloc))),
-        Err(NameFault::Memory) => Err(AllocError),
+        Err(WordsFault::Words) => Ok((String::new(alloc), String::new(alloc))),
+        Err(WordsFault::Memory) => Err(AllocError),
     }
 }

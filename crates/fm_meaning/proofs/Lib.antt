@@ -4,12 +4,14 @@ mod ChoiceRows
 mod ValueRows
 mod ForkRows
 mod WarpRows
+mod OverlapRows
 mod PieceRows
 mod RangeRows
 mod PlaceRows
 mod DepthRows
 mod BoundRows
 mod LimitRows
+mod OrderRows
 mod TextRows
 mod FourVoices
 mod Doubling

@@ -17,7 +17,7 @@ version_number = 1
 
 -- ---- ranges of numbers
 
--- the longest length that is written as one, and the greatest count of a loop
+-- the most ticks of a length, and of the bound of a computed one
 abbrev pub most_ticks : ℕ
 most_ticks = 1000000
 

@@ -15,8 +15,8 @@ use Rattle.std.proofs.lemmas.Slice.Eq.{bytes_eq-Decides}
 use Rattle.std.proofs.lemmas.Map.Text.{is_eq-slice_cmp, btree_map_updates_str}
 use Rattle.fm_names.specs.declared.names.First.{First}
 use Rattle.fm_names.specs.declared.names.Names.{Names}
-use Rattle.fm_names.specs.Place.{place_of}
-use Rattle.fm_names.specs.Named.{named, names_in, other_at, chosen, is_free}
+use Rattle.fm_names.specs.Key.{key_of}
+use Rattle.fm_names.specs.Named.{HasWhatWasDefined, named, names_in, other_at, chosen, is_free}
 
 -- ---- tests
 
@@ -109,7 +109,7 @@ kept true false other first before o is up same = ap (λ t. cond t (Some first.v
 kept false true other first before o is up same = let no : false ≡ true = up refl in cc
 kept false false other first before o is up same = refl
 
--- a place that is free for one name has nothing of another
+-- a key that is free for one name has nothing of another
 free_of : {V : Type 0} (name other : List ℕ) (first : Option (First V)) (o : Option V)
     → is_free name first ≡ true → bytes_eq name other ≡ false → chosen other first o ≡ o
 free_of name other None o free apart = refl
@@ -117,22 +117,22 @@ free_of name other (Some first) o free apart =
     let texts : first.text.now ≡ name = (bytes_eq-Decides first.text.now name).0 free in
     ap (λ t. cond t (Some first.value) o) (ap (λ n. bytes_eq n other) texts ∙ apart)
 
--- a name at its place
+-- a name at its key
 pub first_defined : {V : Type 0} (m n : BTreeMap ℕ (First V)) (o : Option V) (name other : List ℕ) (number : ℕ)
-    (first : First V) → number ≡ place_of name → first.text.now ≡ name
-    → is_free name (get_by (nat_cmp (place_of name)) m) ≡ true → Updates nat_cmp m n number (Some first)
-    → chosen other (get_by (nat_cmp (place_of other)) n) o
-    ≡ cond (bytes_eq other name) (Some first.value) (chosen other (get_by (nat_cmp (place_of other)) m) o)
+    (first : First V) → number ≡ key_of name → first.text.now ≡ name
+    → is_free name (get_by (nat_cmp (key_of name)) m) ≡ true → Updates nat_cmp m n number (Some first)
+    → chosen other (get_by (nat_cmp (key_of other)) n) o
+    ≡ cond (bytes_eq other name) (Some first.value) (chosen other (get_by (nat_cmp (key_of other)) m) o)
 first_defined m n o name other number first is texts free updates =
-    ap (λ f. chosen other f o) (updates.0 (place_of other))
-    ∙ kept (is_eq (nat_cmp number (place_of other))) (bytes_eq other name) other first
-    (get_by (nat_cmp (place_of other)) m) o
+    ap (λ f. chosen other f o) (updates.0 (key_of other))
+    ∙ kept (is_eq (nat_cmp number (key_of other))) (bytes_eq other name) other first
+    (get_by (nat_cmp (key_of other)) m) o
     (ap (λ t. bytes_eq t other) texts ∙ bytes_eq_symmetric name other)
-    (λ e. same-is_eq number (place_of other) (is ∙ ap place_of (sym ((bytes_eq-Decides other name).0 e))))
+    (λ e. same-is_eq number (key_of other) (is ∙ ap key_of (sym ((bytes_eq-Decides other name).0 e))))
     (λ e apart.
-    free_of name other (get_by (nat_cmp (place_of other)) m) o
+    free_of name other (get_by (nat_cmp (key_of other)) m) o
     (subst (λ (p : ℕ). is_free name (get_by (nat_cmp p) m) ≡ true)
-    (sym is ∙ is_eq-same number (place_of other) e) free)
+    (sym is ∙ is_eq-same number (key_of other) e) free)
     (bytes_eq_symmetric name other ∙ apart))
 
 passed : {V : Type 0} (b : Bool) (other : List ℕ) (first : Option (First V)) (v : V) (o : Option V)
@@ -142,21 +142,21 @@ passed true other None v o taken = let no : true ≡ false = taken refl in cc
 passed true other (Some first) v o taken = ap (λ t. cond t (Some first.value) (Some v)) (taken refl)
 passed false other first v o taken = refl
 
--- a name whose place is another's
+-- a name whose key is another's
 pub other_defined : {V : Type 0} (firsts : BTreeMap ℕ (First V)) (m n : BTreeMap (Bor (List ℕ)) V) (name other : List ℕ)
-    (v : V) → is_free name (get_by (nat_cmp (place_of name)) firsts) ≡ false
+    (v : V) → is_free name (get_by (nat_cmp (key_of name)) firsts) ≡ false
     → UpdatesBy (λ x y. slice_cmp nat_cmp x.now y.now) (λ k. slice_cmp nat_cmp name k.now) m n (Some v)
-    → chosen other (get_by (nat_cmp (place_of other)) firsts) (get_by (λ k. slice_cmp nat_cmp other k.now) n)
+    → chosen other (get_by (nat_cmp (key_of other)) firsts) (get_by (λ k. slice_cmp nat_cmp other k.now) n)
     ≡ cond (bytes_eq other name) (Some v)
-    (chosen other (get_by (nat_cmp (place_of other)) firsts) (get_by (λ k. slice_cmp nat_cmp other k.now) m))
+    (chosen other (get_by (nat_cmp (key_of other)) firsts) (get_by (λ k. slice_cmp nat_cmp other k.now) m))
 other_defined firsts m n name other v taken updates =
-    ap (chosen other (get_by (nat_cmp (place_of other)) firsts))
+    ap (chosen other (get_by (nat_cmp (key_of other)) firsts))
     (btree_map_updates_str name m n (Some v) updates other
     ∙ ap (λ b. cond b (Some v) (get_by (λ k. slice_cmp nat_cmp other k.now) m)) (bytes_eq_symmetric name other))
-    ∙ passed (bytes_eq other name) other (get_by (nat_cmp (place_of other)) firsts) v
+    ∙ passed (bytes_eq other name) other (get_by (nat_cmp (key_of other)) firsts) v
     (get_by (λ k. slice_cmp nat_cmp other k.now) m)
     (λ e.
-    subst (λ (q : List ℕ). is_free q (get_by (nat_cmp (place_of q)) firsts) ≡ false)
+    subst (λ (q : List ℕ). is_free q (get_by (nat_cmp (key_of q)) firsts) ≡ false)
     (sym ((bytes_eq-Decides other name).0 e)) taken)
 
 -- ---- the names
@@ -190,7 +190,7 @@ among_more true q first rest o a some more =
     (bytes_eq_symmetric first.text.now q) some
 among_more false q first rest o a some more = or_more (bytes_eq q first.text.now) a (is_some o) (more some)
 
--- a name that stands for something is kept at a place, or is found behind the places
+-- a name that stands for something is kept at a key, or is found behind the keys
 among_firsts : {V : Type 0} (test : ℕ → Bool) (q : List ℕ) (es : List (ℕ × First V)) (o : Option V)
     → is_some (chosen q (lookup test es) o) ≡ true
     → (list_any (bytes_eq q) (map (λ e. e.1.text.now) es) || is_some o) ≡ true
@@ -207,7 +207,7 @@ is_kept t q some =
     any_append (bytes_eq q) (map (λ e. e.1.text.now) t.firsts.entries) (map (λ e. e.0.now) t.others.entries)
     ∙ ap (λ b. list_any (bytes_eq q) (map (λ e. e.1.text.now) t.firsts.entries) || b)
     (sym (found_among q t.others.entries))
-    ∙ among_firsts (λ k. is_eq (nat_cmp (place_of q) k)) q t.firsts.entries (other_at t q) some
+    ∙ among_firsts (λ k. is_eq (nat_cmp (key_of q) k)) q t.firsts.entries (other_at t q) some
 
 -- a name stands for something exactly where it is one of the names
 pub is_some-named : {V : Type 0} (t : Names V) (name : List ℕ)
@@ -225,3 +225,11 @@ pub names_in-define : {V : Type 0} (t u : Names V) (added : List ℕ) (v : V)
 names_in-define t u added v defines other =
     sym (is_some-named u other) ∙ ap is_some (defines other) ∙ some_or (bytes_eq other added) v (named t other)
     ∙ ap (λ b. bytes_eq other added || b) (is_some-named t other)
+
+-- what the names of a table are
+pub what_was_defined : {V : Type 0} (t : Names V) → HasWhatWasDefined t
+what_was_defined t = record {
+  stands = λ name. sym (is_some-named t name);
+  none = λ none name. sym (is_some-named t name) ∙ ap is_some (none name);
+  more = λ u added value defines name. names_in-define t u added value defines name;
+}

@@ -7,7 +7,7 @@
 mod bytes;
 mod names;
 
-pub use names::Names;
+pub use names::{Names, names_are_what_was_defined};
 
 #[cfg(test)]
 mod tests;

@@ -1,15 +1,17 @@
 //! The table.
 
-ghost use Rattle.std.specs.Prelude.{◌≡◌, ℕ, List, None, Some, OnOk, OnErr, cond, true, false, option_copied};
+ghost use Rattle.std.specs.Prelude.{◌≡◌, ℕ, List, None, Some, OnOk, OnErr, cond, true, false};
+ghost use Rattle.std.specs.Prelude.{is_some, option_copied};
 ghost use Rattle.std.specs.List.{list_any};
 ghost use Rattle.std.specs.Str.{bytes_eq};
-ghost use Rattle.fm_names.specs.Named.{named, names_in, first_at, chosen, is_free};
+ghost use Rattle.fm_names.specs.Named.{HasWhatWasDefined, named, names_in};
+ghost use Rattle.fm_names.specs.Named.{first_at, chosen, is_free};
 
-use crate::bytes::place;
+use crate::bytes::key;
 use std::alloc::{AllocError, Global};
 use std::collections::BTreeMap;
 
-/// The first name of its place, and what it stands for.
+/// The first name of its key, and what it stands for.
 #[derive(Drop)]
 struct First<'s, V> {
     text: &'s [u8],
@@ -19,15 +21,16 @@ struct First<'s, V> {
 /// What each name stands for. The names are slices of one source.
 #[derive(Drop)]
 pub struct Names<'s, V> {
-    /// By place, which few names share.
+    /// By key, which few names share.
     firsts: BTreeMap<u64, First<'s, V>>,
-    /// The names whose place is another's.
+    /// The names whose key is another's.
     others: BTreeMap<&'s [u8], V>,
 }
 
-/// What a name stands for by what is kept at its place, or else by the other answer.
+// What a name stands for by what is kept at its key, or else by the other answer.
 fn choose<'v, V>(name: &[u8], first: Option<&'v First<V>>, other: Option<&'v V>) -> Option<&'v V>
-    ensures { option_copied result ≡ chosen name.now (option_copied first.entry) (option_copied other.entry) }
+    ensures { option_copied result
+        ≡ chosen name.now (option_copied first.entry) (option_copied other.entry) }
 {
     match first {
         None => other,
@@ -41,7 +44,7 @@ fn choose<'v, V>(name: &[u8], first: Option<&'v First<V>>, other: Option<&'v V>)
     }
 }
 
-/// Whether a place is free for a name.
+// Whether a key is free for a name.
 fn admits<V>(name: &[u8], first: Option<&First<V>>) -> bool
     ensures { result ≡ is_free name.now (option_copied first.entry) }
 {
@@ -63,22 +66,22 @@ impl<'s, V: Drop> Names<'s, V> {
         }
     }
 
-    /// What is kept at the place of a name.
+    // What is kept at the key of a name.
     fn first(&self, name: &[u8]) -> Option<&First<'s, V>>
         ensures { option_copied result ≡ first_at self.now name.now }
     {
-        let number = place(name);
+        let number = key(name);
         self.firsts.get(&number)
     }
 
-    /// Whether the place of a name is free for it.
+    // Whether the key of a name is free for it.
     fn has_room(&self, name: &[u8]) -> bool
         ensures { result ≡ is_free name.now (first_at self.now name.now) }
     {
         admits(name, self.first(name))
     }
 
-    /// Defines a name at its place.
+    // Defines a name at its key.
     #[tactic(auto, unfolding(crate::specs::Named::named))]
     fn define_first(&mut self, name: &'s [u8], value: V) -> Result<(), AllocError>
         requires { is_free name.now (first_at self.old name.now) ≡ true }
@@ -88,12 +91,12 @@ impl<'s, V: Drop> Names<'s, V> {
         ensures err { OnErr result ((other : List ℕ)
             → named self.new other ≡ named self.old other) }
     {
-        let number = place(name);
+        let number = key(name);
         self.firsts.insert(number, First { text: name, value })?;
         Ok(())
     }
 
-    /// Defines a name whose place is another's.
+    // Defines a name whose key is another's.
     #[tactic(auto, unfolding(crate::specs::Named::named))]
     fn define_other(&mut self, name: &'s [u8], value: V) -> Result<(), AllocError>
         requires { is_free name.now (first_at self.old name.now) ≡ false }
@@ -129,10 +132,17 @@ impl<'s, V: Drop> Names<'s, V> {
         choose(name, self.first(name), self.others.get(name))
     }
 
-    /// Whether the name was defined.
+    /// Whether the name was defined: exactly where `get` gives something.
     pub fn contains(&self, name: &[u8]) -> bool
-        ensures { result ≡ list_any (bytes_eq name.now) (names_in self.now) }
+        ensures stands { result ≡ is_some (named self.now name.now) }
+        ensures among { result ≡ list_any (bytes_eq name.now) (names_in self.now) }
     {
         self.get(name).is_some()
     }
 }
+
+/// Of every table: a name is among its names exactly where it stands for something; a table without
+/// names has none; and one definition more adds its name to those that there were.
+pub fn names_are_what_was_defined<V>(_names: &Names<V>)
+    ensures { HasWhatWasDefined _names.now }
+{}

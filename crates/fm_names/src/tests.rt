@@ -14,7 +14,7 @@ fn latest_definition_counts(rt: HostRuntime) -> Result<(), AllocError> {
 }
 
 #[test]
-fn names_of_one_place_are_told_apart(rt: HostRuntime) -> Result<(), AllocError> {
+fn names_of_one_key_are_told_apart(rt: HostRuntime) -> Result<(), AllocError> {
     let mut names = Names::new(rt.alloc());
     names.define(b"first_chorus", 1)?;
     names.define(b"other_chorus", 2)?;

@@ -1,8 +1,9 @@
 -- Levels of time, one open inside the other, and where they put a position of the innermost.
-use Rattle.std.specs.Prelude.{ℕ, ◌-◌, ◌≤◌, ◌<◌, List, [], ◌∷◌, ◌++◌, length, map, replicate, slice_index_or}
+use Rattle.std.specs.Prelude.{ℕ, ◌-◌, ◌≤◌, ◌<◌, min, List, [], ◌∷◌, ◌++◌, length, map, replicate, slice_index_or, All}
 use Rattle.fm_tick.specs.declared.tick.TheConstants.{MAX_TICK}
 use Rattle.fm_warp.specs.declared.part.Part.{Part}
 use Rattle.fm_warp.specs.declared.side.Side.{Side}
+use Rattle.fm_warp.specs.declared.side.Side.TheVariants.{Ending}
 use Rattle.fm_warp.specs.Deformation.{placed}
 use Rattle.fm_nest.specs.declared.frame.Frame.{Frame}
 use Rattle.fm_nest.specs.declared.level.Level.{Level}
@@ -54,3 +55,22 @@ abbrev pub framed : List ℕ → List ℕ → List Frame
 framed [] _ = []
 framed (_ ∷ _) [] = []
 framed (warp ∷ warps) (origin ∷ origins) = record { warp = warp; origin = origin } ∷ framed warps origins
+
+-- ---- ends of notes
+
+-- where a level puts the end of a note in the level above; an end behind the last tick counts as one at it
+abbrev pub lifted_end : List (List Part) → Frame → ℕ → ℕ
+lifted_end warps frame y = lifted Ending warps frame (min y MAX_TICK)
+
+-- where levels, the outermost first, put the end of a note of the innermost, each level what the levels inside it make
+abbrev pub far_composed : List (List Part) → List Frame → ℕ → ℕ
+far_composed _ [] y = y
+far_composed warps (frame ∷ inner) y = lifted_end warps frame (far_composed warps inner y)
+
+-- a frame names a deformation
+abbrev pub Names : List (List Part) → Frame → Type 0
+Names warps frame = frame.warp < length warps
+
+-- how far behind the last tick an end of a note lies at most
+abbrev pub most_behind : ℕ
+most_behind = 4000000

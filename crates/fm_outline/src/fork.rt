@@ -6,7 +6,7 @@ ghost use Rattle.std.specs.Prelude.{◌≤◌, length};
 
 use crate::step::{Instruction, Step};
 
-/// The block of a statement that has one and plays all of it, else an empty one.
+// The block of a statement that has one and plays all of it, else an empty one.
 fn block(what: &Instruction) -> &[Step] {
     match what {
         Instruction::Loop { body, .. } => body,
@@ -18,7 +18,7 @@ fn block(what: &Instruction) -> &[Step] {
     }
 }
 
-/// Whether a statement forks, where it is known of phrases.
+// Whether a statement forks, where it is known of phrases.
 fn forks(step: &Step, phrases: &[bool]) -> bool {
     match &step.what {
         Instruction::Par { .. } => true,

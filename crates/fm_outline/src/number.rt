@@ -31,7 +31,7 @@ pub(crate) fn ticks(length: &Length) -> u32
     }
 }
 
-/// The entries of a rhythm, which have no fault.
+// The entries of a rhythm, which have no fault.
 fn lengths(alloc: Global, list: &[Length]) -> Result<Vec<u32>, AllocError>
     requires { each_faults (length_faults 1920) length_spot MAX_ENTRIES list.now ≡ [] }
     ensures { IfOk result (λ l. l.items ≡ map (length_ticks 1920) list.now) }
@@ -43,7 +43,7 @@ fn lengths(alloc: Global, list: &[Length]) -> Result<Vec<u32>, AllocError>
     Ok(entries)
 }
 
-/// The numbers of a list.
+// The numbers of a list.
 fn numbers(alloc: Global, list: &[Number]) -> Result<Vec<u32>, AllocError>
     ensures { IfOk result (λ l. l.items ≡ map Number.value list.now) }
 {

@@ -13,7 +13,7 @@ use fm_tick::{MAX_STRETCH, Stretch};
 use fm_warp::{Part, Warp, WarpFault};
 use std::alloc::{AllocError, Global};
 
-/// A stretch.
+// A stretch.
 fn stretch(number: Number) -> Stretch
     ensures { result ≡ stretch_of number.value }
 {
@@ -22,7 +22,7 @@ fn stretch(number: Number) -> Stretch
     }
 }
 
-/// A part that has no fault.
+// A part that has no fault.
 fn part_of(part: &PartText) -> Part
     requires { part_faults 1920 part.now ≡ [] }
     ensures value { result ≡ part_of 1920 part.now }

@@ -34,7 +34,7 @@ pub(crate) fn place(entries: usize) -> Result<u32, AllocError>
     }
 }
 
-/// A copy of an expression without the places of its nodes in the text.
+// A copy of an expression without the places of its nodes in the text.
 fn nodes_alone(alloc: Global, expr: &Expr) -> Result<Expr, AllocError>
     ensures nodes { IfOk result (λ e. expr_nodes e ≡ expr_nodes expr.now) }
     ensures alone { IfOk result (λ e. e.spots.items ≡ []) }

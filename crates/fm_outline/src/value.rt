@@ -35,7 +35,7 @@ pub(crate) fn outline_draw(
     }
 }
 
-/// The key of a note.
+// The key of a note.
 fn outline_key(alloc: Global, pitch: &Pitch, tables: &mut Tables) -> Result<Draw, AllocError>
     requires { PitchFits (pitch_view pitch.now) }
     ensures { IfOk result (λ d. numbered d (tables_view tables.new)

@@ -34,7 +34,7 @@ pub(crate) struct Walk<'s> {
 }
 
 impl<'s> Walk<'s> {
-    /// Appends a statement that is played.
+    // Appends a statement that is played.
     fn play(&mut self, alloc: Global, item: &Item) -> Result<(), AllocError>
         requires { StmtInRange (item_view item.now).what }
         ensures { OnOk result ((score : tree.Score) (rest : List tree.Entry) →
@@ -49,7 +49,7 @@ impl<'s> Walk<'s> {
         Ok(())
     }
 
-    /// Lets a name stand for a phrase from here on.
+    // Lets a name stand for a phrase from here on.
     fn add_phrase(
         &mut self,
         alloc: Global,
@@ -69,7 +69,7 @@ impl<'s> Walk<'s> {
         self.known.phrases.define(name.text, number)
     }
 
-    /// Lets a name stand for a shape from here on.
+    // Lets a name stand for a shape from here on.
     fn add_shape(
         &mut self,
         alloc: Global,
@@ -86,7 +86,7 @@ impl<'s> Walk<'s> {
         self.known.shapes.define(name.text, number)
     }
 
-    /// Goes over one entry.
+    // Goes over one entry.
     fn enter(&mut self, alloc: Global, entry: &Entry<'s>) -> Result<(), AllocError>
         requires { (score : tree.Score) × (rest : List tree.Entry)
             × Walked score self.old (entry_view entry.now ∷ rest) }
@@ -101,7 +101,7 @@ impl<'s> Walk<'s> {
     }
 }
 
-/// The seed of a score's draws, 0 where the text has none.
+// The seed of a score's draws, 0 where the text has none.
 fn seed(score: &Score) -> u32
     ensures { result ≡ seed_of (score_view score.now).seed }
 {

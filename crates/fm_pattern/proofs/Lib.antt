@@ -1,1 +1,2 @@
 pub mod Cycles
+mod Numerals

@@ -8,7 +8,7 @@ ghost use Rattle.fm_places.specs.Needs.{loops_of, draw_loops, draws_loops, span_
 use fm_grammar::{Amount, Duration, Pitch};
 use fm_value::Node;
 
-/// For a node.
+// For a node.
 fn loops_of_node(node: Node) -> u32
     ensures { result ≡ loops_of (node ∷ []) }
 {
@@ -51,7 +51,7 @@ pub(crate) fn loops_of_amount(amount: &Amount) -> u32
     }
 }
 
-/// For a pitch.
+// For a pitch.
 fn loops_of_pitch(pitch: &Pitch) -> u32
     ensures { result ≡ draw_loops (key_draw (pitch_view pitch.now)) }
 {

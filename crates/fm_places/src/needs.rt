@@ -78,7 +78,7 @@ pub(crate) fn both(a: Needs, b: Needs) -> Needs
     }
 }
 
-/// One level more, up to one more than there may be.
+// One level more, up to one more than there may be.
 fn deeper(most: u32, levels: u32) -> u32
     requires { most < 100 }
     ensures { result ≡ deeper_than most levels }

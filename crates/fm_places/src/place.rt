@@ -15,7 +15,7 @@ use fm_grammar::Item;
 use fm_lex::Spot;
 use fm_names::Names;
 
-/// Whether more blocks lie inside one another than may.
+// Whether more blocks lie inside one another than may.
 fn is_too_deep(needs: Needs, inner: Depths) -> bool
     ensures { result ≡ too_deep_in needs (depths_view inner) }
 {
@@ -24,7 +24,7 @@ fn is_too_deep(needs: Needs, inner: Depths) -> bool
         || MAX_BLOCKS < inner.blocks.saturating_add(needs.blocks)
 }
 
-/// A statement that asks for this, between the blocks round it and those inside it.
+// A statement that asks for this, between the blocks round it and those inside it.
 fn check_needs(spot: Spot, needs: Needs, round: Depths, inner: Depths) -> Result<(), PlaceFault>
     ensures { found result
         ≡ first_found (missing spot needs (depths_view round) (depths_view inner)) }

@@ -15,7 +15,7 @@ use crate::place::check_own;
 use fm_grammar::{Item, What};
 use fm_names::Names;
 
-/// What the statements inside a statement ask.
+// What the statements inside a statement ask.
 #[cycle(needs)]
 fn needs_inside(item: &Item, phrases: &Names<Needs>) -> Needs
     ensures { result ≡ inner_needs (needs_at phrases.now) (item_view item.now).what }
@@ -50,7 +50,7 @@ fn needs_inside(item: &Item, phrases: &Names<Needs>) -> Needs
     }
 }
 
-/// What a statement asks.
+// What a statement asks.
 #[cycle(needs)]
 fn needs_of_item(item: &Item, phrases: &Names<Needs>) -> Needs
     ensures { result ≡ stmt_needs (needs_at phrases.now) (item_view item.now).what }
@@ -70,7 +70,7 @@ pub(crate) fn needs_of_items(items: &[Item], phrases: &Names<Needs>) -> Needs
     needs
 }
 
-/// The first fault of the statements inside a statement.
+// The first fault of the statements inside a statement.
 #[cycle(places)]
 fn check_inside(item: &Item, depths: Depths, phrases: &Names<Needs>) -> Result<(), PlaceFault>
     requires { IsWithin (depths_view depths) }

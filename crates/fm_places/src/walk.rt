@@ -16,7 +16,7 @@ use fm_grammar::{Entry, Score};
 use fm_names::Names;
 use std::alloc::{AllocError, Global};
 
-/// The first fault of an entry.
+// The first fault of an entry.
 fn check_entry(entry: &Entry, phrases: &Names<Needs>) -> Result<(), PlaceFault>
     ensures { found result
         ≡ first_found (entry_places (needs_at phrases.now) (entry_view entry.now)) }
@@ -27,7 +27,7 @@ fn check_entry(entry: &Entry, phrases: &Names<Needs>) -> Result<(), PlaceFault>
     }
 }
 
-/// Defines what the entry defines: what a phrase asks is found once, here.
+// Defines what the entry defines: what a phrase asks is found once, here.
 fn define<'s>(phrases: &mut Names<'s, Needs>, entry: &Entry<'s>) -> Result<(), AllocError>
     ensures { OnOk result (needs_at phrases.new
         ≡ behind (entry_view entry.now) (needs_at phrases.old)) }
@@ -41,14 +41,14 @@ fn define<'s>(phrases: &mut Names<'s, Needs>, entry: &Entry<'s>) -> Result<(), A
     }
 }
 
-/// A table without phrases.
+// A table without phrases.
 fn no_phrases<'s>(alloc: Global) -> Names<'s, Needs>
     ensures { needs_at result ≡ nothing_known }
 {
     Names::new(alloc)
 }
 
-/// The first fault of the entries.
+// The first fault of the entries.
 fn first_of_entries(alloc: Global, entries: &[Entry]) -> Result<Option<PlaceFault>, AllocError>
     ensures { IfOk result (λ f. option_map numbered f
         ≡ first_found (entries_places nothing_known (map entry_view entries.now))) }

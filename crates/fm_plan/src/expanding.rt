@@ -25,7 +25,7 @@ pub struct Expanded {
     pub scopes: Scopes,
 }
 
-/// How often a loop goes round that is written out.
+// How often a loop goes round that is written out.
 fn written_rounds(count: Count) -> u32
     ensures { result ≡ expansion.written_rounds count }
 {
@@ -35,8 +35,8 @@ fn written_rounds(count: Count) -> u32
     }
 }
 
-/// A statement. It names phrases of `earlier`, of which `forks` says which fork; it is written out
-/// where `forking` says that it may fork.
+// A statement. It names phrases of `earlier`, of which `forks` says which fork; it is written out
+// where `forking` says that it may fork.
 #[cycle(expand)]
 fn expand_step(
     m: &mut Emitter,
@@ -122,7 +122,7 @@ fn expand_step(
     }
 }
 
-/// Statements in turn.
+// Statements in turn.
 #[cycle(expand)]
 fn expand_steps(
     m: &mut Emitter,
@@ -143,7 +143,7 @@ fn expand_steps(
     Ok(())
 }
 
-/// A phrase: of the phrases before it, it may name each.
+// A phrase: of the phrases before it, it may name each.
 #[cycle(expand)]
 fn expand_phrase(
     m: &mut Emitter,
@@ -172,7 +172,7 @@ fn expand_phrase(
     }
 }
 
-/// A choice: where the value is not above 0, its first block is passed over, else its second.
+// A choice: where the value is not above 0, its first block is passed over, else its second.
 #[cycle(expand)]
 fn expand_choice(
     m: &mut Emitter,
@@ -213,7 +213,7 @@ fn expand_choice(
     Ok(())
 }
 
-/// A loop in a frame.
+// A loop in a frame.
 #[cycle(expand)]
 fn expand_loop(
     m: &mut Emitter,
@@ -257,7 +257,7 @@ fn expand_loop(
     Ok(())
 }
 
-/// A loop that is written out round by round.
+// A loop that is written out round by round.
 #[cycle(expand)]
 fn expand_rounds(
     m: &mut Emitter,
@@ -282,7 +282,7 @@ fn expand_rounds(
     Ok(())
 }
 
-/// A fork: a program for each branch, and one for what follows.
+// A fork: a program for each branch, and one for what follows.
 #[cycle(expand)]
 fn expand_fork(
     m: &mut Emitter,
@@ -310,7 +310,7 @@ fn expand_fork(
     Ok(())
 }
 
-/// A deformation.
+// A deformation.
 #[cycle(expand)]
 fn expand_warp(
     m: &mut Emitter,
@@ -334,7 +334,7 @@ fn expand_warp(
     Ok(())
 }
 
-/// A list in a frame.
+// A list in a frame.
 #[cycle(expand)]
 fn expand_list(
     m: &mut Emitter,

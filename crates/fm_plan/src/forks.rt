@@ -7,7 +7,7 @@ ghost use Rattle.fm_outline.specs.View.{Look, block_view, step_view, phrase_at, 
 use fm_outline::{Instruction, Step};
 use std::alloc::{AllocError, Global};
 
-/// Whether a statement forks, where it is known of phrases.
+// Whether a statement forks, where it is known of phrases.
 #[cycle(forks)]
 fn step_forks(step: &Step, phrases: &[bool]) -> bool
     ensures { (look : Look) →
@@ -32,7 +32,7 @@ fn step_forks(step: &Step, phrases: &[bool]) -> bool
     }
 }
 
-/// Whether one of the statements does. The one at the place `first` is asked before all others.
+// Whether one of the statements does. The one at the place `first` is asked before all others.
 #[cycle(forks)]
 fn steps_fork(steps: &[Step], first: usize, phrases: &[bool]) -> bool
     ensures { (look : Look) →
@@ -50,7 +50,7 @@ fn steps_fork(steps: &[Step], first: usize, phrases: &[bool]) -> bool
     false
 }
 
-/// Whether a phrase does.
+// Whether a phrase does.
 fn phrase_forks(number: Option<u32>, phrases: &[bool]) -> bool
     ensures { (look : Look) →
         ((n : ℕ) → slice_index_or phrases.now n false ≡ emission.forks_in (look n)) →

@@ -90,7 +90,7 @@ impl Inside {
         })
     }
 
-    /// Where a quality is taken from this turn.
+    // Where a quality is taken from this turn.
     fn with_turn(self, quality: Quality, taken: Turn) -> Inside
         ensures { result ≡ turned self quality taken }
     {
@@ -128,7 +128,7 @@ impl Inside {
     }
 }
 
-/// The next number.
+// The next number.
 fn one_more(n: u32) -> Result<u32, AllocError>
     ensures { IfOk result (λ k. k ≡ n + 1) }
 {

@@ -8,7 +8,7 @@ use fm_outline::{Instruction, Lasting, Outline, Step, Tables};
 use fm_program::{Count, Op, Span, Turn};
 use std::alloc::{AllocError, Global};
 
-/// A statement whose place in the text plays no part.
+// A statement whose place in the text plays no part.
 fn step(what: Instruction) -> Step {
     Step {
         spot: Spot { line: 1, column: 1 },
@@ -35,7 +35,7 @@ fn note_in(scope: u32) -> Op {
     }
 }
 
-/// An outline of one phrase, a note, and these statements.
+// An outline of one phrase, a note, and these statements.
 fn outline(alloc: Global, block: Vec<Step>) -> Result<Outline, AllocError> {
     let phrase = vec![in alloc; note()]?;
     Ok(Outline {
@@ -51,7 +51,7 @@ fn outline(alloc: Global, block: Vec<Step>) -> Result<Outline, AllocError> {
     })
 }
 
-/// A loop of three rounds that brings in the phrase.
+// A loop of three rounds that brings in the phrase.
 fn loop_of_phrase(alloc: Global) -> Result<Step, AllocError> {
     let body = vec![in alloc; step(Instruction::Phrase { number: Some(0) })]?;
     Ok(step(Instruction::Loop {
@@ -98,7 +98,7 @@ fn a_fork_makes_processes_and_what_follows_waits(rt: HostRuntime) -> Result<(), 
     Ok(())
 }
 
-/// A loop over statements of which so many stand before the first that forks.
+// A loop over statements of which so many stand before the first that forks.
 fn loop_that_forks(rounds: u32, before_fork: usize, body: Vec<Step>) -> Step {
     Step {
         spot: Spot { line: 1, column: 1 },

@@ -11,5 +11,6 @@ pub mod Lowering
 pub mod Whole
 pub mod Fresh
 pub mod ComesToEnd
+pub mod LooksTo
 mod Rows
 mod Ends

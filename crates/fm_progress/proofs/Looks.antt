@@ -28,7 +28,8 @@ use Rattle.fm_progress.proofs.Falls.{only_gathered, by_phase, by_lacking, by_loo
 use Rattle.fm_progress.specs.Left.{workable, is_spare, waits_for_visit, stirred, idle, phase, lacking, any_stale, any_stale_in, empty_handed, looks_in, looks_to, stale_in}
 use Rattle.fm_progress.specs.Progress.{Nearer}
 
-apart : (a b : ℕ) → a ≢ b → nat_eq a b ≡ false
+-- numbers that differ are told apart
+pub apart : (a b : ℕ) → a ≢ b → nat_eq a b ≡ false
 apart a b n = go (nat_eq a b) refl
   where
     go : (x : Bool) → nat_eq a b ≡ x → nat_eq a b ≡ false
@@ -41,11 +42,13 @@ differ a b e same = let yes_it = eq-eqb a b same in absurd (cc)
 positive : (t : ℕ) → t ≢ 0 → 0 < t
 positive t n = dite (ℕ_discrete t 0) (λ e. absurd (n e)) (λ d. omega arith)
 
-looks_far : (n t : ℕ) → t ≢ 0 → t + 1 ≢ n → n ≤ t → looks_to n t ≡ t + 1 - n
+-- a process that the sweep has not reached is as many looks away as it lacks
+pub looks_far : (n t : ℕ) → t ≢ 0 → t + 1 ≢ n → n ≤ t → looks_to n t ≡ t + 1 - n
 looks_far n t a b c = if_false {A = ℕ} (nat_eq t 0 || nat_eq (t + 1) n) 1 (if nat_lt t n then t + 1 else t + 1 - n)
     (neither _ _ (apart t 0 a) (apart (t + 1) n b)) ∙ if_false {A = ℕ} (nat_lt t n) (t + 1) (t + 1 - n) (le-ltb t n c)
 
-looks_back : (n t : ℕ) → t ≢ 0 → t + 1 ≢ n → t < n → looks_to n t ≡ t + 1
+-- one that the sweep has passed is reached from 0 on
+pub looks_back : (n t : ℕ) → t ≢ 0 → t + 1 ≢ n → t < n → looks_to n t ≡ t + 1
 looks_back n t a b c = if_false {A = ℕ} (nat_eq t 0 || nat_eq (t + 1) n) 1 (if nat_lt t n then t + 1 else t + 1 - n)
     (neither _ _ (apart t 0 a) (apart (t + 1) n b)) ∙ if_true {A = ℕ} (nat_lt t n) (t + 1) (t + 1 - n) (lt-ltb t n c)
 
@@ -53,7 +56,8 @@ empty_is : (xs : List Sight) → length xs ≡ 0 → xs ≡ []
 empty_is [] e = refl
 empty_is (x ∷ xs) e = absurd (omega arith)
 
-turn_next : (n : ℕ) → (nat_eq n 0 || nat_eq n n || nat_eq (n + 1) n) ≡ true
+-- the next process is in turn
+pub turn_next : (n : ℕ) → (nat_eq n 0 || nat_eq n n || nat_eq (n + 1) n) ≡ true
 turn_next n = or_left (nat_eq n 0 || nat_eq n n) (nat_eq (n + 1) n) (or_right (nat_eq n 0) (nat_eq n n) (eq-eqb n n refl))
 
 -- a look at the next process extends the sweep

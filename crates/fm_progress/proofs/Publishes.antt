@@ -13,7 +13,8 @@ use Rattle.fm_core.proofs.Bounds.{bound_born, bound_above}
 use Rattle.fm_core.proofs.Elements.{same_all}
 use Rattle.fm_core.proofs.Reasons.{no_reason}
 use Rattle.fm_core.proofs.Sums.{sum_le, sum_same, counted}
-use Rattle.fm_core.proofs.Sweeps.{Lowest, lowest, LeastOf, least_is}
+use Rattle.fm_core.proofs.Sweeps.{lowest, LeastOf, least_is}
+use Rattle.fm_core.specs.Least.{Lowest}
 use Rattle.fm_core.proofs.TagLemmas.{at_home, ended_here, drained_is}
 use Rattle.fm_core.specs.Effects.{published}
 use Rattle.fm_core.specs.Invariant.{ValidSetting, Sound, of_process}

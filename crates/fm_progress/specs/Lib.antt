@@ -1,3 +1,4 @@
 pub mod Left
 pub mod NextStep
 pub mod Progress
+pub mod Looks

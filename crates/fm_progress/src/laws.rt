@@ -5,7 +5,8 @@ ghost use Rattle.fm_core.specs.declared.sight.Sight.{Sight};
 ghost use Rattle.fm_core.specs.Invariant.{ValidSetting, Sound};
 ghost use Rattle.fm_core.specs.Numbers.{any_below};
 ghost use Rattle.fm_core.specs.State.{Setting, State};
-ghost use Rattle.fm_progress.specs.Left.{Lowerable, changed_in, idle, stale_in};
+ghost use Rattle.fm_progress.specs.Left.{Lowerable, changed_in, idle, looks_to, stale_in};
+ghost use Rattle.fm_progress.specs.Looks.{IsLeastLooks};
 ghost use Rattle.fm_progress.specs.NextStep.{next_step};
 ghost use Rattle.fm_progress.specs.Progress.{ComesToEnd, Finished, GoesOn, PlaysAll};
 
@@ -41,4 +42,10 @@ pub fn freshness_needs_no_bounds()
         → length seen ≤ length h.cells
         → any_below (length seen) (stale_in g h seen)
         ≡ any_below (length seen) (changed_in g h seen) }
+{}
+
+/// The looks to a process are the least number of looks, each in turn, after which the sweep stands
+/// there.
+pub fn looks_are_the_least()
+    ensures { (seen : List Sight) (t : ℕ) → IsLeastLooks seen t (looks_to (length seen) t) }
 {}

@@ -9,4 +9,7 @@
 
 mod laws;
 
-pub use laws::{freshness_needs_no_bounds, idle_is_what_it_says, never_stuck, plays_the_piece};
+pub use laws::{
+    freshness_needs_no_bounds, idle_is_what_it_says, looks_are_the_least, never_stuck,
+    plays_the_piece,
+};

@@ -1,17 +1,17 @@
 -- The events of a process are numbered from 0, are in range, and all of them are as many as there are messages.
-use Rattle.std.proofs.Common.{◌≡◌, ℕ, zero, suc, ◌+◌, ◌<◌, ◌≤◌, ◌⊎◌, inl, inr, Bool, true, false, List, [], ◌∷◌, length, refl, ap, sym, ◌∙◌, subst, arith}
-use Rattle.std.specs.Prelude.{Option, Some, None, IsTrue, nat_eq, slice_index_or, if◌then◌else◌}
+use Rattle.std.proofs.Common.{◌≡◌, ℕ, zero, suc, ◌+◌, ◌<◌, ◌≤◌, ◌⊎◌, inl, inr, Bool, true, false, List, [], ◌∷◌, length, refl, ap, sym, subst, arith}
+use Rattle.std.specs.Prelude.{IsTrue, nat_eq, slice_index_or, if◌then◌else◌}
 use Rattle.std.specs.List.{AllByRecursion}
 use Rattle.std.proofs.lemmas.Bool.{cases_lt, eqb-true, eq-eqb}
 use Rattle.fm_msg.specs.declared.msg.Msg.{Msg}
 use Rattle.fm_msg.specs.Event.{TimedMessage}
 use Rattle.fm_msg.specs.Message.{is_in_range}
 use Rattle.fm_line.specs.Line.{event_at, sum_below}
-use Rattle.fm_line.specs.Marks.{Mark, process_events}
-use Rattle.fm_promise.proofs.Lists.{each_weaken}
-use Rattle.fm_promise.proofs.Pens.{Pen, pen_after, Numbered, IsPen, rises_after, InRange, numbered_range}
+use Rattle.fm_line.specs.Marks.{Mark, process_end, process_events, process_sounds}
+use Rattle.fm_line.specs.Sounds.{Sound, come_out, numbered}
+use Rattle.fm_line.proofs.OutKeeping.{all-come_out, length-events}
 use Rattle.fm_promise.proofs.Good.{IsHeard, sounds_of, sounds}
-use Rattle.fm_promise.proofs.OneProcess.{event_of_mark, Seen, other, sound, stop, seen, absent_events}
+use Rattle.fm_promise.proofs.OneProcess.{Seen, other, sound, stop, seen}
 
 -- ---- numbers
 
@@ -24,106 +24,42 @@ pub record IsEventOf (p i : ℕ) (e : TimedMessage) : Type 0 where
 abbrev pub EventsFrom : (p i : ℕ) → List TimedMessage → Type 0
 EventsFrom p i es = (k d : ℕ) → k < length es → IsEventOf p (i + k) (slice_index_or es k (event_at d))
 
--- no events
-none_from : (p i : ℕ) (es : List TimedMessage) → es ≡ [] → EventsFrom p i es
-none_from p i es is k d within = absurd (omega (arith, within, ap length is))
-
--- one event more
-one_from : (p i : ℕ) (e : TimedMessage) (es : List TimedMessage) → IsEventOf p i e → EventsFrom p (i + 1) es → EventsFrom p i (e ∷ es)
-one_from p i e es first rest zero d within = record { process = first.process; index = omega (arith, first.index) }
-one_from p i e es first rest (suc k) d within =
-    let later = rest k d (omega (arith, within)) in record { process = later.process; index = omega (arith, later.index) }
-
--- behind a message the number is one more
-after_message : (m : Mark) (p : Pen) (x : Msg) → m.msg ≡ Some x
-    → pen_after m p ≡ record { process = p.process; index = p.index + 1; given = p.given }
-after_message m p x some = rw some refl
-
--- behind an end the pen is that of the next process
-after_end_pen : (m : Mark) (p : Pen) → m.msg ≡ None → pen_after m p ≡ record { process = p.given; index = 0; given = p.given + 1 }
-after_end_pen m p none = rw none refl
-
--- marks of later processes alone
-past_events : (p : ℕ) (pen : Pen) (ms : List Mark) → p < pen.process → IsPen pen → Numbered pen ms → process_events p ms ≡ []
-past_events p pen ms later is_pen numbered =
-    absent_events p ms (each_weaken (InRange pen.process _) (λ y. p < y.process) (λ y i. omega (arith, i.from, later)) ms
-    (numbered_range pen ms is_pen numbered))
-
--- the events of the pen's process
-own_events : (p : ℕ) (pen : Pen) (ms : List Mark) → pen.process ≡ p → IsPen pen → Numbered pen ms
-    → EventsFrom p pen.index (process_events p ms)
-own_events p pen [] own is_pen numbered = none_from p pen.index [] refl
-own_events p pen (m ∷ ms) own is_pen numbered =
-    by_kind (seen p m ms) (λ same. own_events p (pen_after m pen) ms same (rises_after m pen is_pen).is_pen numbered.2)
-  where
-    by_kind : Seen p m ms → ((pen_after m pen).process ≡ p → EventsFrom p (pen_after m pen).index (process_events p ms))
-        → EventsFrom p pen.index (process_events p (m ∷ ms))
-    by_kind (other not_own _ _) rest = absurd (not_own (numbered.0 ∙ own))
-    by_kind (sound same x some is _) rest =
-        subst (EventsFrom p pen.index) (sym is)
-        (one_from p pen.index (event_of_mark m x) (process_events p ms) (record { process = same; index = numbered.1 })
-        (subst (λ i. EventsFrom p i (process_events p ms)) (ap (λ q. q.index) (after_message m pen x some))
-        (rest (ap (λ q. q.process) (after_message m pen x some) ∙ own))))
-    by_kind (stop same none is _) rest =
-        none_from p pen.index (process_events p (m ∷ ms)) (is ∙ past_events p (pen_after m pen) ms
-        (omega (arith, ap (λ q. q.process) (after_end_pen m pen none), own, is_pen)) (rises_after m pen is_pen).is_pen numbered.2)
-
--- a pen at a process that comes first, or later
-pub numbers : (p : ℕ) (pen : Pen) (ms : List Mark) → (pen.process < p) ⊎ ((pen.process ≡ p) × (pen.index ≡ 0)) ⊎ (p < pen.process)
-    → IsPen pen → Numbered pen ms → EventsFrom p 0 (process_events p ms)
-numbers p pen ms (inr (inr later)) is_pen numbered = none_from p 0 (process_events p ms) (past_events p pen ms later is_pen numbered)
-numbers p pen ms (inr (inl here)) is_pen numbered =
-    subst (λ i. EventsFrom p i (process_events p ms)) here.1 (own_events p pen ms here.0 is_pen numbered)
-numbers p pen [] (inl before) is_pen numbered = none_from p 0 [] refl
-numbers p pen (m ∷ ms) (inl before) is_pen numbered =
-    by_kind (seen p m ms) (λ place. numbers p (pen_after m pen) ms place (rises_after m pen is_pen).is_pen numbered.2)
-  where
-    Place : Type 0
-    Place = ((pen_after m pen).process < p) ⊎ (((pen_after m pen).process ≡ p) × ((pen_after m pen).index ≡ 0)) ⊎
-        (p < (pen_after m pen).process)
-
-    at_given : (pen_after m pen ≡ record { process = pen.given; index = 0; given = pen.given + 1 })
-        → (pen.given < p) ⊎ (p ≤ pen.given) → (p < pen.given) ⊎ (pen.given ≤ p) → Place
-    at_given is (inl first) _ = inl (omega (arith, ap (λ q. q.process) is, first))
-    at_given is (inr _) (inl last) = inr (inr (omega (arith, ap (λ q. q.process) is, last)))
-    at_given is (inr low) (inr high) = inr (inl (omega (arith, ap (λ q. q.process) is, low, high), ap (λ q. q.index) is))
-
-    place_by : (o : Option Msg) → m.msg ≡ o → Place
-    place_by None none = at_given (after_end_pen m pen none) (cases_lt pen.given p) (cases_lt p pen.given)
-    place_by (Some x) some = inl (omega (arith, ap (λ q. q.process) (after_message m pen x some), before))
-
-    by_kind : Seen p m ms → (Place → EventsFrom p 0 (process_events p ms)) → EventsFrom p 0 (process_events p (m ∷ ms))
-    by_kind (other _ is _) rest = subst (EventsFrom p 0) (sym is) (rest (place_by m.msg refl))
-    by_kind (sound own x some is _) rest = absurd (omega (arith, own, numbered.0, before))
-    by_kind (stop own none is _) rest = absurd (omega (arith, own, numbered.0, before))
+-- sounds that are numbered are such events
+pub numbered_from : (p i : ℕ) (xs : List Sound) → EventsFrom p i (numbered p i xs)
+numbered_from p i [] k d within = absurd (omega (arith, within))
+numbered_from p i (x ∷ xs) zero d within = record { process = refl; index = omega arith }
+numbered_from p i (x ∷ xs) (suc k) d within =
+    let later = numbered_from p (i + 1) xs k d (omega (arith, within)) in
+    record { process = later.process; index = omega (arith, later.index) }
 
 -- ---- messages
+
+-- the messages of sounds are in range
+abbrev InRange : List Sound → Type 0
+InRange xs = AllByRecursion (λ (x : Sound). IsTrue (is_in_range x.msg)) xs
+
+-- those of a process are
+sounds_heard : (p : ℕ) (ms : List Mark) → AllByRecursion (λ x. IsHeard x.msg) ms → InRange (process_sounds p ms)
+sounds_heard p [] heard = tt
+sounds_heard p (m ∷ ms) heard = by_kind (seen p m ms) (sounds_heard p ms heard.1)
+  where
+    by_kind : Seen p m ms → InRange (process_sounds p ms) → InRange (process_sounds p (m ∷ ms))
+    by_kind (other _ is _) rest = subst InRange (sym is) rest
+    by_kind (sound _ x some is _) rest = subst InRange (sym is) (subst IsHeard some heard.0, rest)
+    by_kind (stop _ _ is _) rest = subst InRange (sym is) rest
+
+numbered_heard : (p i : ℕ) (xs : List Sound) → InRange xs → (k d : ℕ) → k < length (numbered p i xs)
+    → IsTrue (is_in_range (slice_index_or (numbered p i xs) k (event_at d)).msg)
+numbered_heard p i [] heard k d within = absurd (omega (arith, within))
+numbered_heard p i (x ∷ xs) heard zero d within = heard.0
+numbered_heard p i (x ∷ xs) heard (suc k) d within = numbered_heard p (i + 1) xs heard.1 k d (omega (arith, within))
 
 -- the events of a process are in range
 pub events_heard : (p : ℕ) (ms : List Mark) → AllByRecursion (λ x. IsHeard x.msg) ms
     → (k d : ℕ) → k < length (process_events p ms) → IsTrue (is_in_range (slice_index_or (process_events p ms) k (event_at d)).msg)
-events_heard p [] heard k d within = absurd (omega (arith, within))
-events_heard p (m ∷ ms) heard k d within = by_kind k (seen p m ms) within (events_heard p ms heard.1)
-  where
-    Rest : Type 0
-    Rest = (k d : ℕ) → k < length (process_events p ms) → IsTrue (is_in_range (slice_index_or (process_events p ms) k (event_at d)).msg)
-
-    at_front : (k : ℕ) (x : Msg) → m.msg ≡ Some x → k < length (event_of_mark m x ∷ process_events p ms) → Rest
-        → IsTrue (is_in_range (slice_index_or (event_of_mark m x ∷ process_events p ms) k (event_at d)).msg)
-    at_front zero x some in_list rest = subst IsHeard some heard.0
-    at_front (suc k) x some in_list rest = rest k d (omega (arith, in_list))
-
-    by_kind : (k : ℕ) → Seen p m ms → k < length (process_events p (m ∷ ms)) → Rest
-        → IsTrue (is_in_range (slice_index_or (process_events p (m ∷ ms)) k (event_at d)).msg)
-    by_kind k (other _ is _) in_list rest =
-        subst (λ es. IsTrue (is_in_range (slice_index_or es k (event_at d)).msg)) (sym is)
-        (rest k d (omega (arith, in_list, ap length is)))
-    by_kind k (sound _ x some is _) in_list rest =
-        subst (λ es. IsTrue (is_in_range (slice_index_or es k (event_at d)).msg)) (sym is)
-        (at_front k x some (omega (arith, in_list, ap length is)) rest)
-    by_kind k (stop _ _ is _) in_list rest =
-        subst (λ es. IsTrue (is_in_range (slice_index_or es k (event_at d)).msg)) (sym is)
-        (rest k d (omega (arith, in_list, ap length is)))
+events_heard p ms heard =
+    numbered_heard p 0 (come_out (process_sounds p ms) (process_end p ms))
+    (all-come_out (λ (x : Msg). IsTrue (is_in_range x)) (process_end p ms) [] (process_sounds p ms) tt (sounds_heard p ms heard))
 
 -- ---- how many
 
@@ -158,13 +94,13 @@ sum_one (suc n) q c f = by_place (cases_lt q n) (sum_one n q c f)
     by_place (inl smaller) rest = omega (arith, rest, adds_elsewhere q c n (nat_eq q n) refl (λ same. omega (arith, same, smaller)))
     by_place (inr past) rest = omega (arith, adds_at q c n (nat_eq q n) refl, sum_elsewhere n q c f past)
 
--- a mark adds at most its message to the events of its process
-one_more_event : (p : ℕ) (m : Mark) (ms : List Mark)
-    → length (process_events p (m ∷ ms)) ≤ (if nat_eq m.process p then sounds_of m.msg else 0) + length (process_events p ms)
-one_more_event p m ms = by_kind (seen p m ms)
+-- a mark adds at most its message to the sounds of its process
+one_more_sound : (p : ℕ) (m : Mark) (ms : List Mark)
+    → length (process_sounds p (m ∷ ms)) ≤ (if nat_eq m.process p then sounds_of m.msg else 0) + length (process_sounds p ms)
+one_more_sound p m ms = by_kind (seen p m ms)
   where
     by_kind : Seen p m ms
-        → length (process_events p (m ∷ ms)) ≤ (if nat_eq m.process p then sounds_of m.msg else 0) + length (process_events p ms)
+        → length (process_sounds p (m ∷ ms)) ≤ (if nat_eq m.process p then sounds_of m.msg else 0) + length (process_sounds p ms)
     by_kind (other _ is _) = omega (arith, ap length is)
     by_kind (stop _ _ is _) = omega (arith, ap length is)
     by_kind (sound own x some is _) =
@@ -176,14 +112,24 @@ sum_nothing : (n : ℕ) → sum_below n (λ p. 0) ≡ 0
 sum_nothing zero = refl
 sum_nothing (suc n) = omega (arith, sum_nothing n)
 
--- all events of the first n processes are no more than all messages
-pub events_counted : (n : ℕ) (ms : List Mark) → sum_below n (λ p. length (process_events p ms)) ≤ sounds ms
-events_counted n [] = omega (arith, sum_nothing n)
-events_counted n (m ∷ ms) =
+-- all sounds of the first n processes are no more than all messages
+sounds_counted : (n : ℕ) (ms : List Mark) → sum_below n (λ p. length (process_sounds p ms)) ≤ sounds ms
+sounds_counted n [] = omega (arith, sum_nothing n)
+sounds_counted n (m ∷ ms) =
     omega (
       arith,
-      events_counted n ms,
-      sum_same n (λ p. length (process_events p (m ∷ ms)))
-          (λ p. (if nat_eq m.process p then sounds_of m.msg else 0) + length (process_events p ms)) (λ p _. one_more_event p m ms),
-      sum_one n m.process (sounds_of m.msg) (λ p. length (process_events p ms)),
+      sounds_counted n ms,
+      sum_same n (λ p. length (process_sounds p (m ∷ ms)))
+          (λ p. (if nat_eq m.process p then sounds_of m.msg else 0) + length (process_sounds p ms)) (λ p _. one_more_sound p m ms),
+      sum_one n m.process (sounds_of m.msg) (λ p. length (process_sounds p ms)),
+    )
+
+-- nor are all their events
+pub events_counted : (n : ℕ) (ms : List Mark) → sum_below n (λ p. length (process_events p ms)) ≤ sounds ms
+events_counted n ms =
+    omega (
+      arith,
+      sounds_counted n ms,
+      sum_same n (λ p. length (process_events p ms)) (λ p. length (process_sounds p ms))
+          (λ p _. omega (arith, length-events p (process_end p ms) (process_sounds p ms))),
     )

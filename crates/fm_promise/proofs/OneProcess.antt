@@ -1,29 +1,30 @@
 -- The line of one process, read off the marks of all: its events in their order, and its end behind them.
-use Rattle.std.proofs.Common.{◌≡◌, ℕ, zero, suc, ◌<◌, ◌≤◌, ◌⊎◌, inl, inr, Bool, true, false, List, [], ◌∷◌, refl, sym, ◌∙◌, subst, arith, true≢false}
-use Rattle.std.specs.Prelude.{Option, Some, None, nat_eq, slice_index_or}
+use Rattle.std.proofs.Common.{◌≡◌, ℕ, zero, suc, ◌+◌, ◌<◌, ◌≤◌, ◌⊎◌, inl, inr, Bool, true, false, List, [], ◌∷◌, refl, sym, ◌∙◌, subst, arith, true≢false}
+use Rattle.std.specs.Prelude.{Option, Some, None, nat_eq, slice_index_or, if◌then◌else◌}
 use Rattle.std.specs.List.{AllByRecursion}
 use Rattle.std.proofs.lemmas.Bool.{eqb-true, eq-eqb}
 use Rattle.fm_msg.specs.declared.msg.Msg.{Msg}
-use Rattle.fm_msg.specs.Event.{TimedMessage}
 use Rattle.fm_line.specs.Line.{event_at}
-use Rattle.fm_line.specs.Marks.{Mark, mark_time, process_events, process_end}
+use Rattle.fm_line.specs.Marks.{Mark, mark_time, process_sounds, process_end}
+use Rattle.fm_line.specs.Sounds.{Sound, is_note_off, come_out, numbered}
+use Rattle.fm_line.proofs.OutRising.{RunsFrom, BeginsFrom, come_out-runs}
 use Rattle.fm_promise.proofs.Lists.{each_weaken, list_at}
 use Rattle.fm_promise.proofs.Pens.{Pen, pen_after, Numbered, IsPen, rises_after, InRange, numbered_range}
-use Rattle.fm_promise.proofs.Ordered.{ordered_times, time_from}
+use Rattle.fm_promise.proofs.Ordered.{time_from}
 use Rattle.fm_promise.proofs.Births.{Has, Before, Paired}
 
 -- ---- a mark in front of others
 
--- the event of a mark with a message
-abbrev pub event_of_mark : Mark → Msg → TimedMessage
-event_of_mark m x = record { time = mark_time m; process = m.process; index = m.index; msg = x }
+-- the sound of a mark with a message
+abbrev pub sound_of_mark : Mark → Msg → Sound
+sound_of_mark m x = record { time = mark_time m; msg = x }
 
 -- what a mark adds to the line of a process: nothing, an event, or the end
 pub data Seen (p : ℕ) (m : Mark) (ms : List Mark) : Type 0 where
-  other : (m.process ≡ p → ⊥) → process_events p (m ∷ ms) ≡ process_events p ms → process_end p (m ∷ ms) ≡ process_end p ms → Seen p m ms
-  sound : m.process ≡ p → (x : Msg) → m.msg ≡ Some x → process_events p (m ∷ ms) ≡ event_of_mark m x ∷ process_events p ms
+  other : (m.process ≡ p → ⊥) → process_sounds p (m ∷ ms) ≡ process_sounds p ms → process_end p (m ∷ ms) ≡ process_end p ms → Seen p m ms
+  sound : m.process ≡ p → (x : Msg) → m.msg ≡ Some x → process_sounds p (m ∷ ms) ≡ sound_of_mark m x ∷ process_sounds p ms
       → process_end p (m ∷ ms) ≡ process_end p ms → Seen p m ms
-  stop : m.process ≡ p → m.msg ≡ None → process_events p (m ∷ ms) ≡ process_events p ms → process_end p (m ∷ ms) ≡ m.onset → Seen p m ms
+  stop : m.process ≡ p → m.msg ≡ None → process_sounds p (m ∷ ms) ≡ process_sounds p ms → process_end p (m ∷ ms) ≡ m.onset → Seen p m ms
 
 -- by its process and its message
 seen_by : (p : ℕ) (m : Mark) (ms : List Mark) (own : Bool) (o : Option Msg) → nat_eq m.process p ≡ own → m.msg ≡ o → Seen p m ms
@@ -36,7 +37,7 @@ pub seen : (p : ℕ) (m : Mark) (ms : List Mark) → Seen p m ms
 seen p m ms = seen_by p m ms (nat_eq m.process p) m.msg refl refl
 
 -- a message is no end
-some_or_none : {P : Type 0} → (m : Mark) (x : Msg) → m.msg ≡ Some x → m.msg ≡ None → P
+pub some_or_none : {P : Type 0} → (m : Mark) (x : Msg) → m.msg ≡ Some x → m.msg ≡ None → P
 some_or_none {P} m x some none = absurd (subst IsSome (sym some ∙ none) tt)
   where
     IsSome : Option Msg → Type 0
@@ -52,23 +53,6 @@ end_time m none = rw none refl
 -- each mark of a process sounds no earlier than t
 abbrev pub From : (p t : ℕ) → List Mark → Type 0
 From p t ms = AllByRecursion (λ y. y.process ≡ p → t ≤ mark_time y) ms
-
--- so do its events, and what stands behind them
-pub events_from : (p t d : ℕ) (ms : List Mark) → From p t ms → t ≤ d → (k : ℕ)
-    → t ≤ (slice_index_or (process_events p ms) k (event_at d)).time
-events_from p t d [] from behind k = behind
-events_from p t d (m ∷ ms) from behind k = by_kind k (seen p m ms) (events_from p t d ms from.1 behind)
-  where
-    at_front : (k : ℕ) (x : Msg) → m.process ≡ p → ((j : ℕ) → t ≤ (slice_index_or (process_events p ms) j (event_at d)).time)
-        → t ≤ (slice_index_or (event_of_mark m x ∷ process_events p ms) k (event_at d)).time
-    at_front zero x own rest = from.0 own
-    at_front (suc k) x own rest = rest k
-
-    by_kind : (k : ℕ) → Seen p m ms → ((j : ℕ) → t ≤ (slice_index_or (process_events p ms) j (event_at d)).time)
-        → t ≤ (slice_index_or (process_events p (m ∷ ms)) k (event_at d)).time
-    by_kind k (other _ is _) rest = subst (λ es. t ≤ (slice_index_or es k (event_at d)).time) (sym is) (rest k)
-    by_kind k (sound own x _ is _) rest = subst (λ es. t ≤ (slice_index_or es k (event_at d)).time) (sym is) (at_front k x own rest)
-    by_kind k (stop _ _ is _) rest = subst (λ es. t ≤ (slice_index_or es k (event_at d)).time) (sym is) (rest k)
 
 -- the list has the end of a process
 abbrev pub Ended : ℕ → List Mark → Type 0
@@ -92,46 +76,65 @@ end_from p t (m ∷ ms) from ended = by_kind (seen p m ms) ended (end_from p t m
 
 -- marks of the process of a mark follow it
 followers : (births : List (List ℕ)) (p : ℕ) (m : Mark) (ms : List Mark) → m.process ≡ p → AllByRecursion (Before births m) ms
-    → From p (mark_time m) ms
+    → From p m.onset ms
 followers births p m ms own before =
-    each_weaken (Before births m) (λ y. y.process ≡ p → mark_time m ≤ mark_time y)
-    (λ y b is. ordered_times m y (b.same (own ∙ sym is))) ms before
+    each_weaken (Before births m) (λ y. y.process ≡ p → m.onset ≤ mark_time y)
+    (λ y b is. let o = b.same (own ∙ sym is) in omega (arith, o.begins, time_from y)) ms before
 
--- each mark of a process sounds no later than d
+-- each mark of a process begins no later than d
 abbrev pub To : (p d : ℕ) → List Mark → Type 0
-To p d ms = AllByRecursion (λ y. y.process ≡ p → mark_time y ≤ d) ms
+To p d ms = AllByRecursion (λ y. y.process ≡ p → y.onset ≤ d) ms
 
--- the events of a process rise, and what stands behind them is last
-pub events_rise : (births : List (List ℕ)) (p d : ℕ) (ms : List Mark) → Paired births ms → To p d ms → (i j : ℕ) → i ≤ j
-    → (slice_index_or (process_events p ms) i (event_at d)).time ≤ (slice_index_or (process_events p ms) j (event_at d)).time
-events_rise births p d [] paired to i j order = omega arith
-events_rise births p d (m ∷ ms) paired to i j order = by_kind (seen p m ms) (events_rise births p d ms paired.1 to.1)
+-- what sounds when, by its kind
+kind_time : (m : Mark) (x : Msg) → m.msg ≡ Some x → is_note_off x ≡ false → mark_time m ≡ m.onset
+kind_time m x some plain = rw (some, plain) refl
+
+-- the sounds of a process begin in turn, from where its marks sound to its end
+pub sounds_begin : (births : List (List ℕ)) (p low d : ℕ) (ms : List Mark) → Paired births ms → From p low ms → To p d ms → low ≤ d
+    → BeginsFrom low d (process_sounds p ms)
+sounds_begin births p low d [] paired from to order = order
+sounds_begin births p low d (m ∷ ms) paired from to order =
+    by_kind (seen p m ms) (sounds_begin births p low d ms paired.1 from.1 to.1 order)
+    (λ own. sounds_begin births p m.onset d ms paired.1 (followers births p m ms own paired.0) to.1 (to.0 own))
   where
-    at_front : (x : Msg) → m.process ≡ p → (i j : ℕ) → i ≤ j
-        → ((i j : ℕ) → i ≤ j → (slice_index_or (process_events p ms) i (event_at d)).time ≤ (slice_index_or (process_events p
-        ms) j (event_at d)).time)
-        → (slice_index_or (event_of_mark m x ∷ process_events p ms) i (event_at d)).time
-        ≤ (slice_index_or (event_of_mark m x ∷ process_events p ms) j (event_at d)).time
-    at_front x own zero zero order rest = omega arith
-    at_front x own zero (suc j) order rest = events_from p (mark_time m) d ms (followers births p m ms own paired.0) (to.0 own) j
-    at_front x own (suc i) zero order rest = absurd (omega (arith, order))
-    at_front x own (suc i) (suc j) order rest = rest i j (omega (arith, order))
+    by_note : (x : Msg) (off : Bool) → m.msg ≡ Some x → is_note_off x ≡ off → BeginsFrom low d (process_sounds p ms)
+        → BeginsFrom m.onset d (process_sounds p ms) → BeginsFrom (if off then low else mark_time m) d (process_sounds p ms)
+    by_note x true some is rest later = rest
+    by_note x false some is rest later = subst (λ t. BeginsFrom t d (process_sounds p ms)) (sym (kind_time m x some is)) later
 
-    by_kind : Seen p m ms
-        → ((i j : ℕ) → i ≤ j → (slice_index_or (process_events p ms) i (event_at d)).time ≤ (slice_index_or (process_events p
-        ms) j (event_at d)).time)
-        → (slice_index_or (process_events p (m ∷ ms)) i (event_at d)).time ≤ (slice_index_or (process_events p (m ∷
-        ms)) j (event_at d)).time
-    by_kind (other _ is _) rest =
-        subst (λ es. (slice_index_or es i (event_at d)).time ≤ (slice_index_or es j (event_at d)).time) (sym is) (rest i j order)
-    by_kind (sound own x _ is _) rest =
-        subst (λ es. (slice_index_or es i (event_at d)).time ≤ (slice_index_or es j (event_at d)).time) (sym is)
-        (at_front x own i j order rest)
-    by_kind (stop _ _ is _) rest =
-        subst (λ es. (slice_index_or es i (event_at d)).time ≤ (slice_index_or es j (event_at d)).time) (sym is) (rest i j order)
+    by_kind : Seen p m ms → BeginsFrom low d (process_sounds p ms) → (m.process ≡ p → BeginsFrom m.onset d (process_sounds p ms))
+        → BeginsFrom low d (process_sounds p (m ∷ ms))
+    by_kind (other _ is _) rest later = subst (BeginsFrom low d) (sym is) rest
+    by_kind (stop _ _ is _) rest later = subst (BeginsFrom low d) (sym is) rest
+    by_kind (sound own x some is _) rest later =
+        subst (BeginsFrom low d) (sym is) (from.0 own, by_note x (is_note_off x) some refl rest (later own))
+
+-- events that run from a tick to another are not before the first, nor is what stands behind them
+pub runs_from : (low e j i : ℕ) (xs : List Sound) → RunsFrom low e xs → (k : ℕ)
+    → low ≤ (slice_index_or (numbered j i xs) k (event_at e)).time
+runs_from low e j i [] r k = r
+runs_from low e j i (x ∷ xs) r zero = r.0
+runs_from low e j i (x ∷ xs) r (suc k) = let h = runs_from x.time e j (i + 1) xs r.1 k in omega (arith, h, r.0)
+
+-- and they rise
+pub runs_rise : (low e j i : ℕ) (xs : List Sound) → RunsFrom low e xs → (k l : ℕ) → k ≤ l
+    → (slice_index_or (numbered j i xs) k (event_at e)).time ≤ (slice_index_or (numbered j i xs) l (event_at e)).time
+runs_rise low e j i [] r k l order = omega arith
+runs_rise low e j i (x ∷ xs) r zero zero order = omega arith
+runs_rise low e j i (x ∷ xs) r zero (suc l) order = runs_from x.time e j (i + 1) xs r.1 l
+runs_rise low e j i (x ∷ xs) r (suc k) zero order = absurd (omega (arith, order))
+runs_rise low e j i (x ∷ xs) r (suc k) (suc l) order = runs_rise x.time e j (i + 1) xs r.1 k l (omega (arith, order))
+
+-- the events of a process run from where its marks sound to its end
+pub process_runs : (births : List (List ℕ)) (p low : ℕ) (ms : List Mark) → Paired births ms → From p low ms
+    → To p (process_end p ms) ms → low ≤ process_end p ms
+    → RunsFrom low (process_end p ms) (come_out (process_sounds p ms) (process_end p ms))
+process_runs births p low ms paired from to order =
+    come_out-runs low (process_end p ms) [] (process_sounds p ms) tt
+    (sounds_begin births p low (process_end p ms) ms paired from to order)
 
 -- behind an end the next process is one that got its number
-after_end : (m : Mark) (p : Pen) → m.msg ≡ None → (pen_after m p).process ≡ p.given
+pub after_end : (m : Mark) (p : Pen) → m.msg ≡ None → (pen_after m p).process ≡ p.given
 after_end m p none = rw none refl
 
 -- marks of a process end with its end
@@ -146,18 +149,18 @@ to_end births p pen (m ∷ ms) is_pen numbered paired ended =
 
     past : m.process ≡ p → m.msg ≡ None → (d : ℕ) → To p d ms
     past own none d =
-        each_weaken (InRange (pen_after m pen).process _) (λ y. y.process ≡ p → mark_time y ≤ d)
+        each_weaken (InRange (pen_after m pen).process _) (λ y. y.process ≡ p → y.onset ≤ d)
         (λ y i same. absurd (omega (arith, i.from, after_end m pen none, is_pen, numbered.0, own, same))) ms
         (numbered_range (pen_after m pen) ms (rises_after m pen is_pen).is_pen numbered.2)
 
     by_kind : Seen p m ms → ((m.process ≡ p) × (m.msg ≡ None)) ⊎ Ended p ms → (Ended p ms → To p (process_end p ms) ms)
         → To p (process_end p (m ∷ ms)) (m ∷ ms)
-    by_kind (stop own none _ is) _ rest = (λ _. omega (arith, is, end_time m none), past own none (process_end p (m ∷ ms)))
+    by_kind (stop own none _ is) _ rest = (λ _. omega (arith, is), past own none (process_end p (m ∷ ms)))
     by_kind (other not_own _ is) (inl here) rest = absurd (not_own here.0)
     by_kind (other not_own _ is) (inr later) rest = (λ own. absurd (not_own own), same_end is (rest later))
     by_kind (sound own x some _ is) (inl here) rest = some_or_none m x some here.1
     by_kind (sound own x some _ is) (inr later) rest =
-        (λ _. omega (arith, is, end_from p (mark_time m) ms (followers births p m ms own paired.0) later), same_end is (rest later))
+        (λ _. omega (arith, is, end_from p m.onset ms (followers births p m ms own paired.0) later), same_end is (rest later))
 
 -- ---- starts
 
@@ -171,12 +174,12 @@ absent_end q (m ∷ ms) all = by_kind (seen q m ms) (absent_end q ms all.1)
     by_kind (sound own x _ _ is) rest = is ∙ rest
     by_kind (stop own _ _ is) rest = absurd (omega (arith, own, all.0))
 
--- and no events
-pub absent_events : (q : ℕ) (ms : List Mark) → AllByRecursion (λ y. q < y.process) ms → process_events q ms ≡ []
-absent_events q [] all = refl
-absent_events q (m ∷ ms) all = by_kind (seen q m ms) (absent_events q ms all.1)
+-- and no sounds
+pub absent_sounds : (q : ℕ) (ms : List Mark) → AllByRecursion (λ y. q < y.process) ms → process_sounds q ms ≡ []
+absent_sounds q [] all = refl
+absent_sounds q (m ∷ ms) all = by_kind (seen q m ms) (absent_sounds q ms all.1)
   where
-    by_kind : Seen q m ms → process_events q ms ≡ [] → process_events q (m ∷ ms) ≡ []
+    by_kind : Seen q m ms → process_sounds q ms ≡ [] → process_sounds q (m ∷ ms) ≡ []
     by_kind (other _ is _) rest = is ∙ rest
     by_kind (sound own x _ _ _) rest = absurd (omega (arith, own, all.0))
     by_kind (stop own _ is _) rest = is ∙ rest

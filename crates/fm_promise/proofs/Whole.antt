@@ -7,15 +7,16 @@ use Rattle.fm_msg.specs.declared.msg.Msg.{Msg}
 use Rattle.fm_msg.specs.Message.{is_in_range}
 use Rattle.fm_line.specs.declared.line.Line.{Line}
 use Rattle.fm_line.specs.Line.{most_lines, most_events, last_tick, no_line, line, event, upper, greatest, start, total, ValidLines}
-use Rattle.fm_line.specs.Marks.{Mark, process_events, process_end, process_line, lines_from, lines_of}
+use Rattle.fm_line.specs.Marks.{Mark, process_events, process_sounds, process_end, process_line, lines_from, lines_of}
+use Rattle.fm_line.specs.Sounds.{come_out}
 use Rattle.fm_meaning.specs.Bounds.{Totals}
 use Rattle.fm_promise.proofs.Lists.{each_weaken, list_at}
 use Rattle.fm_promise.proofs.Pens.{Pen, pen_after, pen_through, Numbered, IsPen, rises_after}
 use Rattle.fm_promise.proofs.Ordered.{Between}
 use Rattle.fm_promise.proofs.Births.{Has, has_each, Climbs, IsBefore, IsBirth, Paired}
 use Rattle.fm_promise.proofs.Good.{IsHeard, sounds}
-use Rattle.fm_promise.proofs.OneProcess.{Ended, From, To, events_from, end_from, events_rise, to_end, waits_for, Seen, other, sound, stop, seen}
-use Rattle.fm_promise.proofs.Numbering.{numbers, events_heard, sum_same, events_counted}
+use Rattle.fm_promise.proofs.OneProcess.{Ended, From, To, end_from, to_end, process_runs, runs_from, runs_rise, waits_for, Seen, other, sound, stop, seen}
+use Rattle.fm_promise.proofs.Numbering.{numbered_from, events_heard, sum_same, events_counted}
 
 -- the pen of a score's first mark
 abbrev pub first_pen : Pen
@@ -132,7 +133,7 @@ births_of b births ms end w (suc p) within =
     (each_weaken (IsBefore 0 1 (suc p)) (λ q. q < suc p) (λ q i. i.smaller) (list_at births (suc p)) birth.each, birth.once)
 
 -- a process of a whole score ends
-ended_in : (b : Totals) (births : List (List ℕ)) (ms : List Mark) (end : ℕ) → IsWhole b births ms end → (p : ℕ) → p < length births
+pub ended_in : (b : Totals) (births : List (List ℕ)) (ms : List Mark) (end : ℕ) → IsWhole b births ms end → (p : ℕ) → p < length births
     → Ended p ms
 ended_in b births ms end w zero within =
     all_ended 0 first_pen ms (omega arith) w.numbered (inl refl) (omega (arith, w.through, within))
@@ -145,11 +146,17 @@ sounds_to : (b : Totals) (births : List (List ℕ)) (ms : List Mark) (end : ℕ)
 sounds_to b births ms end w p within =
     to_end births p first_pen ms (omega arith) w.numbered w.paired (ended_in b births ms end w p within)
 
+-- no mark is before 0
+pub from_zero : (p : ℕ) (ms : List Mark) → From p 0 ms
+from_zero p [] = tt
+from_zero p (m ∷ ms) = (λ _. omega arith, from_zero p ms)
+
 -- the line of a process rises
 line_rises : (b : Totals) (births : List (List ℕ)) (ms : List Mark) (end : ℕ) → IsWhole b births ms end → (p : ℕ) → p < length births
     → (i j : ℕ) → i ≤ j → upper (process_line p (list_at births p) ms) i ≤ upper (process_line p (list_at births p) ms) j
 line_rises b births ms end w p within =
-    events_rise births p (process_end p ms) ms w.paired (sounds_to b births ms end w p within)
+    runs_rise 0 (process_end p ms) p 0 (come_out (process_sounds p ms) (process_end p ms))
+    (process_runs births p 0 ms w.paired (from_zero p ms) (sounds_to b births ms end w p within) (omega arith))
 
 -- it starts no earlier than its predecessors end
 line_waits : (b : Totals) (births : List (List ℕ)) (ms : List Mark) (end : ℕ) → IsWhole b births ms end → (p q : ℕ) → p < length births
@@ -157,8 +164,9 @@ line_waits : (b : Totals) (births : List (List ℕ)) (ms : List Mark) (end : ℕ
 line_waits b births ms end w p q within has k =
     let smaller : q < p = has_each (λ r. r < p) q (list_at births p) (births_of b births ms end w p within).0 has in
     let from : From p (process_end q ms) ms = waits_for births q p first_pen ms (omega arith) w.numbered w.paired has smaller in
-    events_from p (process_end q ms) (process_end p ms) ms from
-    (end_from p (process_end q ms) ms from (ended_in b births ms end w p within)) k
+    runs_from (process_end q ms) (process_end p ms) p 0 (come_out (process_sounds p ms) (process_end p ms))
+    (process_runs births p (process_end q ms) ms w.paired from (sounds_to b births ms end w p within)
+    (end_from p (process_end q ms) ms from (ended_in b births ms end w p within))) k
 
 -- ---- all lines
 
@@ -260,7 +268,7 @@ whole_valid b births ms end w few soon many = record {
       (line_rises b births ms end w p) (λ i j order. omega arith);
   numbered = λ p. by_process births ms (λ l. (k : ℕ) → k < length l.events → ((event l k).process ≡ p) × ((event l k).index ≡ k)) p
       (λ within k inside.
-      let e = numbers p first_pen ms (at_first p) (omega arith) w.numbered k (process_end p ms) inside in
+      let e = numbered_from p 0 (come_out (process_sounds p ms) (process_end p ms)) k (process_end p ms) inside in
       (e.process, omega (arith, e.index)))
       (λ k inside. absurd (omega (arith, inside)));
   ends = λ p. (
@@ -269,7 +277,3 @@ whole_valid b births ms end w few soon many = record {
   );
   events = omega (arith, whole_total b births ms end w, many);
 }
-  where
-    at_first : (p : ℕ) → (first_pen.process < p) ⊎ ((first_pen.process ≡ p) × (first_pen.index ≡ 0)) ⊎ (p < first_pen.process)
-    at_first zero = inr (inl (refl, refl))
-    at_first (suc p) = inl (omega arith)

@@ -3,3 +3,4 @@ pub mod ListLemmas
 pub mod Congruence
 pub mod DefiningLemmas
 pub mod EntryLemmas
+mod Numerals

@@ -29,7 +29,7 @@ use fm_warp::MAX_PARTS;
 /// How many pitches one statement has at most.
 pub const MAX_PITCHES: usize = 16;
 
-/// The first spot of a pitch.
+// The first spot of a pitch.
 fn spot_of_pitch(pitch: &Pitch) -> Spot
     ensures { result ≡ pitch_spot (pitch_view pitch.now) }
 {
@@ -51,7 +51,7 @@ pub(crate) fn check_pitches(pitches: &[Pitch]) -> Result<(), RangeFault>
     Ok(())
 }
 
-/// The spot of a length's first number.
+// The spot of a length's first number.
 fn spot_of_length(length: Length) -> Spot
     ensures { result ≡ length_spot length }
 {
@@ -88,7 +88,7 @@ pub(crate) fn check_numbers(numbers: &[Number], least: u32, most: u32) -> Result
     Ok(())
 }
 
-/// The length of a part, and whether it may be 0.
+// The length of a part.
 fn length_of_part(part: PartText) -> Length
     ensures { result ≡ part_length part }
 {
@@ -100,7 +100,7 @@ fn length_of_part(part: PartText) -> Length
     }
 }
 
-/// Whether a length has no ticks, or none that can be said.
+// Whether a length has no ticks, or none that can be said.
 fn is_empty(length: Length) -> bool
     ensures { result ≡ nat_eq (length_ticks WHOLE_NOTE length) 0 }
 {
@@ -113,7 +113,7 @@ fn is_empty(length: Length) -> bool
     }
 }
 
-/// A length of at least one tick.
+// A length of at least one tick.
 fn check_stretched(length: Length) -> Result<(), RangeFault>
     ensures { found result
         ≡ first_found (length_faults WHOLE_NOTE length ++ empty_faults WHOLE_NOTE length) }
@@ -125,7 +125,7 @@ fn check_stretched(length: Length) -> Result<(), RangeFault>
     Ok(())
 }
 
-/// A part of a shape.
+// A part of a shape.
 fn check_part(part: PartText) -> Result<(), RangeFault>
     ensures { found result ≡ first_found (part_faults WHOLE_NOTE part) }
 {

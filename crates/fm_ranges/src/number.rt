@@ -36,7 +36,7 @@ pub(crate) fn check_literal(value: i64, spot: Spot, least: i64, most: i64) -> Re
     Ok(())
 }
 
-/// A share of a whole note.
+// A share of a whole note.
 fn check_share(over: Number, under: Number) -> Result<(), RangeFault>
     ensures { found result ≡ first_found (share_faults WHOLE_NOTE over under) }
 {

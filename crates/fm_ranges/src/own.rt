@@ -31,7 +31,7 @@ pub const LEAST_BEND: i64 = -8_192;
 /// The greatest bend.
 pub const MAX_BEND: i64 = 8_191;
 
-/// A name that was defined.
+// A name that was defined.
 fn check_name(name: &Name, names: &Names<()>) -> Result<(), RangeFault>
     ensures { found result
         ≡ first_found (unknown_faults (name_view name.now) (names_in names.now)) }

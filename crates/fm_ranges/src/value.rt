@@ -17,7 +17,7 @@ use fm_value::{Expr, MAX_VALUE, Node, Spot2};
 /// The greatest key, controller, control value, program and velocity.
 pub const MAX_DATA: u32 = 127;
 
-/// One node: a literal has a range.
+// One node: a literal has a range.
 fn check_node(node: Node, spot: Spot2) -> Result<(), RangeFault>
     ensures { found result ≡ first_found (node_faults (node ∷ []) (spot ∷ [])) }
 {
@@ -47,7 +47,7 @@ fn check_node(node: Node, spot: Spot2) -> Result<(), RangeFault>
     }
 }
 
-/// Nodes, each with its spot.
+// Nodes, each with its spot.
 fn check_nodes(nodes: &[Node], spots: &[Spot2]) -> Result<(), RangeFault>
     ensures { found result ≡ first_found (node_faults nodes.now spots.now) }
 {

@@ -19,7 +19,7 @@ use std::alloc::{AllocError, Global};
 /// The version of the language.
 pub const VERSION: u32 = 1;
 
-/// A name that may be defined.
+// A name that may be defined.
 fn check_new(name: &Name, known: &Known) -> Result<(), RangeFault>
     ensures { found result
         ≡ first_found (double_faults (name_view name.now) (known_view known.now)) }
@@ -33,7 +33,7 @@ fn check_new(name: &Name, known: &Known) -> Result<(), RangeFault>
     Ok(())
 }
 
-/// An entry.
+// An entry.
 fn check_entry(entry: &Entry, known: &Known) -> Result<(), RangeFault>
     ensures { found result
         ≡ first_found (entry_faults (known_view known.now) (entry_view entry.now)) }
@@ -51,7 +51,7 @@ fn check_entry(entry: &Entry, known: &Known) -> Result<(), RangeFault>
     }
 }
 
-/// The first fault of the entries.
+// The first fault of the entries.
 fn first_of_entries(alloc: Global, entries: &[Entry]) -> Result<Option<RangeFault>, AllocError>
     ensures { IfOk result (λ f. option_map numbered f
         ≡ first_found (entries_faults (record { whole = WHOLE_NOTE; shapes = []; phrases = [] })

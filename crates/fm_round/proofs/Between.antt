@@ -4,7 +4,6 @@ use Rattle.std.proofs.lemmas.List.{length-map}
 use Rattle.std.proofs.lemmas.Bool.{cases_lt}
 use Rattle.std.specs.List.{All}
 use Rattle.std.proofs.Math.ListN.{get_or-map}
-use Rattle.std.specs.Io.KnownBytes.{append_known}
 use Rattle.fm_edge.specs.Runs.{Breaks}
 use Rattle.fm_edge.proofs.Chains.{breaks_more}
 use Rattle.fm_smf.proofs.Tracks.{events_bytes-append}
@@ -20,26 +19,27 @@ use Rattle.fm_program.specs.Parts.{PlanParts}
 use Rattle.fm_program.specs.Fit.{PartsFit}
 use Rattle.fm_program.specs.Process.{plan_lines}
 use Rattle.fm_program.proofs.Lines.{plan-lines-length}
-use Rattle.fm_smf.specs.Track.{event_bytes, events_bytes, last_time}
-use Rattle.fm_smf.specs.Writing.{Written, Writes}
-use Rattle.fm_smf.specs.declared.limits.TheConstants.{START_LENGTH}
+use Rattle.fm_smf.specs.Track.{events_bytes, state_after}
+use Rattle.fm_smf.specs.Writing.{Written, Writes, just_begun}
 use Rattle.fm_smf.proofs.Writing.{writes_none, writes_after, writes_breaks}
 use Rattle.fm_strand.specs.declared.strand.Strand.{Strand}
 use Rattle.fm_strand.specs.Strand.{clock_of}
 use Rattle.fm_round.specs.declared.slot.Slot.{Slot}
-use Rattle.fm_round.specs.Ends.{CanFollow, piece_end}
+use Rattle.fm_play.specs.Ends.{CanFollow, piece_end}
+use Rattle.fm_play.proofs.Chains.{still_at_end}
+use Rattle.fm_play.proofs.InTime.{can_follow}
+use Rattle.fm_play.proofs.PlanFacts.{plan_valid}
+use Rattle.fm_play.proofs.Whole.{plan_writable}
 use Rattle.fm_round.specs.Lefts.{IsOwn, OwnFrom, Playing, joined}
 use Rattle.fm_round.specs.Rounds.{Between, Opened}
 use Rattle.fm_round.specs.Slots.{AllAtEnd, AllSlots, CanRun, IsAtEnd, IsFresh, IsLeast, IsRun, LeastOf, RunsAll, due, left, lefts, loads, no_slot, room_sum, run_clock, room_of, slot, without_due, yet}
 use Rattle.fm_round.specs.Starts.{Starts}
 use Rattle.fm_round.proofs.Ending.{all_at_end, end_first, ends_piece}
-use Rattle.fm_round.proofs.InTime.{can_follow, can_write}
 use Rattle.fm_round.proofs.Opening.{opens}
 use Rattle.fm_round.proofs.Order.{IsDue, none_stays}
 use Rattle.fm_round.proofs.Parting.{FrontsFirst, own_front, own_fronts, whole_of}
 use Rattle.fm_round.proofs.Releasing.{least_first, own_at, parts, parts-front, parts-whole, released}
 use Rattle.fm_round.proofs.Running.{any_default, loads-release, rooms-release, slot-map}
-use Rattle.fm_round.proofs.StrandFacts.{plan_valid}
 
 -- ---- slots
 
@@ -71,32 +71,8 @@ is_due_at c m e early process = by_order (cases_lt e.time c)
     by_order (inl less) = inl less
     by_order (inr more) = inr (omega arith, omega arith)
 
--- ---- a writer
-
--- after a list of events a writer still stands at the content's end
-pub still_at_end : (old new : Option (List ℕ)) (bytes : List ℕ) (before after : ℕ) → IfSome old (λ c. length c ≡ before)
-    → new ≡ append_known old bytes → after ≡ before + length bytes → IfSome new (λ c. length c ≡ after)
-still_at_end None None bytes before after at is more = tt
-still_at_end None (Some d) bytes before after at is more = cc
-still_at_end (Some c) None bytes before after at is more = tt
-still_at_end (Some c) (Some d) bytes before after at is more =
-    let same : d ≡ c ++ bytes = cc in omega (arith, ap length same, length-append c bytes, at, more)
-
--- where one event of a list fails, a front of the list was put
-pub event_breaks : {K : Type 0} (content : K → Option (List ℕ)) (sure : K → Option ℕ) (faults : K → ℕ) (a b c : K)
-    (events front back : List TimedMessage) (e : TimedMessage) (u v : Written) → (front ++ e ∷ []) ++ back ≡ events
-    → Writes content sure faults a b front u v → Breaks content sure faults b c (event_bytes v.last e)
-    → Breaks content sure faults a c (events_bytes u.last events)
-event_breaks content sure faults a b c events front back e u v parts wrote breaks =
-    let one = writes_breaks content sure faults a b c front (e ∷ []) u v wrote
-    (breaks_more content sure faults b c (event_bytes v.last e) [] breaks) in
-    let all = breaks_more content sure faults a c (events_bytes u.last (front ++ e ∷ []))
-    (events_bytes (last_time u.last (front ++ e ∷ [])) back) one in
-    subst (Breaks content sure faults a c)
-    (sym (events_bytes-append u.last (front ++ e ∷ []) back) ∙ ap (events_bytes u.last) parts) all
-
 module _ {K : Type 0} (content : K → Option (List ℕ)) (sure : K → Option ℕ) (faults : K → ℕ)
-    (p : PlanParts) (fits : PartsFit p) (start now : K) (first writer : Written) (begun : first ≡ record { last = 0; put = START_LENGTH })
+    (p : PlanParts) (fits : PartsFit p) (start now : K) (first writer : Written) (begun : first ≡ just_begun p.profile)
     (ss : List Slot) (gather : EventGather) (events : ℕ)
     (between : Between content sure faults p start now first writer ss gather events) where
   same_count : length ss ≡ length (plan_lines p)
@@ -110,15 +86,15 @@ module _ {K : Type 0} (content : K → Option (List ℕ)) (sure : K → Option �
       let after = released p key (plan_lines p) ss between.done same_count between.playing before in
       let more = sorted (joined (map (due key) ss)) in
       let rest = sorted (joined (lefts p (plan_lines p) (map (without_due key) ss))) in
-      can_follow (piece (plan_lines p)) between.done (sorted (joined (map (due key) ss)))
+      can_follow p.profile (piece (plan_lines p)) between.done (sorted (joined (map (due key) ss)))
       (sorted (joined (lefts p (plan_lines p) (map (without_due key) ss)))) (piece_end (plan_lines p)) writer
-      (can_write (plan_lines p) valid)
+      (plan_writable p fits)
       (sym (append_assoc between.done (sorted (joined (map (due key) ss)))
       (sorted (joined (lefts p (plan_lines p) (map (without_due key) ss))))) ∙ after.whole)
-      (between.writes.last ∙ ap (λ (w : Written). last_time w.last between.done) begun)
+      (between.writes.state ∙ ap (λ (w : Written). state_after w.state between.done) begun)
       (let put = between.writes.put in
       let at = ap (λ (w : Written). w.put) begun in
-      let from = ap (λ (w : Written). length (events_bytes w.last between.done)) begun in omega arith)
+      let from = ap (λ (w : Written). length (events_bytes w.state between.done)) begun in omega arith)
 
   -- what is due is each process's own
   pub due_own : (key : Option (ℕ × ℕ)) → OwnFrom 0 (map (due key) ss)
@@ -230,7 +206,7 @@ module _ {K : Type 0} (content : K → Option (List ℕ)) (sure : K → Option �
           playing = subst (Playing (plan_lines p) (between.done ++ sorted (joined (map (due (Some (c, m))) ss)))) (sym lefts_kept) done;
           writes = writes_after content sure faults start now then between.done (sorted (joined (map (due (Some (c, m))) ss)))
               first writer after between.writes wrote;
-          at_end = still_at_end (content now) (content then) (events_bytes writer.last (sorted (joined (map (due (Some (c, m))) ss))))
+          at_end = still_at_end (content now) (content then) (events_bytes writer.state (sorted (joined (map (due (Some (c, m))) ss))))
               writer.put after.put between.at_end wrote.puts.whole wrote.put;
           count =
               let taken : length released_slots ≡ length ss = simp length-map at (ap length took) in
@@ -278,19 +254,19 @@ module _ {K : Type 0} (content : K → Option (List ℕ)) (sure : K → Option �
 
   -- where a release fails, a front of the piece was put
   pub release_breaks : (key : Option (ℕ × ℕ)) → FrontsFirst (parts p key (plan_lines p) ss) → (then : K)
-      → Breaks content sure faults now then (events_bytes writer.last (sorted (joined (map (due key) ss))))
-      → Breaks content sure faults start then (events_bytes 0 (piece (plan_lines p)))
+      → Breaks content sure faults now then (events_bytes writer.state (sorted (joined (map (due key) ss))))
+      → Breaks content sure faults start then (events_bytes first.state (piece (plan_lines p)))
   release_breaks key before then breaks =
       let after = released p key (plan_lines p) ss between.done same_count between.playing before in
       let more = sorted (joined (map (due key) ss)) in
       let part = writes_breaks content sure faults start now then between.done (sorted (joined (map (due key) ss))) first writer
       between.writes breaks in
-      let whole = breaks_more content sure faults start then (events_bytes first.last (between.done ++ sorted (joined (map (due key) ss))))
-      (events_bytes (last_time first.last (between.done ++ sorted (joined (map (due key) ss))))
+      let whole = breaks_more content sure faults start then (events_bytes first.state (between.done ++ sorted (joined (map (due key) ss))))
+      (events_bytes (state_after first.state (between.done ++ sorted (joined (map (due key) ss))))
       (sorted (joined (lefts p (plan_lines p) (map (without_due key) ss))))) part in
-      let bytes = sym (events_bytes-append first.last (between.done ++ sorted (joined (map (due key) ss)))
+      let bytes = sym (events_bytes-append first.state (between.done ++ sorted (joined (map (due key) ss)))
       (sorted (joined (lefts p (plan_lines p) (map (without_due key) ss)))))
-      ∙ ap (events_bytes first.last) after.whole ∙ ap (λ (w : Written). events_bytes w.last (piece (plan_lines p))) begun in
+      ∙ ap (events_bytes first.state) after.whole in
       subst (Breaks content sure faults start then) bytes whole
 
 -- ---- the first round

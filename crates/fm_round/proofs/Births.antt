@@ -10,7 +10,7 @@ use Rattle.fm_strand.specs.declared.strand.Strand.{Strand}
 use Rattle.fm_strand.specs.Strand.{clock_of}
 use Rattle.fm_round.specs.Slots.{AllSlots, AllStarted, IsRun, live_clock, predecessors, slot}
 use Rattle.fm_round.specs.declared.slot.Slot.{Slot}
-use Rattle.fm_round.proofs.InTime.{past_last}
+use Rattle.fm_play.proofs.InTime.{past_last}
 use Rattle.fm_round.proofs.StrandFacts.{clock_to_end}
 
 -- ---- lines

@@ -1,6 +1,5 @@
 pub mod StrandFacts
 pub mod Parting
-pub mod InTime
 pub mod Order
 pub mod Births
 pub mod Releasing
@@ -12,6 +11,6 @@ pub mod Between
 pub mod Starting
 pub mod Gathering
 pub mod Finding
-pub mod Whole
 pub mod Freshness
 pub mod Rows
+mod Numerals

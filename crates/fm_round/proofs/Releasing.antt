@@ -15,7 +15,7 @@ use Rattle.fm_strand.specs.Strand.{InCourse, clock_of, rest}
 use Rattle.fm_round.specs.declared.slot.Slot.{Slot}
 use Rattle.fm_round.specs.Lefts.{IsOwn, OwnFrom, Playing, joined}
 use Rattle.fm_round.specs.Slots.{AllSlots, AllStarted, IsLeast, IsNotPast, IsRun, due, left, lefts, slot, without_due, yet}
-use Rattle.fm_round.proofs.InTime.{before_time}
+use Rattle.fm_play.proofs.InTime.{before_time}
 use Rattle.fm_round.proofs.Parting.{Parted, FrontsFirst, back_of, front_of, own_back, own_backs, own_front, sorted_parts, whole_of}
 use Rattle.fm_round.proofs.Order.{IsDue, due_first, past_time, stays_past, taken_due}
 use Rattle.fm_round.proofs.Births.{ahead}

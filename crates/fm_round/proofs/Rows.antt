@@ -2,6 +2,7 @@
 use Rattle.std.proofs.Common.{◌≡◌, ℕ, List, [], ◌∷◌, refl, sym, subst, arith}
 use Rattle.std.specs.Prelude.{pos}
 use Rattle.fm_line.specs.Line.{total}
+use Rattle.fm_msg.specs.declared.profile.Profile.{Profile}
 use Rattle.fm_program.specs.declared.op.Draw.TheVariants as draw
 use Rattle.fm_program.specs.declared.op.Span.TheVariants as span
 use Rattle.fm_program.specs.declared.op.Turn.TheVariants as turn
@@ -10,7 +11,7 @@ use Rattle.fm_program.specs.declared.op.Op.TheVariants as op
 use Rattle.fm_program.specs.Parts.{PlanParts, ProgramParts}
 use Rattle.fm_program.specs.Process.{plan_lines, plan_played}
 use Rattle.fm_program.specs.Fit.{PartsFit, all_steps}
-use Rattle.fm_program.proofs.Rows.{fits_by, plain_profile}
+use Rattle.fm_program.proofs.Rows.{fits_by}
 
 -- a note of a chord
 abbrev pub voice : ℕ → ℕ → Op
@@ -21,8 +22,8 @@ abbrev pub waiting : List Op → List ℕ → ProgramParts
 waiting ops predecessors = record { ops = ops; cycles = []; levels = []; predecessors = predecessors }
 
 -- two voices between two empty processes
-abbrev pub two_voices : PlanParts
-two_voices = record {
+abbrev pub two_voices : Profile → PlanParts
+two_voices writes = record {
   stock = record {
     exprs = [];
     lists = [];
@@ -32,21 +33,23 @@ two_voices = record {
   };
   programs = waiting [] [] ∷ waiting (voice 0 480 ∷ []) (0 ∷ []) ∷ waiting (voice 1 240 ∷ []) (0 ∷ []) ∷ waiting [] (1 ∷ 2 ∷ []) ∷ [];
   seed = 0;
-  profile = plain_profile;
+  profile = writes;
 }
 
 -- it takes so many steps
-two_steps : all_steps (plan_played two_voices) ≡ 6
-two_steps = refl
+two_steps : (writes : Profile) → all_steps (plan_played (two_voices writes)) ≡ 6
+two_steps writes = refl
 
 -- and has so many events
-two_events : total (plan_lines two_voices) ≡ 4
-two_events = refl
+two_events : (writes : Profile) → total (plan_lines (two_voices writes)) ≡ 4
+two_events writes = refl
 
 -- it fits
-pub two_fit : PartsFit two_voices
-two_fit = fits_by _ (omega arith) (omega arith) refl refl refl refl refl refl (rw two_steps (omega arith)) (rw two_events (omega arith))
+pub two_fit : (writes : Profile) → PartsFit (two_voices writes)
+two_fit writes =
+    fits_by _ (omega arith) (omega arith) refl refl refl refl refl refl
+    (rw (two_steps writes) (omega arith)) (rw (two_events writes) (omega arith))
 
 -- so does a plan that is the same
-pub fit_as : (p : PlanParts) → p ≡ two_voices → PartsFit p
-fit_as p is = subst PartsFit (sym is) two_fit
+pub fit_as : (p : PlanParts) (writes : Profile) → p ≡ two_voices writes → PartsFit p
+fit_as p writes is = subst PartsFit (sym is) (two_fit writes)

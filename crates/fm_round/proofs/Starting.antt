@@ -1,25 +1,22 @@
 -- What it changes to start a process.
 use Rattle.std.proofs.Common.{◌≡◌, ◌⊎◌, ℕ, suc, ◌+◌, ◌<◌, ◌≤◌, List, [], ◌∷◌, ◌++◌, length, map, get_or, set, Bool, true, false, Option, Some, None, IfSome, refl, sym, ap, ap₂, ◌∙◌, subst, inl, inr, arith, get_or-set_same, get_or-set_other}
-use Rattle.std.specs.Prelude.{nat_lt, if◌then◌else◌}
 use Rattle.std.proofs.lemmas.Bool.{cases_eq}
 use Rattle.std.proofs.lemmas.List.Elements.{All-nil}
 use Rattle.std.proofs.Math.ListN.{length-set}
 use Rattle.fm_msg.specs.Event.{TimedMessage}
 use Rattle.fm_line.specs.declared.line.Line.{Line}
 use Rattle.fm_line.specs.Line.{line}
-use Rattle.fm_nest.specs.declared.place.Place.{Place}
 use Rattle.fm_program.specs.Parts.{PlanParts}
 use Rattle.fm_program.specs.Process.{plan_lines}
 use Rattle.fm_strand.specs.declared.strand.Strand.{Strand}
-use Rattle.fm_strand.specs.Course.{latest_place, later_place, meeting_place, first_place, steps_of}
+use Rattle.fm_strand.specs.Course.{steps_of}
 use Rattle.fm_strand.specs.Strand.{InCourse, clock_of, rest, steps_left}
 use Rattle.fm_round.specs.declared.slot.Slot.{Slot}
 use Rattle.fm_round.specs.Slots.{AllSlots, AllStarted, IsRun, IsSlotOf, IsWaiting, left, lefts, load, loads, no_slot, predecessors, room_of, run_load, slot, yet}
-use Rattle.fm_round.specs.Starts.{HasLevelsOf, latest_of, met_place}
 use Rattle.fm_program.specs.Fit.{PartsFit}
 use Rattle.fm_round.proofs.Births.{predecessor_below}
 use Rattle.fm_round.proofs.Running.{any_default, rooms_same}
-use Rattle.fm_round.proofs.StrandFacts.{plan_valid}
+use Rattle.fm_play.proofs.PlanFacts.{plan_valid}
 
 -- ---- slot by slot
 
@@ -180,40 +177,3 @@ pub ended_at : (p : PlanParts) (ss : List Slot) (qs : List ℕ) (j i : ℕ) (d :
 ended_at p ss qs j i d b there are is =
     sym (ap (λ (xs : List ℕ). (slot ss (get_or xs i 0)).ended) are)
     ∙ ap (λ (s : Slot). s.ended) (any_default ss (get_or qs i 0) no_slot d there) ∙ is
-
--- ---- places
-
-latest-append : (a : Place) (bs : List Place) (e : Place) → latest_place a (bs ++ e ∷ []) ≡ later_place (latest_place a bs) e
-latest-append a [] e = refl
-latest-append a (b ∷ bs) e = latest-append (later_place a b) bs e
-
--- the latest of one place more
-pub latest_of-append : (xs : List Place) (e : Place) → latest_of (xs ++ e ∷ []) ≡ Some (met_place (latest_of xs) e)
-latest_of-append [] e = refl
-latest_of-append (a ∷ bs) e = ap (λ x. Some x) (latest-append a bs e)
-
--- where the latest of some places is, they meet
-pub latest_meets : (xs : List Place) (a : Place) → latest_of xs ≡ Some a → meeting_place xs ≡ a
-latest_meets [] a is = cc
-latest_meets (x ∷ xs) a is = cc
-
--- where there is none, they are none
-pub none_meets : (xs : List Place) → latest_of xs ≡ None → meeting_place xs ≡ first_place
-none_meets [] is = refl
-none_meets (x ∷ xs) is = cc
-
--- the later one of two places in the same levels lies in them
-pub later_levels : (latest : Option Place) (end start : Place) → IfSome latest (λ a. HasLevelsOf a start) → HasLevelsOf end start
-    → HasLevelsOf (met_place latest end) start
-later_levels None end start before at = at
-later_levels (Some a) end start before at = by_test (nat_lt a.position end.position)
-  where
-    by_test : (b : Bool) → HasLevelsOf (if b then end else a) start
-    by_test true = at
-    by_test false = before
-
--- places in the levels of the start lie in the same levels
-pub levels_of_end : (latest : Option Place) (end start : Place) → IfSome latest (λ a. HasLevelsOf a start) → HasLevelsOf end start
-    → IfSome latest (λ a. HasLevelsOf a end)
-levels_of_end None end start before at = tt
-levels_of_end (Some a) end start before at = record { depth = before.depth ∙ sym at.depth; origins = before.origins ∙ sym at.origins }

@@ -1,5 +1,6 @@
+pub use Rattle.fm_play.specs.Ends
+pub use Rattle.fm_play.specs.Performance
 pub mod Lefts
-pub mod Ends
 pub mod Slots
 pub mod Starts
 pub mod Rounds

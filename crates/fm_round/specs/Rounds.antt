@@ -1,19 +1,14 @@
 -- What the rounds of a plan hold, and what playing them leaves.
 use Rattle.std.specs.Prelude.{◌≡◌, ℕ, ◌+◌, ◌*◌, ◌<◌, ◌≤◌, List, [], length, map, All, Option, Some, IfSome}
 use Rattle.fm_msg.specs.Event.{TimedMessage}
-use Rattle.fm_msg.specs.declared.profile.TheConstants.{DIVISION}
-use Rattle.fm_line.specs.Piece.{piece}
 use Rattle.fm_buffer.specs.Gather.{EventGather}
 use Rattle.fm_program.specs.Parts.{PlanParts}
 use Rattle.fm_program.specs.Fit.{PartsFit}
 use Rattle.fm_program.specs.Process.{plan_lines}
-use Rattle.fm_smf.specs.File.{file}
 use Rattle.fm_smf.specs.Writing.{Written, Writes}
-use Rattle.fm_round.specs.Ends.{piece_end}
 use Rattle.fm_round.specs.Lefts.{Playing}
 use Rattle.fm_round.specs.Slots.{AllSlots, AllStarted, IsFresh, lefts, room_of, room_sum, slot}
 use Rattle.fm_round.specs.declared.slot.Slot.{Slot}
-use Rattle.fm_round.specs.declared.played.Played.{Played}
 
 -- so many processes that have not started
 pub record AreFresh (processes room : ℕ) (ss : List Slot) : Type 0 where
@@ -23,20 +18,11 @@ pub record AreFresh (processes room : ℕ) (ss : List Slot) : Type 0 where
 -- no process has started, and there is memory for all that the outboxes can hold
 pub record Opened (p : PlanParts) (ss : List Slot) (gather : EventGather) (room : ℕ) : Type 0 where
   pub fits : PartsFit p
-  pub division : p.profile.division ≡ DIVISION
   pub some : 1 ≤ room
   pub count : length ss ≡ length p.programs
   pub fresh : (k : ℕ) → k < length ss → IsFresh room (slot ss k)
   pub empty : gather.events ≡ []
   pub space : room_sum (map room_of ss) ≤ gather.capacity
-
--- the number of events of the piece, the tick of its end, and the length of its file in bytes
-abbrev pub played_of : PlanParts → Played
-played_of p = record {
-  events = length (piece (plan_lines p));
-  last = piece_end (plan_lines p);
-  bytes = length (file (piece (plan_lines p)) (piece_end (plan_lines p)));
-}
 
 module _ {K : Type 0} (content : K → Option (List ℕ)) (sure : K → Option ℕ) (faults : K → ℕ) where
   -- between two rounds: so many events of the piece are written since the sink was as in `begin`, and the rest is left

@@ -1,13 +1,14 @@
 //! Starts the processes whose predecessors have ended.
-ghost use Rattle.std.specs.Prelude.{◌≡◌, ◌<◌, ℕ, length, map, true, false, None, Some, IfSome};
+ghost use Rattle.std.specs.Prelude.{◌≡◌, ◌<◌, ℕ, length, map, true, false, None, Some};
 ghost use Rattle.fm_program.specs.Fit.{PartsFit};
 ghost use Rattle.fm_program.specs.Process.{plan_lines};
 ghost use Rattle.fm_strand.specs.Course.{end_place, start_place};
 ghost use Rattle.fm_round.specs.Slots.{AllEnded, AllSlots, IsSlotOf, IsWaiting, slot};
-ghost use Rattle.fm_round.specs.Starts.{HasLevelsOf, Starts, StartsOne, met_place};
+ghost use Rattle.fm_round.specs.Starts.{Starts, StartsOne};
 
 use crate::slot::Slot;
-use fm_strand::{Place, Plan, Strand, first, meet};
+use fm_play::met;
+use fm_strand::{Place, Plan, Strand, first};
 
 /// Starts each process that has not started and whose predecessors have all ended.
 pub fn begin_ready(plan: &Plan, slots: &mut [Slot])
@@ -86,16 +87,5 @@ fn end_of(plan: &Plan, process: u32, slot: &Slot) -> Place
     match &slot.strand {
         Some(strand) => strand.place(),
         None => first(),
-    }
-}
-
-// The later one of a place, where there is one, and another in the same levels.
-fn met(latest: Option<Place>, end: Place) -> Place
-    requires { IfSome latest (λ place. HasLevelsOf place end) }
-    ensures { result ≡ met_place latest end }
-{
-    match latest {
-        Some(place) => meet(&place, &end),
-        None => end,
     }
 }

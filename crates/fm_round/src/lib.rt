@@ -11,7 +11,6 @@ mod begin;
 mod least;
 mod limits;
 mod perform;
-mod played;
 mod release;
 mod rounds;
 mod run;
@@ -19,7 +18,7 @@ mod slot;
 #[cfg(test)]
 mod tests;
 
+pub use fm_play::Played;
 pub use fm_strand::Plan;
 pub use limits::{MAX_PROCESSES, MAX_WORKERS};
-pub use played::Played;
 pub use rounds::Rounds;

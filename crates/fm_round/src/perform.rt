@@ -4,8 +4,7 @@ ghost use Rattle.fm_edge.specs.Runs.{Breaks};
 ghost use Rattle.fm_line.specs.Piece.{piece};
 ghost use Rattle.fm_program.specs.Process.{plan_lines};
 ghost use Rattle.fm_smf.specs.Track.{events_bytes};
-ghost use Rattle.fm_smf.specs.Writing.{Writes};
-ghost use Rattle.fm_smf.specs.declared.limits.TheConstants.{START_LENGTH};
+ghost use Rattle.fm_smf.specs.Writing.{Writes, just_begun};
 ghost use Rattle.fm_round.specs.Rounds.{Opened};
 ghost use Rattle.fm_round.specs.Slots.{AllAtEnd};
 
@@ -32,14 +31,14 @@ pub fn perform_alone<K: Sink>(
     sink: &mut K,
 ) -> Result<u64, SinkFault>
     requires opened { Opened plan.now slots.old gather.old room }
-    requires begun { writer.old ≡ record { last = 0; put = START_LENGTH } }
+    requires begun { writer.old ≡ just_begun plan.now.profile }
     requires at_end { IfSome (K.content sink.old) (λ c. length c ≡ writer.old.put) }
     ensures ended { OnOk result (AllAtEnd plan.now slots.new) }
     ensures count { IfOk result (λ n. n ≡ length (piece (plan_lines plan.now))) }
     ensures ok { OnOk result (Writes K.content K.sure K.faults
         sink.old sink.new (piece (plan_lines plan.now)) writer.old writer.new) }
     ensures err { OnErr result (Breaks K.content K.sure K.faults
-        sink.old sink.new (events_bytes 0 (piece (plan_lines plan.now)))) }
+        sink.old sink.new (events_bytes writer.old.state (piece (plan_lines plan.now)))) }
 {
     let mut events = 0;
     begin_ready(plan, slots);
@@ -67,14 +66,14 @@ pub fn perform_shared<R: Threads + Sync, G: Gate + Sync, K: Sink>(
 ) -> Result<u64, SinkFault>
     requires workers { (0 < workers) × (workers ≤ MAX_WORKERS) }
     requires opened { Opened plan.now slots.old gather.old room }
-    requires begun { writer.old ≡ record { last = 0; put = START_LENGTH } }
+    requires begun { writer.old ≡ just_begun plan.now.profile }
     requires at_end { IfSome (K.content sink.old) (λ c. length c ≡ writer.old.put) }
     ensures ended { OnOk result (AllAtEnd plan.now slots.new) }
     ensures count { IfOk result (λ n. n ≡ length (piece (plan_lines plan.now))) }
     ensures ok { OnOk result (Writes K.content K.sure K.faults
         sink.old sink.new (piece (plan_lines plan.now)) writer.old writer.new) }
     ensures err { OnErr result (Breaks K.content K.sure K.faults
-        sink.old sink.new (events_bytes 0 (piece (plan_lines plan.now)))) }
+        sink.old sink.new (events_bytes writer.old.state (piece (plan_lines plan.now)))) }
 {
     let mut events = 0;
     begin_ready(plan, slots);

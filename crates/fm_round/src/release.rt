@@ -5,14 +5,15 @@ ghost use Rattle.fm_line.specs.Piece.{sorted};
 ghost use Rattle.fm_line.proofs.Sorting.{Ordered};
 ghost use Rattle.fm_smf.specs.Track.{events_bytes};
 ghost use Rattle.fm_smf.specs.Writing.{Writes};
-ghost use Rattle.fm_round.specs.Ends.{CanFollow};
+ghost use Rattle.fm_play.specs.Ends.{CanFollow};
 ghost use Rattle.fm_round.specs.Lefts.{OwnFrom, joined};
 ghost use Rattle.fm_round.specs.Slots.{due, room_of, room_sum, without_due};
 
 use crate::slot::Slot;
 use fm_buffer::Gather;
 use fm_edge::Sink;
-use fm_smf::{Event, SinkFault, Writer};
+use fm_play::write_all;
+use fm_smf::{SinkFault, Writer};
 
 /// Takes the events up to the key, a pair of tick and process, out of all outboxes, or all events
 /// where there is no key, and writes them in their order. Says how many these are.
@@ -34,7 +35,7 @@ pub fn release<K: Sink>(
     ensures ok { OnOk result (Writes K.content K.sure K.faults
         sink.old sink.new (sorted (joined (map (due key) slots.old))) writer.old writer.new) }
     ensures err { OnErr result (Breaks K.content K.sure K.faults sink.old sink.new
-        (events_bytes writer.old.last (sorted (joined (map (due key) slots.old))))) }
+        (events_bytes writer.old.state (sorted (joined (map (due key) slots.old))))) }
 {
     gather_due(key, slots, gather);
     settle(gather);
@@ -76,19 +77,4 @@ fn settle(gather: &mut Gather)
     ensures { gather.new ≡ record gather.old { events = sorted gather.old.events } }
 {
     gather.settle();
-}
-
-// Writes the events one by one.
-fn write_all<K: Sink>(events: &[Event], writer: &mut Writer, sink: &mut K) -> Result<(), SinkFault>
-    requires follow { CanFollow writer.old events.now }
-    requires at_end { IfSome (K.content sink.old) (λ c. length c ≡ writer.old.put) }
-    ensures ok { OnOk result (Writes K.content K.sure K.faults
-        sink.old sink.new events.now writer.old writer.new) }
-    ensures err { OnErr result (Breaks K.content K.sure K.faults sink.old sink.new
-        (events_bytes writer.old.last events.now)) }
-{
-    for event in events {
-        writer.event(event, sink)?;
-    }
-    Ok(())
 }

@@ -3,21 +3,21 @@ ghost use Rattle.std.specs.Prelude.{◌≡◌, ◌≤◌, length, OnOk, OnErr, I
 ghost use Rattle.fm_edge.specs.Content.{IsNew};
 ghost use Rattle.fm_line.specs.Line.{line};
 ghost use Rattle.fm_line.specs.Piece.{piece};
-ghost use Rattle.fm_msg.specs.declared.profile.TheConstants.{DIVISION};
 ghost use Rattle.fm_program.specs.Fit.{PartsFit};
 ghost use Rattle.fm_program.specs.Process.{plan_lines};
 ghost use Rattle.fm_smf.specs.Writing.{IsFinished, IsBroken};
-ghost use Rattle.fm_round.specs.Ends.{piece_end};
-ghost use Rattle.fm_round.specs.Rounds.{AreFresh, played_of};
+ghost use Rattle.fm_play.specs.Ends.{piece_end};
+ghost use Rattle.fm_play.specs.Performance.{played_of};
+ghost use Rattle.fm_round.specs.Rounds.{AreFresh};
 ghost use Rattle.fm_round.specs.Slots.{AllAtEnd, IsAtEnd, IsFresh};
 
 use crate::limits::MAX_WORKERS;
 use crate::perform::{perform_alone, perform_shared};
-use crate::played::Played;
 use crate::slot::Slot;
 use fm_buffer::{Gather, MAX_ROOM, Outbox};
 use fm_edge::{Gate, Sink};
-use fm_smf::{SinkFault, Writer};
+use fm_play::{Played, begin_file, finish_file};
+use fm_smf::SinkFault;
 use fm_strand::Plan;
 use std::alloc::{AllocError, Global};
 use std::marker::Model;
@@ -50,7 +50,6 @@ impl Rounds {
     /// the least clock.
     pub fn open(alloc: Global, plan: Plan, room: u32, lead: u64) -> Result<Rounds, AllocError>
         requires room { (1 ≤ room) × (room ≤ MAX_ROOM) }
-        requires division { plan.profile.division ≡ DIVISION }
         ensures { IfOk result (λ rounds. rounds ≡ plan) }
     {
         let processes = plan.processes();
@@ -65,8 +64,9 @@ impl Rounds {
         })
     }
 
-    /// Plays the plan into a new sink, in rounds of at most so many threads, at least one. Each
-    /// round lends the processes in as many chunks as there are workers. No memory is taken.
+    /// Plays the plan into a new sink, in the plan's profile and in rounds of at most so many
+    /// threads, at least one. Each round lends the processes in as many chunks as there are
+    /// workers. No memory is taken.
     pub fn play<R: Threads + Sync, G: Gate + Sync, K: Sink>(
         self,
         rt: &R,
@@ -77,9 +77,9 @@ impl Rounds {
         requires workers { workers ≤ MAX_WORKERS }
         requires new { IsNew (K.content sink.old) }
         ensures ok { OnOk result (IsFinished K.content K.sure K.faults sink.old sink.new
-            (piece (plan_lines self)) (piece_end (plan_lines self))) }
+            self.profile (piece (plan_lines self)) (piece_end (plan_lines self))) }
         ensures err { OnErr result (IsBroken K.content K.sure K.faults sink.old sink.new
-            (piece (plan_lines self)) (piece_end (plan_lines self))) }
+            self.profile (piece (plan_lines self)) (piece_end (plan_lines self))) }
         ensures played { IfOk result (λ played. played ≡ played_of self) }
     {
         let Rounds {
@@ -90,7 +90,7 @@ impl Rounds {
             lead,
         } = self;
         let lent = slots.as_mut_slice();
-        let mut writer = Writer::begin_as(&plan.profile(), sink)?;
+        let mut writer = begin_file(&plan, sink)?;
         let events = perform_shared(
             rt,
             gate,
@@ -104,7 +104,7 @@ impl Rounds {
             sink,
         )?;
         let last = end_of_piece(&plan, lent);
-        let bytes = writer.finish(last, sink)?;
+        let bytes = finish_file(&plan, last, writer, sink)?;
         Ok(Played {
             events,
             last,
@@ -112,14 +112,14 @@ impl Rounds {
         })
     }
 
-    /// Plays the plan into a new sink on the caller's thread. It always returns, and takes no
-    /// memory.
+    /// Plays the plan into a new sink, in the plan's profile, on the caller's thread. It always
+    /// returns, and takes no memory.
     pub fn play_alone<K: Sink>(self, sink: &mut K) -> Result<Played, SinkFault>
         requires new { IsNew (K.content sink.old) }
         ensures ok { OnOk result (IsFinished K.content K.sure K.faults sink.old sink.new
-            (piece (plan_lines self)) (piece_end (plan_lines self))) }
+            self.profile (piece (plan_lines self)) (piece_end (plan_lines self))) }
         ensures err { OnErr result (IsBroken K.content K.sure K.faults sink.old sink.new
-            (piece (plan_lines self)) (piece_end (plan_lines self))) }
+            self.profile (piece (plan_lines self)) (piece_end (plan_lines self))) }
         ensures played { IfOk result (λ played. played ≡ played_of self) }
     {
         let Rounds {
@@ -130,10 +130,10 @@ impl Rounds {
             lead,
         } = self;
         let lent = slots.as_mut_slice();
-        let mut writer = Writer::begin_as(&plan.profile(), sink)?;
+        let mut writer = begin_file(&plan, sink)?;
         let events = perform_alone(&plan, lent, &mut gather, room, lead, &mut writer, sink)?;
         let last = end_of_piece(&plan, lent);
-        let bytes = writer.finish(last, sink)?;
+        let bytes = finish_file(&plan, last, writer, sink)?;
         Ok(Played {
             events,
             last,

@@ -1,7 +1,4 @@
 //! Two voices that start together and end at different times, played in both ways.
-ghost use Rattle.std.specs.Prelude.{◌≡◌, IfOk};
-ghost use Rattle.fm_msg.specs.declared.profile.TheConstants.{DIVISION};
-
 use crate::{Played, Rounds};
 use fm_edge::{MemorySink, OpenGate};
 use fm_msg::Profile;
@@ -16,6 +13,13 @@ const FILE: [u8; 51] = [
     0x4D, 0x54, 0x68, 0x64, 0, 0, 0, 6, 0, 0, 0, 1, 1, 0xE0, 0x4D, 0x54, 0x72, 0x6B, 0, 0, 0, 0x1D,
     0, 0xFF, 0x51, 3, 7, 0xA1, 0x20, 0, 0x90, 0x3C, 0x40, 0, 0x90, 0x40, 0x40, 0x81, 0x58, 0x80,
     0x40, 0x40, 0x81, 0x58, 0x80, 0x3C, 0x40, 0x30, 0xFF, 0x2F, 0,
+];
+
+/// The same with running status and 96 ticks a quarter note.
+const RUNNING: [u8; 49] = [
+    0x4D, 0x54, 0x68, 0x64, 0, 0, 0, 6, 0, 0, 0, 1, 0, 0x60, 0x4D, 0x54, 0x72, 0x6B, 0, 0, 0, 0x1B,
+    0, 0xFF, 0x51, 3, 7, 0xA1, 0x20, 0, 0x90, 0x3C, 0x40, 0, 0x40, 0x40, 0x81, 0x58, 0x80, 0x40,
+    0x40, 0x81, 0x58, 0x3C, 0x40, 0x30, 0xFF, 0x2F, 0,
 ];
 
 /// A quarter note of the first chord.
@@ -39,9 +43,7 @@ const SHORT: Op = Op::Note {
 };
 
 // Two voices between two empty processes.
-fn plan_of_two_voices(alloc: Global) -> Result<Plan, AllocError>
-    ensures { IfOk result (λ plan. plan.profile.division ≡ DIVISION) }
-{
+fn plan_of_two_voices(alloc: Global, profile: Profile) -> Result<Plan, AllocError> {
     let first = vec![in alloc; Draw::Fixed { value: 60 }]?;
     let second = vec![in alloc; Draw::Fixed { value: 64 }]?;
     let stock = Stock {
@@ -76,47 +78,57 @@ fn plan_of_two_voices(alloc: Global) -> Result<Plan, AllocError>
         predecessors: vec![in alloc; 1, 2]?,
     };
     let programs = vec![in alloc; root, long, short, close]?;
-    Ok(Plan::of(stock, programs, 0, Profile::first()))
+    Ok(Plan::of(stock, programs, 0, profile))
 }
 
 // Plays the plan on one thread.
-fn plays_alone<R: Abort + AllocGlobal>(rt: &R, plan: Plan) -> Result<(), Fail>
-    requires { plan.profile.division ≡ DIVISION }
-{
+fn plays_alone<R: Abort + AllocGlobal>(rt: &R, plan: Plan, file: &[u8]) -> Result<(), Fail> {
     let alloc = rt.alloc();
     let mut sink = MemorySink::new(alloc, 100, Vec::new(alloc))?;
     let played = Rounds::open(alloc, plan, 1, 0)?.play_alone(&mut sink).ok();
-    has_played(rt, played);
-    assert_eq!(rt; sink.content(), FILE.as_slice());
+    has_played(rt, played, file.len());
+    assert_eq!(rt; sink.content(), file);
     Ok(())
 }
 
 // Plays the plan on four threads.
-fn plays_shared<R: Abort + AllocGlobal + Threads + Sync>(rt: &R, plan: Plan) -> Result<(), Fail>
-    requires { plan.profile.division ≡ DIVISION }
-{
+fn plays_shared<R: Abort + AllocGlobal + Threads + Sync>(
+    rt: &R,
+    plan: Plan,
+    file: &[u8],
+) -> Result<(), Fail> {
     let alloc = rt.alloc();
     let mut sink = MemorySink::new(alloc, 100, Vec::new(alloc))?;
     let rounds = Rounds::open(alloc, plan, 64, 1_000_000)?;
     let played = rounds.play(rt, 4, &OpenGate, &mut sink).ok();
-    has_played(rt, played);
-    assert_eq!(rt; sink.content(), FILE.as_slice());
+    has_played(rt, played, file.len());
+    assert_eq!(rt; sink.content(), file);
     Ok(())
 }
 
 // Compares the size of the piece.
-fn has_played<R: Abort>(rt: &R, played: Option<Played>) {
+fn has_played<R: Abort>(rt: &R, played: Option<Played>, bytes: usize) {
     assert_eq!(rt;
         played.map(|p| (p.events, p.last, p.bytes)),
-        Some((4, 480, 51))
+        Some((4, 480, bytes as u64))
     );
 }
 
 #[test]
 fn two_voices_have_these_bytes(rt: HostRuntime) -> Result<(), Fail> {
     let alloc = rt.alloc();
-    let plan = plan_of_two_voices(alloc)?;
+    let plan = plan_of_two_voices(alloc, Profile::first())?;
     let copy = plan.copy(alloc)?;
-    plays_alone(&rt, plan)?;
-    plays_shared(&rt, copy)
+    plays_alone(&rt, plan, &FILE)?;
+    plays_shared(&rt, copy, &FILE)
+}
+
+#[test]
+fn a_plan_with_running_status_has_these_bytes(rt: HostRuntime) -> Result<(), Fail> {
+    let profile = Profile {
+        running: true,
+        division: 96,
+    };
+    let plan = plan_of_two_voices(rt.alloc(), profile)?;
+    plays_alone(&rt, plan, &RUNNING)
 }

@@ -1,11 +1,9 @@
 -- A strand at the start of its process.
-use Rattle.std.proofs.Common.{◌≡◌, refl, sym, ◌∙◌, ap, subst, arith, ℕ, zero, suc, pos, ◌+◌, ◌%◌, ◌^◌, Some, ◌<◌, ◌≤◌, List, [], ◌∷◌, ◌++◌, length, map, max, reverse, replicate, All, Bool, true, false, ◌&&◌, nat_lt, nat_le, if◌then◌else◌, slice_index_or}
+use Rattle.std.proofs.Common.{◌≡◌, refl, sym, ◌∙◌, ap, subst, arith, ℕ, suc, pos, ◌+◌, ◌%◌, ◌^◌, Some, ◌<◌, ◌≤◌, List, [], ◌∷◌, ◌++◌, length, map, max, reverse, replicate, All, Bool, true, false, ◌&&◌, nat_lt, nat_le, if◌then◌else◌, slice_index_or}
 use Rattle.std.specs.List.{list_all}
-use Rattle.std.proofs.lemmas.List.Elements.{All-append, All-cons, All-nil}
+use Rattle.std.proofs.lemmas.List.Elements.{All-append, All-cons, All-nil, All-replicate}
 use Rattle.fm_tick.specs.declared.tick.TheConstants.{MAX_TICK}
 use Rattle.fm_warp.specs.declared.part.Part.{Part}
-use Rattle.fm_warp.specs.declared.side.Side.TheVariants.{Onset}
-use Rattle.fm_warp.specs.Deformation.{placed}
 use Rattle.fm_line.specs.Line.{greatest, line, start}
 use Rattle.fm_nest.specs.declared.frame.Frame.{Frame}
 use Rattle.fm_nest.specs.declared.nest.TheConstants.{MAX_LEVELS}
@@ -33,11 +31,12 @@ use Rattle.fm_strand.specs.Strand.{InCourse}
 use Rattle.fm_strand.specs.Course.{begun, mark_events, start_place, tick_of, to_come}
 use Rattle.fm_strand.specs.Timing.{IsInTime, IsTimed, level_of, levels_inside}
 use Rattle.fm_strand.proofs.StockLemmas.{below_of, both, list_all-at, most_of, past_of}
-use Rattle.fm_strand.proofs.TimeLemmas.{AreNamed, held-most, IsInTime-held}
+use Rattle.fm_strand.proofs.TimeLemmas.{AreNamed, IsInTime-held, origins-most}
 use Rattle.fm_strand.proofs.TickLemmas.{on_tick, on_tick-mono, position-tick}
 use Rattle.fm_strand.proofs.CourseLemmas.{process-as}
 use Rattle.fm_strand.proofs.StartLemmas.{reopened, same-of, sound-last, sound-start, start-depth, waits}
-use Rattle.fm_strand.proofs.LineLemmas.{line-end, line-events}
+use Rattle.fm_strand.proofs.LineLemmas.{line-end}
+use Rattle.fm_strand.proofs.TurnLemmas.{line-events}
 
 -- ---- levels at a start
 
@@ -92,14 +91,6 @@ opens p j fits below =
 pub named-all : (n : ℕ) (xs : List ℕ) → list_all (λ x. nat_lt x n) xs ≡ true → All (λ x. x < n) xs
 named-all n xs named = λ k d below. below_of (slice_index_or xs k d) n (list_all-at (λ x. nat_lt x n) xs k d named below)
 
--- origins of levels that hold a position are within the limit
-origins-most : (ls : List OpenLevel) (x : ℕ) → levels_hold ls x ≡ true → All (λ o. o ≤ MAX_TICK) (map (λ l. l.origin) ls)
-origins-most [] x held = All-nil (λ o. o ≤ MAX_TICK)
-origins-most (l ∷ ls) x held =
-    let split = both (nat_le x MAX_TICK) (levels_hold ls (placed Onset l.origin l.parts x)) held in
-    All-cons (λ o. o ≤ MAX_TICK) l.origin (map (λ k. k.origin) ls) (omega (arith, held-most ls (placed Onset l.origin l.parts x) split.1))
-    (origins-most ls (placed Onset l.origin l.parts x) split.1)
-
 -- the levels round others are among all
 kept-inside : (warps : List (List Part)) (fs : List Frame) (ls : List OpenLevel)
     → All (λ o. o ≤ MAX_TICK) (map (λ l. l.origin) (levels_inside warps fs ls)) → All (λ o. o ≤ MAX_TICK) (map (λ l. l.origin) ls)
@@ -123,10 +114,6 @@ framed-origins [] [] same = refl
 framed-origins [] (o ∷ os) same = absurd (omega arith)
 framed-origins (w ∷ ws) [] same = absurd (omega arith)
 framed-origins (w ∷ ws) (o ∷ os) same = ap (λ (xs : List ℕ). o ∷ xs) (framed-origins ws os (omega arith))
-
-zeros-most : (n : ℕ) → All (λ o. o ≤ MAX_TICK) (replicate n 0)
-zeros-most zero = All-nil (λ o. o ≤ MAX_TICK)
-zeros-most (suc n) = All-cons (λ o. o ≤ MAX_TICK) 0 (replicate n 0) (omega arith) (zeros-most n)
 
 -- ---- a place where the process starts
 
@@ -172,7 +159,7 @@ begin-limited p j place fits below is =
     (subst (λ (ls : List OpenLevel). All (λ o. o ≤ MAX_TICK) (map (λ l. l.origin) ls))
     (opened-frames p.stock (process_program p j).levels (process_run p j).start.origins [])
     (origins-most (begun p j).levels (begun p j).position (sound-start p j fits below).hold))))
-    (zeros-most _))
+    (All-replicate (λ o. o ≤ MAX_TICK) _ 0 (omega arith)))
 
 -- ---- the tick of a start
 

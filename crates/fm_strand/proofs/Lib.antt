@@ -13,10 +13,13 @@ pub mod ReadLemmas
 pub mod QuantumLemmas
 pub mod StartLemmas
 pub mod LineLemmas
+pub mod TurnLemmas
 pub mod BeginLemmas
 pub mod WholeLemmas
 pub mod MeetLemmas
+pub mod PlaceLemmas
 pub mod NumberLemmas
 pub mod ValidLemmas
 pub mod CallLemmas
 pub mod RichRows
+mod Numerals

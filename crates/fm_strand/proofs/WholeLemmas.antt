@@ -8,17 +8,17 @@ use Rattle.fm_line.specs.Marks.{Mark, mark_event}
 use Rattle.fm_program.specs.declared.plan.TheConstants.{MAX_STEPS}
 use Rattle.fm_program.specs.Parts.{PlanParts}
 use Rattle.fm_program.specs.State.{Standing}
-use Rattle.fm_program.specs.Run.{Stepped, over, stuck, silent, sounding, step, step_from, put_out, Run, program_run}
-use Rattle.fm_program.specs.Process.{ending_mark, plan_lines, spot_reached}
+use Rattle.fm_program.specs.Run.{Stepped, over, stuck, silent, sounding, step, Run, program_run}
+use Rattle.fm_program.specs.Process.{plan_lines, spot_reached}
 use Rattle.fm_program.specs.Fit.{PartsFit}
 use Rattle.fm_strand.specs.declared.strand.Strand.{Strand}
-use Rattle.fm_strand.specs.Course.{begun, code_of, end_place, given, mark_events, passed, place_of, standing, steps_of, tick_from, tick_of, to_come}
+use Rattle.fm_strand.specs.Course.{begun, code_of, end_place, given, mark_events, passed, place_of, standing, steps_of, tick_of, to_come}
 use Rattle.fm_strand.specs.Strand.{InCourse, clock_of, place_reached, rest, steps_left}
-use Rattle.fm_strand.proofs.RunLemmas.{follows, marks_by, sounding_over}
+use Rattle.fm_strand.proofs.RunLemmas.{follows, marks_by}
 use Rattle.fm_strand.proofs.TickLemmas.{Ticks}
 use Rattle.fm_strand.proofs.CourseLemmas.{advances, calm-standing, left-over, over-left, process-as, process-ends}
 use Rattle.fm_strand.proofs.StartLemmas.{last-standing}
-use Rattle.fm_strand.proofs.LineLemmas.{line-end, line-events}
+use Rattle.fm_strand.proofs.TurnLemmas.{last-tick, line-events}
 
 -- the events of marks in turn
 mark_events-append : (ms ns : List Mark) → mark_events (ms ++ ns) ≡ mark_events ms ++ mark_events ns
@@ -40,23 +40,6 @@ whole-line p s course =
     (program_run (code_of p s.process) (MAX_STEPS - s.made) (standing p s.process s.made)).marks)
 
 -- ---- times to come
-
--- nothing is due at the end
-last-due : (p : PlanParts) (j : ℕ) → step (code_of p j) (standing p j (steps_of p j)) ≡ over → (standing p j (steps_of p j)).due ≡ []
-last-due p j ended = at (standing p j (steps_of p j)).due refl
-  where
-    at : (ms : List Mark) → (standing p j (steps_of p j)).due ≡ ms → (standing p j (steps_of p j)).due ≡ []
-    at [] due = due
-    at (m ∷ ms) due =
-        absurd (sounding_over (put_out (standing p j (steps_of p j)).levels m) (record (standing p j (steps_of p j)) { due = ms })
-        (sym (ap (step_from (code_of p j) (standing p j (steps_of p j))) due) ∙ ended))
-
-pub last-tick : (p : PlanParts) (j : ℕ) → PartsFit p → j < length p.programs
-    → tick_of (standing p j (steps_of p j)) ≡ (line (plan_lines p) j).end
-last-tick p j fits below =
-    ap (tick_from (standing p j (steps_of p j)))
-    (last-due p j (left-over p j (steps_of p j) fits below (omega arith) (omega arith)))
-    ∙ ap (λ (w : Standing). (ending_mark w).onset) (sym (last-standing p j fits below)) ∙ sym (line-end p j fits below)
 
 -- an event of a step is at its tick
 step-late : (w : Standing) (x : Stepped) → Ticks w x → All (λ e. tick_of w ≤ e.time) (mark_events (marks_by x))

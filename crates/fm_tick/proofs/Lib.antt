@@ -1,2 +1,3 @@
 pub mod QuotientLemmas
 mod Examples
+mod Numerals

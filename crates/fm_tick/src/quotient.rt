@@ -33,7 +33,7 @@ pub fn sloped(x: u64, v: u64, s0: Stretch, s1: Stretch) -> u64
     sloped_quotient(x, v, s0, s1)
 }
 
-/// The number within the bounds of `sloped`, in as few bits as its products need.
+// The number within the bounds of `sloped`, in as few bits as its products need.
 fn sloped_quotient(x: u64, v: u64, s0: Stretch, s1: Stretch) -> u64
     requires positive { 1 ≤ v }
     requires limited { v ≤ MAX_TICK }
@@ -47,7 +47,7 @@ fn sloped_quotient(x: u64, v: u64, s0: Stretch, s1: Stretch) -> u64
     }
 }
 
-/// `sloped` in 64 bits, by the sums of `wide_sloped`.
+// `sloped` in 64 bits, by the sums of `wide_sloped`.
 #[tactic(auto, unfolding(crate::specs::Quotient::sloped_of))]
 fn narrow_sloped(x: u64, v: u64, s0: Stretch, s1: Stretch) -> u64
     requires whole { 1 ≤ v × (v ≤ MAX_NARROW) }
@@ -60,7 +60,7 @@ fn narrow_sloped(x: u64, v: u64, s0: Stretch, s1: Stretch) -> u64
     sum / (2000 * v)
 }
 
-/// `sloped` of a slope of any length.
+// `sloped` of a slope of any length.
 fn long_sloped(x: u64, v: u64, s0: Stretch, s1: Stretch) -> u64
     requires positive { 1 ≤ v }
     requires limited { v ≤ MAX_TICK }
@@ -70,7 +70,7 @@ fn long_sloped(x: u64, v: u64, s0: Stretch, s1: Stretch) -> u64
     wide_sloped(x as u128, v as u128, s0, s1) as u64
 }
 
-/// `sloped` in 128 bits.
+// `sloped` in 128 bits.
 #[tactic(auto, unfolding(crate::specs::Quotient::sloped_of))]
 fn wide_sloped(x: u128, v: u128, s0: Stretch, s1: Stretch) -> u128
     requires whole { 1 ≤ v × (v ≤ MAX_TICK) }

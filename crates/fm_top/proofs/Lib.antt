@@ -5,3 +5,4 @@ pub mod Judged
 pub mod Playing
 pub mod Completing
 pub mod PlaceRows
+mod Numerals

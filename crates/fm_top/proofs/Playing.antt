@@ -1,5 +1,5 @@
 -- What was written of a plan is the file of what the text means, and what is summed up of it are the score's totals.
-use Rattle.std.proofs.Common.{◌≡◌, ℕ, ◌-◌, List, length, Option, Some, None, ap, sym, ◌∙◌, subst, option_map}
+use Rattle.std.proofs.Common.{◌≡◌, ℕ, ◌-◌, List, length, Option, Some, None, refl, ap, sym, ◌∙◌, subst, option_map}
 use Rattle.fm_line.specs.declared.line.Line.{Line}
 use Rattle.fm_line.specs.Line.{line}
 use Rattle.fm_line.specs.Piece.{piece}
@@ -11,16 +11,17 @@ use Rattle.fm_program.specs.Parts.{PlanParts}
 use Rattle.fm_program.specs.Process.{plan_lines}
 use Rattle.fm_program.proofs.Lines.{plan-lines-length}
 use Rattle.fm_expansion.specs.Numbering.{score_plan}
-use Rattle.fm_round.specs.Ends.{piece_end}
-use Rattle.fm_round.specs.Rounds.{played_of}
-use Rattle.fm_round.specs.declared.played.Played.{Played}
+use Rattle.fm_msg.specs.declared.profile.Profile.{Profile}
+use Rattle.fm_play.specs.Ends.{piece_end}
+use Rattle.fm_play.specs.Performance.{played_of}
+use Rattle.fm_play.specs.declared.played.Played.{Played}
 use Rattle.fm_smf.specs.File.{file}
 use Rattle.fm_smf.specs.Writing.{IsFinished, IsBroken}
 use Rattle.fm_gen.specs.declared.summary.Summary.{Summary}
 use Rattle.fm_words.specs.Settings.{Settings}
 use Rattle.fm_top.specs.Summing.{totals}
 use Rattle.fm_top.specs.Taking.{TakesPlan, TakesScore, offered, remaining}
-use Rattle.fm_top.specs.Outcome.{WritesScore, BreaksScore, WritesWith, number_asked, score_file, score_summary}
+use Rattle.fm_top.specs.Outcome.{WritesScore, BreaksScore, WritesWith, number_asked, profile_of, score_file, score_summary}
 
 -- the lines of the plan of an accepted text are those that it means
 abbrev pub PlansPlay : Type 0
@@ -36,10 +37,19 @@ lines_taken : PlansPlay → (o n : Option (List ℕ)) (plan : PlanParts) (t : Ta
     → plan_lines plan ≡ played_lines (resolved t.planned.score)
 lines_taken plays o n plan t = ap plan_lines t.planned.planned ∙ plays t.text t.planned.score t.planned.means
 
--- the totals of lines, and of the tick at which they end
-abbrev summed : List Line → ℕ → Summary
-summed ls end =
-    record { processes = length ls; events = length (piece ls); last = end; bytes = length (file (piece ls) end) }
+-- the plan of a score has the score's profile
+plan_profile : (s : Score) → (score_plan s).profile ≡ profile_of s
+unfolding profile_of
+plan_profile s = refl
+
+-- so has a plan that was taken
+profile_taken : (o n : Option (List ℕ)) (plan : PlanParts) (t : TakesPlan o n plan) → plan.profile ≡ profile_of t.planned.score
+profile_taken o n plan t = ap (λ (p : PlanParts). p.profile) t.planned.planned ∙ plan_profile t.planned.score
+
+-- the totals of a profile, of lines, and of the tick at which they end
+abbrev summed : Profile → List Line → ℕ → Summary
+summed profile ls end =
+    record { processes = length ls; events = length (piece ls); last = end; bytes = length (file profile (piece ls) end) }
 
 -- what is summed up of a plan that was played are the totals of its score
 pub totals_taken : PlansPlay → LastLinesEnd → (o n : Option (List ℕ)) (plan rounds : PlanParts) (t : TakesPlan o n plan)
@@ -53,8 +63,9 @@ totals_taken plays last o n plan rounds t same processes played count is =
     ap (λ k. totals k played) many ∙ ap (totals (length (plan_lines plan))) (is ∙ ap played_of same)
     in
     sums
-    ∙ ap (λ ls. summed ls (piece_end ls)) (lines_taken plays o n plan t)
-    ∙ ap (summed (played_lines r)) (last t.text t.planned.score t.planned.means)
+    ∙ ap (λ p. summed p (plan_lines plan) (piece_end (plan_lines plan))) (profile_taken o n plan t)
+    ∙ ap (λ ls. summed (profile_of t.planned.score) ls (piece_end ls)) (lines_taken plays o n plan t)
+    ∙ ap (summed (profile_of t.planned.score) (played_lines r)) (last t.text t.planned.score t.planned.means)
 
 -- what is something is not nothing
 pub is_something : {X : Type 0} (o : Option X) (x : X) → o ≡ Some x → o ≡ None → ⊥
@@ -79,24 +90,30 @@ module _ {S K : Type 0} (left : S → Option (List ℕ)) (source_faults : S → 
     lines : plan_lines rounds ≡ played_lines (resolved t.planned.score)
     lines = ap plan_lines same ∙ lines_taken plays _ _ plan t
 
+    -- and their profile
+    profile : rounds.profile ≡ profile_of t.planned.score
+    profile = ap (λ (p : PlanParts). p.profile) same ∙ profile_taken _ _ plan t
+
     -- the file of the plan's piece is written
-    score_written : IsFinished content sure faults sink sink' (piece (plan_lines rounds)) (piece_end (plan_lines rounds))
+    score_written : IsFinished content sure faults sink sink' rounds.profile (piece (plan_lines rounds)) (piece_end (plan_lines rounds))
         → WritesScore left source_faults content sure faults asked source source' sink sink'
     score_written file = record {
       words = is_something asked settings given;
       score = t.planned.score;
       taken = score_taken asked settings given (left source) (left source') plan t;
       file =
-          subst (λ e. IsFinished content sure faults sink sink' (played_piece (resolved t.planned.score)) e)
+          subst (λ e. IsFinished content sure faults sink sink' (profile_of t.planned.score) (played_piece (resolved t.planned.score)) e)
           (last t.text t.planned.score t.planned.means)
-          (subst (λ ls. IsFinished content sure faults sink sink' (piece ls) (piece_end ls)) lines file);
+          (subst (λ ls. IsFinished content sure faults sink sink' (profile_of t.planned.score) (piece ls) (piece_end ls)) lines
+          (subst (λ p. IsFinished content sure faults sink sink' p (piece (plan_lines rounds)) (piece_end (plan_lines rounds)))
+          profile file));
     }
 
     -- and this is what there is to tell of it
     pub summary_written : (processes : ℕ) (played : Played) (summary : Option Summary)
         → processes ≡ length plan.programs → played ≡ played_of rounds
         → summary ≡ option_map (λ _. totals processes played) settings.generate
-        → IsFinished content sure faults sink sink' (piece (plan_lines rounds)) (piece_end (plan_lines rounds))
+        → IsFinished content sure faults sink sink' rounds.profile (piece (plan_lines rounds)) (piece_end (plan_lines rounds))
         → WritesWith left source_faults content sure faults asked source source' sink sink' summary
     unfolding score_written
     summary_written processes played summary count is sums finished = record {
@@ -109,14 +126,16 @@ module _ {S K : Type 0} (left : S → Option (List ℕ)) (source_faults : S → 
     }
 
     -- a call failed before it was
-    pub score_broken : IsBroken content sure faults sink sink' (piece (plan_lines rounds)) (piece_end (plan_lines rounds))
+    pub score_broken : IsBroken content sure faults sink sink' rounds.profile (piece (plan_lines rounds)) (piece_end (plan_lines rounds))
         → BreaksScore left source_faults content sure faults asked source source' sink sink'
     score_broken broken = record {
       words = is_something asked settings given;
       score = t.planned.score;
       taken = score_taken asked settings given (left source) (left source') plan t;
       broken =
-          subst (λ e. IsBroken content sure faults sink sink' (played_piece (resolved t.planned.score)) e)
+          subst (λ e. IsBroken content sure faults sink sink' (profile_of t.planned.score) (played_piece (resolved t.planned.score)) e)
           (last t.text t.planned.score t.planned.means)
-          (subst (λ ls. IsBroken content sure faults sink sink' (piece ls) (piece_end ls)) lines broken);
+          (subst (λ ls. IsBroken content sure faults sink sink' (profile_of t.planned.score) (piece ls) (piece_end ls)) lines
+          (subst (λ p. IsBroken content sure faults sink sink' p (piece (plan_lines rounds)) (piece_end (plan_lines rounds)))
+          profile broken));
     }

@@ -7,7 +7,8 @@ use Rattle.fm_edge.specs.Runs.{Puts}
 use Rattle.fm_words.specs.Settings.{Settings}
 use Rattle.fm_gen.specs.declared.summary.Summary.{Summary}
 use Rattle.fm_lex.specs.declared.spot.Spot.{Spot}
-use Rattle.fm_smf.specs.File.{file}
+use Rattle.fm_msg.specs.declared.profile.Profile.{Profile}
+use Rattle.fm_smf.specs.File.{file, first_profile}
 use Rattle.fm_smf.specs.Writing.{IsFinished, IsBroken}
 use Rattle.fm_grammar.specs.Score as tree
 use Rattle.fm_meaning.specs.Resolve.{resolved}
@@ -28,9 +29,14 @@ abbrev pub number_asked : Option Settings → Option ℕ
 number_asked None = None
 number_asked (Some settings) = settings.generate
 
+-- how the file of a score is written, which its version fixes: in version 1 each status byte is written, and a quarter
+-- note has 480 ticks
+unfoldable pub profile_of : tree.Score → Profile
+profile_of score = first_profile
+
 -- the Standard MIDI File of what a score means
 unfoldable pub score_file : tree.Score → List ℕ
-score_file score = file (played_piece (resolved score)) (played_end (resolved score))
+score_file score = file (profile_of score) (played_piece (resolved score)) (played_end (resolved score))
 
 -- the totals of a score: its processes, its events, the tick of its end, and the length of its file in bytes
 unfoldable pub score_summary : tree.Score → Summary
@@ -61,14 +67,16 @@ module _ {S K : Type 0} (left : S → Option (List ℕ)) (source_faults : S → 
     pub words : AreAccepted asked
     pub score : tree.Score
     pub taken : TakesScore text_before text_after score
-    pub file : IsFinished content sure faults sink sink' (played_piece (resolved score)) (played_end (resolved score))
+    pub file : IsFinished content sure faults sink sink' (profile_of score)
+        (played_piece (resolved score)) (played_end (resolved score))
 
   -- the same, but a call failed before the file was in the sink
   pub record BreaksScore : Type 0 where
     pub words : AreAccepted asked
     pub score : tree.Score
     pub taken : TakesScore text_before text_after score
-    pub broken : IsBroken content sure faults sink sink' (played_piece (resolved score)) (played_end (resolved score))
+    pub broken : IsBroken content sure faults sink sink' (profile_of score)
+        (played_piece (resolved score)) (played_end (resolved score))
 
   -- the file is written, and this is what there is to tell of it
   pub record WritesWith (summary : Option Summary) : Type 0 where

@@ -1,6 +1,6 @@
 -- What is summed up of a performance.
 use Rattle.std.specs.Prelude.{ℕ}
-use Rattle.fm_round.specs.declared.played.Played.{Played}
+use Rattle.fm_play.specs.declared.played.Played.{Played}
 use Rattle.fm_gen.specs.declared.summary.Summary.{Summary}
 
 -- so many processes, and what was played

@@ -20,5 +20,5 @@ mod tests;
 mod text;
 mod top;
 
-pub use fm_words::{NameFault, names};
+pub use fm_words::{WordsFault, names};
 pub use top::formula;

@@ -4,8 +4,8 @@ ghost use Rattle.fm_edge.specs.Content.{IsNew};
 ghost use Rattle.fm_line.specs.Piece.{piece};
 ghost use Rattle.fm_program.specs.Process.{plan_lines};
 ghost use Rattle.fm_smf.specs.Writing.{IsFinished, IsBroken};
-ghost use Rattle.fm_round.specs.Ends.{piece_end};
-ghost use Rattle.fm_round.specs.Rounds.{played_of};
+ghost use Rattle.fm_play.specs.Ends.{piece_end};
+ghost use Rattle.fm_play.specs.Performance.{played_of};
 
 use fm_edge::{Gate, Sink};
 use fm_round::{MAX_WORKERS, Played, Rounds};
@@ -24,9 +24,9 @@ pub fn play<R: Threads + Sync, G: Gate + Sync, K: Sink>(
     requires workers { workers ≤ MAX_WORKERS }
     requires new { IsNew (K.content sink.old) }
     ensures ok { OnOk result (IsFinished K.content K.sure K.faults sink.old sink.new
-        (piece (plan_lines rounds)) (piece_end (plan_lines rounds))) }
+        rounds.profile (piece (plan_lines rounds)) (piece_end (plan_lines rounds))) }
     ensures err { OnErr result (IsBroken K.content K.sure K.faults sink.old sink.new
-        (piece (plan_lines rounds)) (piece_end (plan_lines rounds))) }
+        rounds.profile (piece (plan_lines rounds)) (piece_end (plan_lines rounds))) }
     ensures played { IfOk result (λ played. played ≡ played_of rounds) }
 {
     if workers == 0 {

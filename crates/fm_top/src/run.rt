@@ -14,7 +14,7 @@ use fm_expansion::plans_play_the_score;
 use fm_gen::Summary;
 use fm_promise::scores_end_with_their_last_line;
 use fm_round::{Played, Rounds};
-use fm_words::{NameFault, read_options};
+use fm_words::{WordsFault, read_options};
 use std::alloc::Global;
 use std::thread::Threads;
 
@@ -43,8 +43,8 @@ pub fn run<R: Threads + Sync, S: Source, K: Sink, G: Gate + Sync>(
 {
     let options = match read_options(alloc, words) {
         Ok(options) => options,
-        Err(NameFault::Words) => return Err(RunFault::Words),
-        Err(NameFault::Memory) => return Err(RunFault::Memory),
+        Err(WordsFault::Words) => return Err(RunFault::Words),
+        Err(WordsFault::Memory) => return Err(RunFault::Memory),
     };
     let plan = read_score(alloc, options.generate, source)?;
     plans_play_the_score();

@@ -40,7 +40,7 @@ fn push_decimal(text: &mut Text, number: u32)
     }
 }
 
-// The text for a refused text with a place.
+// The line of a refused text, with the place and the number of its fault.
 fn text_at(line: u32, column: u32, number: u8) -> Text
     ensures { result.items ≡ place_text line column number }
 {

@@ -1,3 +1,4 @@
 pub mod Simple
 pub mod Numbers
 mod Rows
+mod Numerals

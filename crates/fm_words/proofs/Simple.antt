@@ -8,8 +8,8 @@ use Rattle.clap.proofs.OnLiterals.{clap_on_literals}
 use Rattle.fm_words.specs.Command.{command}
 use Rattle.fm_words.specs.Settings.{Settings, settings_in, settings_of}
 use Rattle.fm_words.specs.View.{IsRefusedBy}
-use Rattle.fm_words.specs.declared.name_fault.NameFault.{NameFault}
-use Rattle.fm_words.specs.declared.name_fault.NameFault.TheVariants.{Words, Memory}
+use Rattle.fm_words.specs.declared.words_fault.WordsFault.{WordsFault}
+use Rattle.fm_words.specs.declared.words_fault.WordsFault.TheVariants.{Words, Memory}
 
 -- its matches and its faults are exact
 pub simple_and_free : is_simple_and_free command ≡ true
@@ -22,7 +22,7 @@ unfolding clap_on_literals command
 simple = refl
 
 -- a kind among some kinds is a refusal, or stands for want of memory
-pub among : (fault : NameFault) (kind : ErrorKind) (kinds : Kinds) → IsAmong kind kinds → IsRefusedBy kinds fault
+pub among : (fault : WordsFault) (kind : ErrorKind) (kinds : Kinds) → IsAmong kind kinds → IsRefusedBy kinds fault
 among fault kind [] within = absurd within
 among Words kind (x ∷ xs) within = refl
 among Memory kind (x ∷ xs) within = tt

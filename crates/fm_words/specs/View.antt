@@ -4,8 +4,8 @@ use Rattle.clap.specs.Kinds.{Kinds}
 use Rattle.fm_words.specs.Settings.{Settings, has_fault}
 use Rattle.fm_words.specs.declared.chosen.Chosen.{Chosen}
 use Rattle.fm_words.specs.declared.limits.TheConstants.{MAX_GENERATE, MAX_LEAD, MAX_ROOM, MAX_WORKERS, MIN_ROOM}
-use Rattle.fm_words.specs.declared.name_fault.NameFault.{NameFault}
-use Rattle.fm_words.specs.declared.name_fault.NameFault.TheVariants.{Words, Memory}
+use Rattle.fm_words.specs.declared.words_fault.WordsFault.{WordsFault}
+use Rattle.fm_words.specs.declared.words_fault.WordsFault.TheVariants.{Words, Memory}
 use Rattle.fm_words.specs.declared.options.Options.{Options}
 
 -- the settings that options hold
@@ -41,6 +41,6 @@ pub record HasRanges (s : Settings) : Type 0 where
   pub generate : IfSome s.generate (λ n. n ≤ MAX_GENERATE)
 
 -- a fault that stands for these kinds of clap's: a refusal only where there are some
-abbrev pub IsRefusedBy : Kinds → NameFault → Type 0
+abbrev pub IsRefusedBy : Kinds → WordsFault → Type 0
 IsRefusedBy kinds Words = has_fault kinds ≡ true
 IsRefusedBy kinds Memory = Unit {0}

@@ -11,7 +11,7 @@ use crate::limits::{
     DEFAULT_LEAD, DEFAULT_ROOM, DEFAULT_WORKERS, MAX_GENERATE, MAX_LEAD, MAX_ROOM, MAX_WORKERS,
     MIN_ROOM,
 };
-use crate::name_fault::NameFault;
+use crate::words_fault::WordsFault;
 use clap::ArgMatches;
 use clap::error::ErrorKind;
 use std::alloc::Global;
@@ -29,7 +29,7 @@ pub struct Chosen<'a> {
 }
 
 /// What the command finds in the words.
-pub fn matches_in<'a>(alloc: Global, words: &'a [String]) -> Result<ArgMatches<'a>, NameFault>
+pub fn matches_in<'a>(alloc: Global, words: &'a [String]) -> Result<ArgMatches<'a>, WordsFault>
     ensures ok { IfOk result (λ m. (fault_of command (map string_bytes words.entry.now) ≡ [])
         × (rows_of (found_of m) ≡ matches_of command (map string_bytes words.entry.now))) }
     ensures err { IfErr result (λ e.
@@ -43,14 +43,14 @@ pub fn matches_in<'a>(alloc: Global, words: &'a [String]) -> Result<ArgMatches<'
 }
 
 // What an error of the command means: every kind but want of memory is a refusal.
-fn fault_by(kind: ErrorKind) -> NameFault
-    ensures memory { kind ≡ ErrorKind.OutOfMemory → result ≡ NameFault.Memory }
-    ensures words { result ≡ NameFault.Memory → kind ≡ ErrorKind.OutOfMemory }
+fn fault_by(kind: ErrorKind) -> WordsFault
+    ensures memory { kind ≡ ErrorKind.OutOfMemory → result ≡ WordsFault.Memory }
+    ensures words { result ≡ WordsFault.Memory → kind ≡ ErrorKind.OutOfMemory }
 {
     if kind == ErrorKind::OutOfMemory {
-        NameFault::Memory
+        WordsFault::Memory
     } else {
-        NameFault::Words
+        WordsFault::Words
     }
 }
 

@@ -10,14 +10,14 @@
 mod chosen;
 mod command;
 mod limits;
-mod name_fault;
 mod options;
 #[cfg(test)]
 mod tests;
+mod words_fault;
 
 pub use limits::{
     DEFAULT_LEAD, DEFAULT_ROOM, DEFAULT_WORKERS, MAX_GENERATE, MAX_LEAD, MAX_ROOM, MAX_WORKERS,
     MIN_ROOM,
 };
-pub use name_fault::NameFault;
 pub use options::{Options, names, read_options};
+pub use words_fault::WordsFault;

@@ -4,7 +4,7 @@ ghost use Rattle.fm_words.specs.Settings.{files_of, settings_of};
 ghost use Rattle.fm_words.specs.View.{HasRanges, options_view};
 
 use crate::chosen::{chosen_in, matches_in};
-use crate::name_fault::NameFault;
+use crate::words_fault::WordsFault;
 use std::alloc::Global;
 
 /// What the words of the command line ask for.
@@ -29,16 +29,16 @@ pub struct Options {
 
 /// Reads the words after the program's name. The first text is the file that is read and the second
 /// the one that is written; options may stand anywhere before a word `--`.
-pub fn read_options(alloc: Global, words: &[String]) -> Result<Options, NameFault>
+pub fn read_options(alloc: Global, words: &[String]) -> Result<Options, WordsFault>
     ensures ok { IfOk result (λ options.
         settings_of (map string_bytes words.now) ≡ Some (options_view options)) }
     ensures range { IfOk result (λ options. HasRanges (options_view options)) }
     ensures words { IfErr result (λ e.
-        e ≡ NameFault.Words → settings_of (map string_bytes words.now) ≡ None) }
+        e ≡ WordsFault.Words → settings_of (map string_bytes words.now) ≡ None) }
 {
     let matches = matches_in(alloc, words)?;
     let Some(chosen) = chosen_in(&matches) else {
-        return Err(NameFault::Words);
+        return Err(WordsFault::Words);
     };
     let source = String::from_str(alloc, chosen.source)?;
     let target = String::from_str(alloc, chosen.target)?;
@@ -54,11 +54,11 @@ pub fn read_options(alloc: Global, words: &[String]) -> Result<Options, NameFaul
 }
 
 /// The file that is read and the file that is written, as the words name them.
-pub fn names(alloc: Global, words: &[String]) -> Result<(String, String), NameFault>
+pub fn names(alloc: Global, words: &[String]) -> Result<(String, String), WordsFault>
     ensures ok { IfOk result (λ n. files_of (settings_of (map string_bytes words.now))
         ≡ Some (string_bytes n.0, string_bytes n.1)) }
     ensures words { IfErr result (λ e.
-        e ≡ NameFault.Words → settings_of (map string_bytes words.now) ≡ None) }
+        e ≡ WordsFault.Words → settings_of (map string_bytes words.now) ≡ None) }
 {
     let Options { source, target, .. } = read_options(alloc, words)?;
     Ok((source, target))

@@ -123,10 +123,10 @@ fn doubtful_words_are_refused(rt: HostRuntime) -> Result<(), Fail> {
     let alloc = rt.alloc();
     for line in REFUSED {
         let fault = read_options(alloc, &words_of(alloc, line)?).err();
-        assert_eq!(rt; fault, Some(NameFault::Words), "{line}");
+        assert_eq!(rt; fault, Some(WordsFault::Words), "{line}");
     }
     let none = read_options(alloc, &Vec::new(alloc)).err();
-    assert_eq!(rt; none, Some(NameFault::Words));
+    assert_eq!(rt; none, Some(WordsFault::Words));
     Ok(())
 }
 
@@ -160,6 +160,20 @@ fn names_are_the_two_texts(rt: HostRuntime) -> Result<(), Fail> {
     assert_eq!(rt; source.as_str(), "a.txt");
     assert_eq!(rt; target.as_str(), "b.mid");
     let fault = names(alloc, &words_of(alloc, "a.txt")?).err();
-    assert_eq!(rt; fault, Some(NameFault::Words));
+    assert_eq!(rt; fault, Some(WordsFault::Words));
+    Ok(())
+}
+
+/// What each fault says.
+const SAID: &[(WordsFault, &str)] = &[
+    (WordsFault::Words, "words refused"),
+    (WordsFault::Memory, "out of memory"),
+];
+
+#[test]
+fn faults_say_what_they_are(rt: HostRuntime) -> Result<(), AllocError> {
+    for (fault, text) in SAID {
+        assert_eq!(rt; format!(in rt.alloc(); "{fault}")?.as_str(), *text);
+    }
     Ok(())
 }

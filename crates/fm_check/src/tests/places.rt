@@ -294,7 +294,7 @@ const LISTS: &[(&str, &str, u32, &str, Verdict)] = &[
     ),
 ];
 
-/// Adds a text so many times.
+// Adds a text so many times.
 fn again(text: &mut String, times: u32, part: &str) -> Result<(), Fail> {
     for _ in 0..times {
         text.push_str(part)?;
@@ -302,7 +302,7 @@ fn again(text: &mut String, times: u32, part: &str) -> Result<(), Fail> {
     Ok(())
 }
 
-/// Blocks inside one another: so many of the one, inside them so many of the other.
+// Blocks inside one another: so many of the one, inside them so many of the other.
 fn nested(
     alloc: Global,
     before: &str,

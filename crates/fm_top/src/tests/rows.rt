@@ -149,6 +149,13 @@ const REFUSED: &[(&str, &str)] = &[
         "1:44 fault 5",
     ),
     ("formula 1; do x;", "1:15 fault 6"),
+    // faults of two groups, of which the earlier group's stands later
+    ("formula 1; skip; do x; A", "1:24 fault 1"),
+    ("formula 1; skip; do x;", "1:21 fault 6"),
+    (
+        "formula 1; repeat 1000000 { note c4, d4, e4 ticks 0; } skip;",
+        "1:56 fault 10",
+    ),
     ("formula 2;", "1:9 fault 7"),
     ("formula 1; note c4 1/7;", "1:20 fault 8"),
     (

@@ -1,6 +1,4 @@
 //! Pieces under each way of playing, and their plans.
-ghost use Rattle.std.specs.Prelude.{◌≡◌, IfOk};
-ghost use Rattle.fm_msg.specs.declared.profile.TheConstants.{DIVISION};
 
 use super::lines::sum_of;
 use super::rows::{THREE_TRACK, check_run};
@@ -121,18 +119,13 @@ fn a_length_of_which_three_bytes_are_written(rt: HostRuntime) -> Result<(), Fail
     Ok(())
 }
 
-fn plan_of(alloc: Global, text: &str) -> Result<Plan, RunFault>
-    ensures { IfOk result (λ plan. plan.profile.division ≡ DIVISION) }
-{
+fn plan_of(alloc: Global, text: &str) -> Result<Plan, RunFault> {
     let mut source = SureSource::new(text.as_bytes().to_vec(alloc)?);
-    let plan = read_score(alloc, None, &mut source)?;
-    Ok(plan)
+    read_score(alloc, None, &mut source)
 }
 
 // Plays a plan on the caller's thread.
-fn play_alone(alloc: Global, plan: Plan) -> Result<(Option<Played>, Vec<u8>), AllocError>
-    requires { plan.profile.division ≡ DIVISION }
-{
+fn play_alone(alloc: Global, plan: Plan) -> Result<(Option<Played>, Vec<u8>), AllocError> {
     let mut sink = MemorySink::new(alloc, CAPACITY, Vec::new(alloc))?;
     let played = Rounds::open(alloc, plan, 32, 7_680)?
         .play_alone(&mut sink)

@@ -1,23 +1,34 @@
 -- One that is not as it must be is found, or there is none.
-use Rattle.std.proofs.Common.{rules, ◌≡◌, length, true, sym, arith}
-use Rattle.std.specs.Prelude.{not}
-use Rattle.fm_core.proofs.Below.{any_at, not_any, one_more}
-use Rattle.fm_core.proofs.Booleans.{true_from, false_from}
-use Rattle.fm_hall.specs.Checks.{fits_among}
+use Rattle.std.proofs.Common.{rules, ◌≡◌, ℕ, suc, ◌<◌, Bool, true, false, length, refl, sym, subst, arith}
+use Rattle.std.proofs.lemmas.Bool.{both_ways}
+use native.Mathlib.Decide.{ℕ_discrete}
+use mathlib.Core.Logic.{dite}
+use Rattle.fm_line.specs.Validity.{line_valid}
+use Rattle.fm_line.proofs.NumberTests.{each_below_at, each_below_from}
 use Rattle.fm_hall.proofs.checks.all_fit.Goals as goal
+
+-- a test that cannot hold does not
+never : (b : Bool) → (b ≡ true → ⊥) → b ≡ false
+never true cannot = absurd (cannot refl)
+never false cannot = refl
+
+-- one more that is as it must be
+one_more : (f : ℕ → Bool) (p : ℕ) → f p ≡ true → ((q : ℕ) → q < p → f q ≡ true) → (q : ℕ) → q < suc p → f q ≡ true
+one_more f p here before_it q lt = dite (ℕ_discrete q p) (λ e. subst (λ (r : ℕ). f r ≡ true) (sym e) here)
+    (λ d. before_it q (omega arith))
 
 pub returns-then-not-does_fit : goal.returns-then-not-does_fit
 returns-then-not-does_fit c =
     let ls = c.args.lines.now in let p = c.loop-place.place in
-    let here : not (fits_among ls p) ≡ true = search rules in
-    sym (false_from _ (any_at (length ls) (λ q. not (fits_among ls q)) p c.loop-place-test.true here))
+    let here : line_valid ls p ≡ false = search rules in
+    sym (never _ (λ all. both_ways _ here (each_below_at (length ls) p (line_valid ls) all c.loop-place-test.true)))
 
 pub loop-place-preserved : goal.loop-place-preserved
 loop-place-preserved c =
     let ls = c.args.lines.now in let p = c.loop-place.place in
-    λ q lt. one_more (λ r. not (fits_among ls r)) p (search rules) c.loop-place.invariant q (omega arith)
+    λ q lt. one_more (line_valid ls) p (search rules) c.loop-place.invariant q (omega arith)
 
 pub returns : goal.returns
 returns c =
     let ls = c.args.lines.now in let past = c.loop-place-test.false in
-    sym (true_from _ (not_any (length ls) (λ q. not (fits_among ls q)) (λ q lt. c.loop-place.invariant q (omega arith))))
+    sym (each_below_from (length ls) (line_valid ls) (λ q lt. c.loop-place.invariant q (omega arith)))

@@ -1,9 +1,8 @@
 -- The events so far and those of the next line are no more than all.
 use Rattle.std.proofs.Common.{◌≡◌, ℕ, zero, suc, ◌≤◌, length, sym, ap, arith}
-use Rattle.std.proofs.lemmas.Bool.{lt-ltb}
+use Rattle.std.proofs.lemmas.Bool.{lt-leb}
 use native.Mathlib.Decide.{ℕ_discrete}
 use mathlib.Core.Logic.{dite}
-use Rattle.fm_core.proofs.Booleans.{false_from}
 use Rattle.fm_line.specs.Line.{line, sum_below, total, most_events}
 use Rattle.fm_hall.proofs.checks.have_few_events.Goals as goal
 
@@ -19,4 +18,4 @@ returns-then-space-more c =
     let more = ap length c.events_of-more.ensures in
     let so_far = c.loop-place.invariant.sum in
     let all = sum_rises (suc p) (length ls) (λ q. length (line ls q).events) (omega arith) in
-    sym (false_from _ (lt-ltb most_events (total ls) (omega arith)))
+    sym (lt-leb (total ls) most_events (omega arith))

@@ -7,5 +7,5 @@ pub returns-clause-ok : goal.returns-clause-ok
 unfolding named
 returns-clause-ok g c = λ other.
     first_defined c.args.self.now.firsts c.insert.new.self (other_at c.args.self.now other) c.args.name.now other
-    c.place-number.result (record { text = c.args.name; value = c.args.value }) c.place-number.ensures refl c.requires
+    c.key-number.result (record { text = c.args.name; value = c.args.value }) c.key-number.ensures refl c.requires
     c.in_ok-insert.ensures.updates

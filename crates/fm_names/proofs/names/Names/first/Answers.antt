@@ -5,4 +5,4 @@ use Rattle.fm_names.proofs.names.Names.first.Goals as goal
 
 pub returns : goal.returns
 returns g c =
-    c.get.ensures.value ∙ ap (λ place. get_by (nat_cmp place) c.args.self.now.firsts) c.place-number.ensures
+    c.get.ensures.value ∙ ap (λ key. get_by (nat_cmp key) c.args.self.now.firsts) c.key-number.ensures

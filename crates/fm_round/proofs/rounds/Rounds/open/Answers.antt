@@ -8,7 +8,6 @@ invariant_of-result c =
     let slots = c.in_ok-slots.ensures in
     let gather = c.in_ok-gather.ensures in record {
       fits = c.processes-processes.ensures.fits;
-      division = c.requires.division;
       some = omega arith;
       count = slots.count ∙ c.processes-processes.ensures.value;
       fresh = slots.fresh;

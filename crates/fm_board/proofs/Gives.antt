@@ -1,0 +1,231 @@
+-- A give keeps the rule.
+use Rattle.std.proofs.Common.{◌≡◌, ◌≢◌, ◌⊎◌, ℕ, ◌+◌, ◌-◌, ◌<◌, ◌≤◌, List, ◌∷◌, ◌++◌, length, get_or, set, take, drop, Bool, true, false, Option, Some, refl, sym, ap, ◌∙◌, subst, inl, inr, arith, eqb-true, ne_eqb, get_or-set_same, append-nil}
+use Rattle.std.specs.Prelude.{◌&&◌, ◌||◌, nat_eq, not, if◌then◌else◌, slice_set}
+use Rattle.std.proofs.lemmas.List.{length-drop, length-take}
+use mathlib.Core.Option.{some, none}
+use lib.ListN.{get_elem?}
+use Rattle.atomic_table.specs.Table.{Allows, gives, step}
+use Rattle.fm_line.specs.declared.line.Line.{Line}
+use Rattle.fm_line.specs.Line.{line}
+use Rattle.fm_core.proofs.Booleans.{both, clash, right_false, left_false}
+use Rattle.fm_core.proofs.Elements.{or_set, take_none}
+use Rattle.fm_core.proofs.Given.{given_ended, given_not_held, given_not_unborn}
+use Rattle.fm_core.proofs.GiveTests.{may_give}
+use Rattle.fm_core.proofs.Keeps as core
+use Rattle.fm_core.specs.Effects.{after, given, visits_by_give}
+use Rattle.fm_core.specs.State.{State, cell, held_by, unborn}
+use Rattle.fm_core.specs.Tags.{given_tag, is_ended, is_held, is_unborn}
+use Rattle.fm_core.specs.Taking.{count_due, is_due, outbox}
+use Rattle.fm_core.specs.Taking as taking
+use Rattle.fm_core.specs.declared.cell.Cell.{Cell}
+use Rattle.fm_core.specs.declared.due.Due.{Due}
+use Rattle.fm_core.specs.declared.step.Step.TheVariants.{Give}
+use Rattle.fm_core.specs.declared.tag.Tag.{Tag}
+use Rattle.fm_buffer.specs.Outbox.{EventQueue}
+use Rattle.fm_program.specs.Process.{plan_lines}
+use Rattle.fm_strand.specs.declared.strand.Strand.{Strand}
+use Rattle.fm_strand.specs.Strand.{clock_of}
+use Rattle.fm_board.specs.declared.about.About.{About}
+use Rattle.fm_board.specs.declared.room.Room.{Room}
+use Rattle.fm_board.specs.declared.view.Hold.{Hold}
+use Rattle.fm_board.specs.declared.view.Mind.{Mind}
+use Rattle.fm_board.specs.Calls as calls
+use Rattle.fm_board.specs.Given.{MayGiveAll}
+use Rattle.fm_board.specs.Plays.{GivesBack, Place, gives_back, noticed}
+use Rattle.fm_board.specs.StandsFor.{AtHome, IsSeat, IsSightOfZero, IsViewOf, Shown, StandsFor, StandsForSome, Table, count, setting}
+use Rattle.fm_board.specs.View.{gave}
+use Rattle.fm_board.specs.Words.{spell, spelt, word_at}
+use Rattle.fm_board.proofs.Frames.{halt_other, halt_stays, Leaves, cell_moves, comes_home, no_word, places_stay, reseated, word_moves, written_stays}
+use Rattle.fm_board.proofs.Giving.{allowed}
+use Rattle.fm_board.proofs.Looks.{lined, sees_now, valid_of}
+use Rattle.fm_board.proofs.Spellings.{one_word, yes_or_no}
+use Rattle.fm_board.proofs.Views as views
+
+same_some : {A : Type 0} (x y : A) → Some x ≡ Some y → x ≡ y
+same_some x y e = cc
+
+-- what a seat above 0 takes is nothing
+none_taken : (due : Due) (v : Bool) (id : ℕ) (l : Line) (c : Cell) → id ≢ 0 → taking.must_take_at due v id l c ≡ 0
+none_taken due v id l c n = ap (λ b. if b && not v then count_due due (outbox l c) else 0) (ne_eqb id 0 n)
+
+-- what a slot is given
+abbrev pub brought : Strand → EventQueue → Room
+brought t box = record { strand = Some t; outbox = box }
+
+module _ (a : About) (s : Table) (k : StandsForSome a s) (p id : ℕ) (m : Mind) (at : get_elem? s.views id ≡ some m) (near : p < count a)
+    (t : Strand) (box : EventQueue) (may : calls.MayGive a m.view p t box) (fits : length box.events ≤ box.room) where
+  abbrev h : State
+  h = k.core
+
+  abbrev c : Cell
+  c = cell k.core p
+
+  abbrev l : Line
+  l = line (plan_lines a.plan) p
+
+  seat : IsSeat a h id m
+  seat = k.stands.views.viewed id m at
+
+  inside : p < length h.cells
+  inside = omega (arith, lined a s k, near)
+
+  pub all : MayGiveAll a h m.view id p t box
+  all = allowed a h m.view id p t box
+      (record { valid = valid_of a; sound = k.sound; seat = seat.here; view = seat.is; zero = seat.zero; within = fits; may = may })
+
+  abbrev now : ℕ
+  now = clock_of a.plan t
+
+  abbrev left : ℕ
+  left = c.computed + all.computed - (c.taken + all.taken)
+
+  abbrev home : Cell
+  home = given a.room c all.taken all.computed now all.ends
+
+  abbrev h' : State
+  h' = after (setting a) h (Give id p all.taken all.computed now all.ends)
+
+  here : get_or (set h.cells p home) p unborn ≡ home
+  here = get_or-set_same h.cells p home unborn inside
+
+  mine_now : (is_held c.tag ≡ true) × (nat_eq c.seat id ≡ true)
+  mine_now = both (is_held c.tag) (nat_eq c.seat id) all.allowed.held
+
+  free_now : is_held home.tag ≡ false
+  free_now = given_not_held a.room left all.ends
+
+  ended_is : is_ended home.tag ≡ all.ends
+  ended_is = given_ended a.room left all.ends
+
+  -- as many wait as the core says
+  waiting_is : length box.events ≡ left
+  waiting_is =
+      ap length all.home
+      ∙ (length-take left (drop (c.taken + all.taken) l.events)
+      ∙ (let d = length-drop (c.taken + all.taken) l.events in let f = all.allowed.fits in omega arith))
+
+  ends_is : all.ends ≡ (may.h.recorded || may.h.was_ended)
+  ends_is = all.is_ends ∙ ap (λ (x : Hold). x.recorded || x.was_ended) (same_some all.hold may.h (sym all.is_hold ∙ may.is))
+
+  leaves : Leaves h h' id
+  leaves = cell_moves h id p home h.floor h.due (visits_by_give h id p) (h.gather ++ take all.taken (outbox l c)) h.released inside
+      (λ j n. let seat_is : c.seat ≡ id = eqb-true c.seat id mine_now.1 in
+      right_false (is_held c.tag) (nat_eq c.seat j) (ne_eqb c.seat j (λ e. n (sym e ∙ seat_is))))
+      (λ j n. left_false (is_held home.tag) (nat_eq 0 j) free_now)
+      all.allowed.on (λ e. ended_is ∙ all.allowed.stays e)
+      (λ n. record {
+        due = refl;
+        visited = ap (λ b. if b && is_due h.due then slice_set h.visited p true else h.visited) (ne_eqb id 0 (λ e. n (sym e)));
+        gather =
+            ap (λ x. h.gather ++ take x (outbox l c)) (all.allowed.take ∙ none_taken h.due _ id l c (λ e. n (sym e)))
+            ∙ (ap (λ xs. h.gather ++ xs) (take_none (outbox l c)) ∙ append-nil h.gather);
+        released = refl;
+        floor = refl;
+      })
+
+  -- the seat held no other
+  only : (j : ℕ) → j < length h.cells → j ≢ p → held_by id (cell h j) ≡ false
+  only j lt n = by_case (yes_or_no (held_by id (cell h j)))
+    where
+      by_case : (held_by id (cell h j) ≡ true) ⊎ (held_by id (cell h j) ≡ false) → held_by id (cell h j) ≡ false
+      by_case (inl held) =
+          let it = both (is_held (cell h j).tag) (nat_eq (cell h j).seat id) held in
+          absurd (n (k.sound.alone j p lt inside it.0 mine_now.0 (eqb-true (cell h j).seat id it.1 ∙ sym (eqb-true c.seat id mine_now.1))))
+      by_case (inr free) = free
+
+  view : IsViewOf a h' id (gave m.view)
+  view = record {
+    plan = seat.is.plan;
+    number = seat.is.number;
+    holds = λ j lt. or_set (λ (x : Cell). held_by id x ≡ false) h.cells p j home unborn inside
+        (λ _. left_false (is_held home.tag) (nat_eq 0 id) free_now) (λ n. only j (omega (arith, leaves.cells, lt)) n);
+    sweep = seat.is.sweep;
+    paced = seat.is.paced;
+  }
+
+  zero_sees : id ≡ 0 → IsSightOfZero (setting a) h' (gave m.view)
+  zero_sees e =
+      subst (λ (y : ℕ × ℕ × ℕ). IsSightOfZero (setting a) (after (setting a) h (Give y.0 y.1 y.2 all.computed now all.ends)) (gave m.view))
+      (λ i. (sym e i, all.is_process i, sym all.takes i))
+      (views.gives a h m.view (subst (λ (n : ℕ). IsViewOf a h n m.view) e seat.is)
+      (seat.zero e) all.hold all.computed now all.ends all.is_hold
+      (all.waits ∙ ap (λ (q : ℕ). outbox (line (plan_lines a.plan) q) (cell h q)) (sym all.is_process)))
+
+  at_home : AtHome a p home (brought t box)
+  at_home = record {
+    strand = (all.strand, (λ e. may.over (sym ends_is ∙ (sym ended_is ∙ e))));
+    box = λ i. record { room = may.room i; events = all.home i };
+    recorded = sym all.recorded ∙ sym ended_is;
+  }
+
+  -- the rule after the store
+  pub stands : (tag : Tag) (new : ℕ) → is_ended tag ≡ is_ended home.tag → new ≡ spelt home
+      → StandsForSome a (record {
+        words = set s.words (word_at p) new;
+        homes = set s.homes p (some (Some (brought t box)));
+        views = set s.views id (noticed m p tag now (gave m.view));
+      })
+  stands tag new same is_new =
+      let w : Mind = noticed m p tag now (gave m.view) in
+      let mine : IsSeat a h' id w = sees_now a h' id p m (gave m.view) seat.here view seat.room zero_sees seat.wide
+      (λ q. let on = leaves.clock q in let known = seat.known q in omega arith)
+      (λ q e. leaves.over q (seat.over q e))
+      tag now m.last (let clock = ap (λ (x : Cell). x.clock) here in omega arith)
+      (λ e. ap (λ (x : Cell). is_ended x.tag) here ∙ (sym same ∙ e)) in
+      let shown : Shown home = record {
+        idle = λ e. refl;
+        unborn = λ e. absurd (clash (is_unborn home.tag) e (given_not_unborn a.room left all.ends));
+      } in record {
+        core = h';
+        sound = core.keeps (setting a) h (Give id p all.taken all.computed now all.ends) (valid_of a) k.sound
+            (may_give (setting a) h id p all.taken all.computed now all.ends all.allowed);
+        stands = subst (λ (n : ℕ). StandsFor a (record {
+          words = set s.words (word_at p) n;
+          homes = set s.homes p (some (Some (brought t box)));
+          views = set s.views id w;
+        }) h') (sym is_new) (record {
+          crew = k.stands.crew;
+          words = word_moves a s.words h.cells h.floor k.stands.words p home inside (lined a s k) shown (λ e. e);
+          homes = comes_home a s.homes h.cells k.stands.homes p home (brought t box) inside (lined a s k) at_home;
+          views = reseated a h h' id leaves s.views m w at refl mine k.stands.views;
+          wrote = written_stays a s.words (set s.words (word_at p) (spelt home)) s.views id m w at
+              (places_stay s.words (word_at p) (spelt home) (no_word p)) (λ x e. absurd (cc)) k.stands.wrote;
+          halt = halt_stays a s.words (set s.words (word_at p) (spelt home)) s.views id m w at
+              (halt_other a s.words p (spelt home) near) refl k.stands.halt;
+        });
+      }
+
+  -- the word that a give stores spells the process at home
+  pub spells : (new : ℕ) → new ≡ spell (given_tag a.room (may.h.recorded || may.h.was_ended) (length box.events)) now 0 → new ≡ spelt home
+  spells new is = is ∙ (λ i. spell (given_tag a.room (sym ends_is i) (waiting_is i)) now 0)
+
+-- a give is the core's give
+gives_at : (a : About) (slots id p new : ℕ) (m : Mind) (cs : List (ℕ × Option Room)) (t : Strand) (box : EventQueue)
+    → (may : calls.MayGive a m.view p t box) → length box.events ≤ box.room → p < count a
+    → new ≡ spell (given_tag a.room (may.h.recorded || may.h.was_ended) (length box.events)) (clock_of a.plan t) 0
+    → Allows (StandsForSome a) slots id (m, (p, Some (brought t box)) ∷ cs) (word_at p) (λ _. new)
+    (λ _. gives_back (step slots (word_at p) new 0 none) (m, (p, Some (brought t box)) ∷ cs) new)
+gives_at a slots id p new m cs t box may fits near is_new s k sized at small =
+    let tag : Tag = given_tag a.room (may.h.recorded || may.h.was_ended) (length box.events) in
+    let spells_it = spells a s k p id m at near t box may fits new is_new in
+    let same = one_word _ _ _ _ 0 0 (omega arith) (omega arith) (sym is_new ∙ spells_it) in (
+      noticed m p tag (clock_of a.plan t) (gave m.view),
+      gives,
+      tt,
+      stands a s k p id m at near t box may fits tag new (ap is_ended same.0) spells_it,
+      λ q t' c' n e small_n says.
+          let is = one_word tag t' (clock_of a.plan t) c' 0 n (omega arith) small_n (sym is_new ∙ says) in
+          let here : p ≡ q = omega (arith, e) in
+          subst (λ (y : ℕ × Tag × ℕ). GivesBack (m, (p, Some (brought t box)) ∷ cs) y.0 y.1 y.2
+          (noticed m p tag (clock_of a.plan t) (gave m.view), cs))
+          (λ i. (here i, is.0 i, is.1 i)) (record { mind = refl; out = refl }),
+    )
+
+pub gives_of : (a : About) (slots id p new : ℕ) (m : Place) (cs : List (ℕ × Option Room)) (t : Strand) (box : EventQueue)
+    → m.1 ≡ (p, Some (brought t box)) ∷ cs → (may : calls.MayGive a m.0.view p t box) → length box.events ≤ box.room → p < count a
+    → new ≡ spell (given_tag a.room (may.h.recorded || may.h.was_ended) (length box.events)) (clock_of a.plan t) 0
+    → Allows (StandsForSome a) slots id m (word_at p) (λ _. new) (λ _. gives_back (step slots (word_at p) new 0 none) m new)
+gives_of a slots id p new m cs t box out may fits near is_new =
+    subst (λ (xs : List (ℕ × Option Room)). Allows (StandsForSome a) slots id (m.0, xs) (word_at p) (λ _. new)
+    (λ _. gives_back (step slots (word_at p) new 0 none) (m.0, xs) new))
+    (sym out) (gives_at a slots id p new m.0 cs t box may fits near is_new)

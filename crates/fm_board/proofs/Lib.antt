@@ -1,0 +1,29 @@
+pub mod Frames
+pub mod Releasing
+pub mod Giving
+pub mod Looking
+pub mod Views
+pub mod Spellings
+pub mod Looks
+pub mod Claims
+pub mod Gives
+pub mod Later
+pub mod Publishing
+pub mod Openings
+pub mod Tokens
+pub mod Steps
+pub mod Returns
+pub mod Starts
+pub mod Births
+pub mod StartPlaces
+pub mod Records
+pub mod Recordings
+pub mod Halts
+pub mod Recalls
+pub mod Findings
+pub mod Meetings
+pub mod Pairs
+pub mod Sweeping
+pub mod Advancing
+mod Voices
+mod Numerals

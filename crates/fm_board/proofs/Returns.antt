@@ -1,0 +1,141 @@
+-- What give, publish and release say when they return.
+use Rattle.std.proofs.Common.{◌≡◌, ◌≢◌, ℕ, ◌^◌, ◌<◌, ◌≤◌, List, [], ◌∷◌, length, Bool, Option, Some, None, refl, sym, ap, ◌∙◌, subst, arith}
+use Rattle.std.specs.Prelude.{◌||◌, IsSorted, IsPermutation}
+use mathlib.Core.Option.{none}
+use Rattle.atomic_table.specs.Seated.{TableId}
+use Rattle.atomic_table.specs.Table.{Allows, rest, step}
+use Rattle.fm_msg.specs.Event.{TimedMessage, event_cmp}
+use Rattle.fm_line.specs.Piece.{sorted}
+use Rattle.fm_line.proofs.Sorting.{length-sorted}
+use Rattle.fm_buffer.proofs.Settled.{settled}
+use Rattle.fm_buffer.specs.Outbox.{EventQueue}
+use Rattle.fm_core.specs.Floors.{floor_of}
+use Rattle.fm_core.specs.Sweep.{least}
+use Rattle.fm_core.specs.Tags.{given_tag}
+use Rattle.fm_core.specs.declared.due.Due.TheVariants.{Nothing}
+use Rattle.fm_core.specs.declared.floor.Floor.{Floor}
+use Rattle.fm_core.specs.declared.sight.Sight.{Sight as Look}
+use Rattle.fm_core.specs.declared.tag.Tag.{Tag}
+use Rattle.fm_strand.proofs.WholeLemmas.{end-late}
+use Rattle.fm_strand.proofs.ValidLemmas.{lines-valid}
+use Rattle.fm_strand.specs.declared.strand.Strand.{Strand}
+use Rattle.fm_strand.specs.Strand.{clock_of}
+use Rattle.fm_board.specs.declared.about.About.{About}
+use Rattle.fm_board.specs.declared.room.Room.{Room}
+use Rattle.fm_board.specs.declared.view.Hold.{Hold}
+use Rattle.fm_board.specs.declared.view.Mind.{Mind}
+use Rattle.fm_board.specs.declared.view.View.{View}
+use Rattle.fm_board.specs.Answers.{Gave}
+use Rattle.fm_board.specs.Calls.{MayGive, Releases}
+use Rattle.fm_board.specs.Plays.{GivesBack, Place, Publishes, gives_back, noticed, publishes, viewing}
+use Rattle.fm_board.specs.Plays as plays
+use Rattle.fm_board.specs.Seats.{IsNext, Sight, carried, is_over}
+use Rattle.fm_board.specs.StandsFor.{StandsForSome, count}
+use Rattle.fm_board.specs.View.{gave, processes, released}
+use Rattle.fm_board.specs.Words.{floor_word, spell, word_at}
+use Rattle.fm_board.proofs.Gives.{brought, gives_of}
+use Rattle.fm_board.proofs.Publishing.{publishes_of}
+use Rattle.fm_board.proofs.Steps.{Tidy, idle_tidy}
+
+-- ---- give
+
+-- the clock of a strand that is brought back is at most the last tick
+pub clock_low : (a : About) (v : View) (p n : ℕ) (s : Strand) (box : EventQueue) → MayGive a v p s box → n ≡ clock_of a.plan s → n ≤ 2 ^ 40
+clock_low a v p n s box may is =
+    let late = end-late a.plan s may.strand.course in
+    let top = ((lines-valid a.plan a.fits).ends s.process).0 in omega (arith, late, top, is)
+
+over_is : (a : About) (v : View) (p : ℕ) (s : Strand) (box : EventQueue) (may : MayGive a v p s box)
+    → is_over v.holds ≡ (may.h.recorded || may.h.was_ended)
+over_is a v p s box may = ap is_over may.is
+
+some_held : (a : About) (v : View) (p : ℕ) (s : Strand) (box : EventQueue) → MayGive a v p s box → v.holds ≢ None
+some_held a v p s box may none_held = let is = sym may.is ∙ none_held in absurd (cc)
+
+pub gives_at : (key a : About) (slots id i p new left clock n c : ℕ) (o : Bool) (xs : List Look) (tag : Tag) (m m1 : Place) (s : Strand)
+    (box : EventQueue) (x : Sight)
+    → key ≡ a → m.0 ≡ x.mind → i ≡ word_at p → MayGive a x.mind.view p s box → length box.events ≤ box.room → Tidy n o xs c m
+    → tag ≡ given_tag a.room o left → left ≡ length box.events → clock ≡ clock_of a.plan s → new ≡ spell tag clock 0
+    → m1 ≡ (m.0, (p, Some (brought s box)) ∷ rest m.1)
+    → Allows (StandsForSome key) slots id m1 i (λ _. new) (λ _. gives_back (step slots i new 0 none) m1 new)
+gives_at key a slots id i p new left clock n c o xs tag m m1 s box x same is at may fits tidy is_tag is_left is_clock is_new now =
+    let at_0 : m1.0 ≡ m.0 = ap (λ (y : Place). y.0) now in
+    let may1 : MayGive key m1.0.view p s box =
+    subst (λ (y : About × Mind). MayGive y.0 y.1.view p s box) (λ j. (sym same j, sym (at_0 ∙ is) j)) may in
+    let near : p < count key = subst (λ (q : ℕ). q < length key.plan.programs) may1.strand.process may1.strand.course.process in
+    let over : o ≡ (may1.h.recorded || may1.h.was_ended) =
+    tidy.3 (λ e. some_held key m1.0.view p s box may1 (ap (λ (y : Mind). y.view.holds) at_0 ∙ e))
+    ∙ (ap (λ (y : Mind). is_over y.view.holds) (sym at_0) ∙ over_is key m1.0.view p s box may1) in
+    subst (λ (j : ℕ). Allows (StandsForSome key) slots id m1 j (λ _. new) (λ _. gives_back (step slots j new 0 none) m1 new)) (sym at)
+    (gives_of key slots id p new m1 (rest m.1) s box (ap (λ (y : Place). y.1) now) may1 fits near
+    (is_new ∙ (λ j. spell ((is_tag ∙ (λ i. given_tag (sym same i).room (over i) (is_left i))) j)
+    ((is_clock ∙ ap (λ (b : About). clock_of b.plan s) (sym same)) j) 0)))
+
+pub gave_tidy : (n p clock c : ℕ) (o : Bool) (xs : List Look) (tag : Tag) (m m1 m2 : Place) (r : Option Room) → Tidy n o xs c m
+    → m1 ≡ (m.0, (p, r) ∷ rest m.1)
+    → GivesBack m1 p tag clock m2 → Tidy n o xs c m2
+gave_tidy n p clock c o xs tag m m1 m2 r tidy now back =
+    idle_tidy n o xs c m m2 tidy
+    (ap (λ (y : Mind). y.view.number) back.mind ∙ ap (λ (y : Place). y.0.view.number) now)
+    (ap (λ (y : Mind). y.view.holds) back.mind)
+    (ap (λ (y : Mind). y.view.sweep) back.mind ∙ ap (λ (y : Place). y.0.view.sweep) now)
+    (ap (λ (y : Mind). y.view.plan) back.mind ∙ ap (λ (y : Place). y.0.view.plan) now)
+    (back.out ∙ (ap (λ (y : Place). rest y.1) now ∙ (ap rest tidy.2 ∙ empty m.0.view.holds)))
+  where
+    empty : (h : Option Hold) → rest (carried h) ≡ []
+    empty None = refl
+    empty (Some h) = refl
+
+pub gave_as : (a : About) (t1 t2 t3 : TableId) (n p clock left c : ℕ) (o : Bool) (xs : List Look) (tag : Tag) (m m1 m2 : Place)
+    (r : Option Room) (s : Strand) (box : EventQueue) (x : Sight)
+    → MayGive a x.mind.view p s box → Tidy n o xs c m → m1 ≡ (m.0, (p, r) ∷ rest m.1) → GivesBack m1 p tag clock m2
+    → tag ≡ given_tag a.room o left → left ≡ length box.events → clock ≡ clock_of a.plan s → t3 ≡ t2 → t2 ≡ t1
+    → record { table = t1; mind = m.0 } ≡ x
+    → Gave a x (record { process = p; strand = s; outbox = box }) (record { table = t3; mind = m2.0 })
+gave_as a t1 t2 t3 n p clock left c o xs tag m m1 m2 r s box x may tidy now back is_tag is_left is_clock k2 k1 seen =
+    let minds : m.0 ≡ x.mind = ap (λ (y : Sight). y.mind) seen in
+    let over : o ≡ is_over x.mind.view.holds =
+    tidy.3 (λ e. some_held a x.mind.view p s box may (ap (λ (y : Mind). y.view.holds) (sym minds) ∙ e))
+    ∙ ap (λ (y : Mind). is_over y.view.holds) minds in
+    λ i. record {
+      table = (k2 ∙ (k1 ∙ ap (λ (y : Sight). y.table) seen)) i;
+      mind = (back.mind ∙ (λ j. noticed ((ap (λ (y : Place). y.0) now ∙ minds) j) p
+          ((is_tag ∙ (λ k. given_tag a.room (over k) (is_left k))) j) (is_clock j)
+          (gave ((ap (λ (y : Place). y.0) now ∙ minds) j).view))) i;
+    }
+
+-- ---- publish
+
+pub publishes_at : (key : About) (slots id new : ℕ) (f : Floor) (m : Place) (x : Sight) → m.0 ≡ x.mind → x.mind.view.number ≡ 0
+    → length x.mind.view.sweep ≡ processes x.mind.view → x.mind.view.due ≡ Nothing → f ≡ floor_of (least x.mind.view.sweep)
+    → new ≡ floor_word f
+    → Allows (StandsForSome key) slots id m 0 (λ _. new) (λ _. publishes (step slots 0 new 0 none) m new)
+publishes_at key slots id new f m x is number swept due floor is_new =
+    publishes_of key slots id new m (ap (λ (y : Mind). y.view.number) is ∙ number)
+    (subst (λ (y : Mind). length y.view.sweep ≡ processes y.view) (sym is) swept)
+    (ap (λ (y : Mind). y.view.due) is ∙ due)
+    (is_new ∙ ap floor_word (floor ∙ ap (λ (y : Mind). floor_of (least y.view.sweep)) (sym is)))
+
+-- ---- release
+
+-- what a settled gather holds
+pub gathered_next : (m : Mind) (x : Sight) (old new : List TimedMessage) → m ≡ x.mind → IsNext m.view → old ≡ x.mind.view.gathered
+    → IsPermutation old new → IsSorted event_cmp new → Releases x.mind.view new × (length new ≡ length m.view.gathered)
+gathered_next m x old new is next taken permuted in_order =
+    let same : old ≡ m.view.gathered = taken ∙ ap (λ (y : Mind). y.view.gathered) (sym is) in
+    let settles : new ≡ sorted m.view.gathered =
+    settled m.view.gathered new next.ordered (subst (λ (xs : List TimedMessage). IsPermutation xs new) same permuted) in_order in (
+      subst (λ (y : Mind × List TimedMessage). Releases y.0.view y.1) (λ i. (is i, sym settles i)) next.releases,
+      ap length settles ∙ length-sorted m.view.gathered,
+    )
+
+pub released_as : (t1 t2 : TableId) (m m2 : Place) (n : ℕ) (x : Sight) → m2 ≡ (plays.settled m.0, m.1) → n ≡ length m.0.view.gathered
+    → t2 ≡ t1
+    → record { table = t1; mind = m.0 } ≡ x
+    → ◌≡◌ {A = Sight} (record { table = t2; mind = m2.0 }) (record { table = x.table; mind = viewing x.mind (released x.mind.view n) })
+released_as t1 t2 m m2 n x now long kept seen =
+    let minds : m.0 ≡ x.mind = ap (λ (y : Sight). y.mind) seen in
+    λ i. record {
+      table = (kept ∙ ap (λ (y : Sight). y.table) seen) i;
+      mind = (ap (λ (y : Place). y.0) now ∙ (λ j. viewing (minds j) (released (minds j).view (sym long j)))) i;
+    }

@@ -1,0 +1,36 @@
+use Rattle.std.proofs.Common.{arith, ap}
+use Rattle.fm_board.specs.Seats.{Sight}
+use Rattle.fm_board.proofs.Returns.{clock_low, gave_as, gave_tidy, gives_at}
+use Rattle.fm_board.proofs.board.Board.give.Goals as goal
+
+pub word_of-new-requires : goal.word_of-new-requires
+word_of-new-requires c = (
+  clock_low c.args.self.now.about c.args.seat.now.mind.view c.args.berth.process _ c.args.berth.strand c.args.berth.outbox c.requires.may
+      (c.clock-clock.ensures c.args.self.now.about.plan c.requires.may.strand.course),
+  omega arith,
+)
+
+pub store-requires-clause-may : goal.store-requires-clause-may
+store-requires-clause-may c =
+    gives_at _ c.args.self.now.about _ _ _ c.args.berth.process _ c.len.result _ _ _ _ _ _ c.seat.inside.token.me _ c.args.berth.strand
+    c.args.berth.outbox c.args.seat.now
+    c.args.self.now.same.0 (ap (λ (x : Sight). x.mind) c.seat.view_is) c.place_of.ensures c.requires.may c.len.ensures.bound.within
+    c.seat.invariant
+    c.home_tag-tag.ensures c.len.ensures.value (c.clock-clock.ensures c.args.self.now.about.plan c.requires.may.strand.course)
+    c.word_of-new.ensures c.exchange.ensures.is
+
+pub invariant_of-seat : goal.invariant_of-seat
+invariant_of-seat c =
+    gave_tidy _ c.args.berth.process _ _ _ _ _ c.seat.inside.token.me c.exchange.new.self.me _ _ c.seat.invariant c.exchange.ensures.is
+    (c.store.ensures.told c.args.berth.process c.home_tag-tag.result c.clock-clock.result 0 c.place_of.ensures
+    (omega arith) c.word_of-new.ensures)
+
+pub returns : goal.returns
+returns c =
+    gave_as c.args.self.now.about _ _ _ _ c.args.berth.process _ c.len.result _ _ _ _ c.seat.inside.token.me c.exchange.new.self.me _ _
+    c.args.berth.strand c.args.berth.outbox _
+    c.requires.may c.seat.invariant c.exchange.ensures.is
+    (c.store.ensures.told c.args.berth.process c.home_tag-tag.result c.clock-clock.result 0 c.place_of.ensures
+    (omega arith) c.word_of-new.ensures)
+    c.home_tag-tag.ensures c.len.ensures.value (c.clock-clock.ensures c.args.self.now.about.plan c.requires.may.strand.course)
+    c.store.ensures.kept.0 c.exchange.ensures.kept.0 c.seat.view_is

@@ -1,0 +1,41 @@
+use Rattle.std.proofs.Common.{arith, ◌+◌, ◌∙◌, ap}
+use Rattle.fm_board.specs.Seats.{Sight}
+use Rattle.fm_board.specs.View.{wrote_hold}
+use Rattle.fm_board.specs.declared.view.Hold.{Hold}
+use Rattle.fm_board.proofs.Recordings.{may_write, place_fits, still_noted}
+use Rattle.fm_board.proofs.board.Board.record.Goals as goal
+
+pub place_spelt-value-requires-clause-fits : goal.place_spelt-value-requires-clause-fits
+place_spelt-value-requires-clause-fits c =
+    place_fits c.args.self.now.about _ c.args.berth.now.process c.args.berth.now.strand _ c.requires.may
+    (c.place-place.ensures c.args.self.now.about.plan c.requires.may.strand.course)
+
+pub write-requires-clause-may : goal.write-requires-clause-may
+write-requires-clause-may c =
+    let y = c.loop-word.invariant.hold in
+    may_write c.args.self.now.about _ c.args.berth.now.process _ _ c.args.berth.now.strand _ c.loop-word.seat y.0 c.requires.may
+    (c.place-place.ensures c.args.self.now.about.plan c.requires.may.strand.course) y.1 y.2 y.3 y.4 c.place_spelt-value.ensures
+
+pub loop-word-preserved : goal.loop-word-preserved
+loop-word-preserved c =
+    let y = c.loop-word.invariant.hold in
+    let is = ap (λ (x : Sight). x.mind) c.write.ensures in
+    let z : Hold = record y.0 { written = c.loop-word.word + 1 } in
+    let holds = ap (λ (x : Sight). x.mind.view.holds) c.write.ensures ∙ ap (λ o. wrote_hold o (c.loop-word.word + 1)) y.1 in
+    record {
+      table = ap (λ (x : Sight). x.table) c.write.ensures ∙ c.loop-word.invariant.table;
+      same = still_noted c.loop-word.seat.mind c.write.new.seat.mind (c.loop-word.word + 1) is ∙ c.loop-word.invariant.same;
+      hold = (z, holds, y.2, omega arith, y.4);
+    }
+
+pub place_spelt-last-requires-clause-fits : goal.place_spelt-last-requires-clause-fits
+place_spelt-last-requires-clause-fits c =
+    place_fits c.args.self.now.about _ c.args.berth.now.process c.args.berth.now.strand _ c.requires.may
+    (c.place-place.ensures c.args.self.now.about.plan c.requires.may.strand.course)
+
+pub write_last-requires-clause-may : goal.write_last-requires-clause-may
+write_last-requires-clause-may c =
+    let y = c.loop-word.invariant.hold in
+    may_write c.args.self.now.about _ c.args.berth.now.process 8 _ c.args.berth.now.strand _ c.loop-word.seat y.0 c.requires.may
+    (c.place-place.ensures c.args.self.now.about.plan c.requires.may.strand.course) y.1 y.2
+    (let done = c.loop-word-test.false in let many = y.3 in omega arith) y.4 c.place_spelt-last.ensures

@@ -1,0 +1,56 @@
+-- What a claim and a start answer.
+use Rattle.std.specs.Prelude.{◌≡◌, ◌≢◌, ℕ, length}
+use Rattle.fm_core.specs.Tags.{is_ended}
+use Rattle.fm_board.specs.declared.berth.Berth.{Berth}
+use Rattle.fm_board.specs.declared.claim.Claim.{Claim}
+use Rattle.fm_board.specs.declared.claim.Claim.TheVariants as claim
+use Rattle.fm_board.specs.declared.seen.Seen.{Seen}
+use Rattle.fm_board.specs.declared.about.About.{About}
+use Rattle.fm_board.specs.View.{gave, holding}
+use Rattle.fm_board.specs.declared.view.Hold.{Hold}
+use Rattle.fm_board.specs.declared.view.View.{View}
+use Rattle.fm_board.specs.Calls.{IsHold}
+use Rattle.fm_core.specs.Tags.{given_tag}
+use Rattle.fm_strand.specs.Strand.{clock_of}
+use Rattle.fm_board.specs.Plays.{Tells, noticed, spotted}
+use Rattle.fm_board.specs.Words.{spell}
+use Rattle.fm_board.specs.Seats.{Sight, is_over}
+
+-- the berth is of this hold
+pub record IsBerth (a : About) (p : ℕ) (h : Hold) (b : Berth) : Type 0 where
+  pub hold : IsHold a.plan a.room p h b.strand b.outbox
+  pub process : b.process ≡ p
+
+-- the seat was handed a process whose word, as this call found it, said this
+pub record Hands (a : About) (old : Sight) (p : ℕ) (s : Seen) (b : Berth) (new : Sight) : Type 0 where
+  pub hold : Hold
+  pub berth : IsBerth a p hold b
+  pub was_ended : hold.was_ended ≡ is_ended s.tag
+  pub at : hold.clock ≡ s.clock
+  pub sight : new ≡ record {
+    table = old.table;
+    mind = spotted old.mind p s.tag s.clock (spell s.tag s.clock s.seat) (holding old.mind.view hold);
+  }
+
+-- this word of the process was found in this call, and is not older than what the seat saw before
+pub record Found (old : Sight) (p : ℕ) (s : Seen) (v : View) (new : Sight) : Type 0 where
+  pub tells : Tells old.mind p s.tag s.clock
+  pub sight : new ≡ record {
+    table = old.table;
+    mind = spotted old.mind p s.tag s.clock (spell s.tag s.clock s.seat) v;
+  }
+
+-- the answer of a claim
+abbrev pub Claims : About → Sight → ℕ → Seen → Claim → Sight → Type 0
+Claims a old p expected (claim.Held b) new = Hands a old p expected b new
+Claims a old p expected (claim.Busy found) new = Found old p found old.mind.view new × (found ≢ expected)
+
+-- what a give leaves
+abbrev pub Gave : About → Sight → Berth → Sight → Type 0
+Gave a old b new =
+    new ≡ record {
+      table = old.table;
+      mind = noticed old.mind b.process
+          (given_tag a.room (is_over old.mind.view.holds) (length b.outbox.events))
+          (clock_of a.plan b.strand) (gave old.mind.view);
+    }

@@ -1,0 +1,11 @@
+pub mod Words
+pub mod View
+pub mod Calls
+pub mod StandsFor
+pub mod Given
+pub mod Quantum
+pub mod Tells
+pub mod Plays
+pub mod Seats
+pub mod Answers
+pub mod Starting

@@ -1,0 +1,227 @@
+-- What each step on a word tells the seat that makes it.
+use Rattle.std.specs.Prelude.{nat_eq, ◌≡◌, ◌≢◌, ℕ, ◌+◌, ◌<◌, ◌≤◌, [], ◌∷◌, length, replicate, true, false, Option, Some, None, slice_index_or, slice_set}
+use Rattle.atomic_table.specs.Table.{Me, Step, rest}
+use Rattle.fm_line.specs.Line.{line, start}
+use Rattle.fm_core.specs.Floors.{floor_of}
+use Rattle.fm_core.specs.Sweep.{least}
+use Rattle.fm_core.specs.Tags.{is_ended}
+use Rattle.fm_core.specs.Taking.{due_of, is_due}
+use Rattle.fm_core.specs.declared.floor.Floor.{Floor}
+use Rattle.fm_core.specs.declared.floor.Floor.TheVariants.{At, Done}
+use Rattle.fm_core.specs.declared.tag.Tag.{Tag}
+use Rattle.fm_core.specs.declared.tag.Tag.TheVariants.{Out}
+use Rattle.fm_core.specs.declared.due.Due.TheVariants.{Nothing}
+use Rattle.fm_program.specs.Parts.{PlanParts}
+use Rattle.fm_board.specs.declared.about.About.{About}
+use Rattle.fm_buffer.specs.Outbox.{EventQueue}
+use Rattle.fm_strand.specs.declared.strand.Strand.{Strand}
+use Rattle.fm_board.specs.declared.room.Room.{Room}
+use Rattle.fm_board.specs.declared.view.Hold.{Hold}
+use Rattle.fm_board.specs.declared.view.View.{View}
+use Rattle.fm_board.specs.declared.view.Mind.{Mind}
+use Rattle.fm_board.specs.Calls.{IsHold}
+use Rattle.fm_board.specs.View.{gave, holding, lines_of, looked, noted, processes, published, released, was_visited}
+use Rattle.fm_board.specs.Words.{IsLow, IsWord, floor_word, spell, word_at, place_at, place_word}
+use Rattle.fm_strand.specs.Course.{end_place}
+
+-- a seat's mind, and the slots that are out with it
+abbrev pub Place : Type 0
+Place = Me (Option Room) Mind
+
+-- the seat gave this word of the process, and has this view
+abbrev pub noticed : Mind → ℕ → Tag → ℕ → View → Mind
+noticed m p t c v = record m { view = v; known = slice_set m.known p c; over = slice_set m.over p (is_ended t) }
+
+-- the seat saw this word r of the process, and has this view
+abbrev pub spotted : Mind → ℕ → Tag → ℕ → ℕ → View → Mind
+spotted m p t c r v =
+    record m { view = v; known = slice_set m.known p c; over = slice_set m.over p (is_ended t); last = r }
+
+-- the seat has this view
+abbrev pub viewing : Mind → View → Mind
+viewing m v = record m { view = v }
+
+-- what a word that was found tells: it is not older than what the seat saw before
+pub record Tells (m : Mind) (p : ℕ) (t : Tag) (c : ℕ) : Type 0 where
+  pub on : slice_index_or m.known p 0 ≤ c
+  pub still : slice_index_or m.over p false ≡ true → is_ended t ≡ true
+  pub end : is_ended t ≡ true → c ≡ (line (lines_of m.view) p).end
+  pub done : m.view.number ≡ 0 → m.view.published ≡ Done → is_ended t ≡ true
+
+-- the word of the process was found, and the view is then what f says of its tag and clock
+pub record Finds (m : Place) (p r : ℕ) (f : Tag → ℕ → View) (m' : Place) : Type 0 where
+  pub word : IsWord r
+  pub out : m'.1 ≡ m.1
+  pub wide : length m.0.over ≡ processes m.0.view
+  pub mind : (t : Tag) (c s : ℕ) → s ≤ 16 → r ≡ spell t c s → m'.0 ≡ spotted m.0 p t c r (f t c)
+  pub tells : (t : Tag) (c s : ℕ) → s ≤ 16 → r ≡ spell t c s → Tells m.0 p t c
+
+-- ---- look and pace
+
+-- the load of a process's word
+abbrev pub looks : Step (Option Room) → Place → ℕ → Place → Type 0
+looks st m r m' = (p : ℕ) → st.word ≡ word_at p → Finds m p r (looked m.0.view p) m'
+
+-- the load of the floor
+pub record Paces (m : Place) (r : ℕ) (m' : Place) : Type 0 where
+  pub floor : Floor
+  pub low : IsLow floor
+  pub word : r ≡ floor_word floor
+  pub out : m'.1 ≡ m.1
+  pub mind : (f : Floor) → IsLow f → r ≡ floor_word f → m'.0 ≡ viewing m.0 (record m.0.view { paced = f })
+
+-- it is found, and the seat keeps it
+abbrev pub paces : Step (Option Room) → Place → ℕ → Place → Type 0
+paces st m r m' = Paces m r m'
+
+-- ---- claim
+
+-- the seat was handed the process, and what was in its slot
+pub record Hands (m : Place) (p : ℕ) (t : Tag) (c r : ℕ) (m' : Place) : Type 0 where
+  pub hold : Hold
+  pub strand : Strand
+  pub box : EventQueue
+  pub is : IsHold m.0.view.plan m.0.room p hold strand box
+  pub was_ended : hold.was_ended ≡ is_ended t
+  pub clock : hold.clock ≡ c
+  pub mind : m'.0 ≡ spotted m.0 p t c r (holding m.0.view hold)
+  pub out : m'.1 ≡ (p, Some (record { strand = Some strand; outbox = box })) ∷ m.1
+
+-- the exchange of a process's word: it was the expected one, or another
+abbrev pub claims : Step (Option Room) → Place → ℕ → Place → Type 0
+claims st m r m' = (p : ℕ) → st.word ≡ word_at p
+    → (r ≡ st.first → (t : Tag) (c s : ℕ) → s ≤ 16 → st.first ≡ spell t c s → Hands m p t c r m')
+    × (r ≢ st.first → Finds m p r (λ t c. m.0.view) m')
+
+-- ---- start
+
+-- the load of a predecessor's word
+abbrev pub recalls : Step (Option Room) → Place → ℕ → Place → Type 0
+recalls st m r m' = (p : ℕ) → st.word ≡ word_at p → Finds m p r (λ t c. m.0.view) m'
+
+-- each process that this one waits for is marked as ended
+abbrev pub Marked : Mind → ℕ → ℕ → Type 0
+Marked m p n =
+    (i : ℕ) → i < n → slice_index_or m.over (slice_index_or (line (lines_of m.view) p).predecessors i 0) false ≡ true
+
+-- the seat was handed a process that nobody had
+pub record Begins (m : Place) (p : ℕ) (m' : Place) : Type 0 where
+  pub hold : Hold
+  pub stock : Room
+  pub process : hold.process ≡ p
+  pub computed : hold.computed ≡ 0
+  pub taken : hold.taken ≡ 0
+  pub clock : hold.clock ≡ start (lines_of m.0.view) p
+  pub was_ended : hold.was_ended ≡ false
+  pub fresh : hold.recorded ≡ false
+  pub box : stock.outbox ≡ record { room = m.0.room; events = [] }
+  pub mind : m'.0 ≡ spotted m.0 p Out (start (lines_of m.0.view) p) 0 (holding m.0.view hold)
+  pub out : m'.1 ≡ (p, Some stock) ∷ m.1
+
+-- the exchange of an unborn process's word
+abbrev pub starts : Step (Option Room) → Place → ℕ → Place → Type 0
+starts st m r m' = (p : ℕ) → st.word ≡ word_at p → (r ≡ 0 → Begins m p m') × (r ≢ 0 → Finds m p r (λ t c. m.0.view) m')
+
+-- ---- give
+
+-- the store of a process's word
+pub record GivesBack (m : Place) (p : ℕ) (t : Tag) (c : ℕ) (m' : Place) : Type 0 where
+  pub mind : m'.0 ≡ noticed m.0 p t c (gave m.0.view)
+  pub out : m'.1 ≡ rest m.1
+
+-- whatever the word that is stored spells
+abbrev pub gives_back : Step (Option Room) → Place → ℕ → Place → Type 0
+gives_back st m r m' =
+    (p : ℕ) (t : Tag) (c s : ℕ) → st.word ≡ word_at p → s ≤ 16 → st.first ≡ spell t c s → GivesBack m p t c m'
+
+-- ---- publish and release
+
+-- the store of the floor
+pub record Publishes (m : Place) (f : Floor) (m' : Place) : Type 0 where
+  pub mind : m'.0 ≡ viewing m.0 (published m.0.view f (due_of (least m.0.view.sweep)))
+  pub out : m'.1 ≡ m.1
+
+-- that floor is the least of the sweep
+abbrev pub publishes : Step (Option Room) → Place → ℕ → Place → Type 0
+publishes st m r m' = Publishes m (floor_of (least m.0.view.sweep)) m'
+
+-- what is gathered counts as released
+abbrev pub settled : Mind → Mind
+settled m = viewing m (released m.view (length m.view.gathered))
+
+-- ---- opening
+
+-- what a seat that holds nothing knows of a new board
+abbrev pub fresh_view : PlanParts → ℕ → View
+fresh_view p number = record {
+  plan = p;
+  number = number;
+  holds = None;
+  sweep = [];
+  paced = At 0;
+  heeded = false;
+  due = Nothing;
+  visited = replicate (length p.programs) false;
+  gathered = [];
+  released = 0;
+  published = At 0;
+  halted = false;
+}
+
+-- the seat of this number, that has made so many seats
+abbrev pub fresh : PlanParts → ℕ → ℕ → ℕ → Mind
+fresh p room number made = record {
+  view = fresh_view p number;
+  known = replicate (length p.programs) 0;
+  over = replicate (length p.programs) false;
+  last = 0;
+  made = made;
+  room = room;
+}
+
+-- seat 0 of a new board
+abbrev pub first_mind : About → Mind
+first_mind a = fresh a.plan a.room 0 1
+
+-- seat 0 makes one more seat
+abbrev pub one_more : Mind → Mind
+one_more m = record m { made = m.made + 1 }
+
+-- and that seat knows this
+abbrev pub newest : Mind → Mind
+newest m = fresh m.view.plan m.room m.made 0
+
+-- what a release asks of the view
+pub record MayRelease (v : View) : Type 0 where
+  pub conductor : v.number ≡ 0
+  pub due : is_due v.due ≡ true
+  pub visited : (p : ℕ) → p < processes v → was_visited v p ≡ true
+
+-- ---- record
+
+-- the store of one of the first eight words of the place of the process that the seat holds
+abbrev pub writes : Step (Option Room) → Place → ℕ → Place → Type 0
+writes st m r m' = (p i : ℕ) (x : Hold) → st.word ≡ place_at p i → i < 8 → m.0.view.holds ≡ Some x → x.process ≡ p
+    → (m'.0 ≡ viewing m.0 (record m.0.view { holds = Some (record x { written = i + 1 }) })) × (m'.1 ≡ m.1)
+
+-- the store of the last one
+abbrev pub records : Step (Option Room) → Place → ℕ → Place → Type 0
+records st m r m' = (m'.0 ≡ viewing m.0 (noted m.0.view)) × (m'.1 ≡ m.1)
+
+-- ---- halt and heed
+
+-- the store of the halt word
+abbrev pub halts : Step (Option Room) → Place → ℕ → Place → Type 0
+halts st m r m' = (m'.0 ≡ viewing m.0 (record m.0.view { halted = true })) × (m'.1 ≡ m.1)
+
+-- the load of the halt word
+abbrev pub heeds : Step (Option Room) → Place → ℕ → Place → Type 0
+heeds st m r m' = (m'.0 ≡ viewing m.0 (record m.0.view { heeded = nat_eq r 1 })) × (m'.1 ≡ m.1)
+
+-- ---- recall
+
+-- the load of a place word of a process that the seat saw ended
+abbrev pub reads : Step (Option Room) → Place → ℕ → Place → Type 0
+reads st m r m' = (m' ≡ m)
+    × ((p i : ℕ) → st.word ≡ place_at p i → i < 9 → p < processes m.0.view → slice_index_or m.0.over p false ≡ true
+    → r ≡ place_word (end_place m.0.view.plan p) i)

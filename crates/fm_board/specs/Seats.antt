@@ -1,0 +1,121 @@
+-- What a contract sees of a seat.
+use Rattle.std.specs.Prelude.{◌≡◌, ℕ, ◌+◌, ◌^◌, ◌<◌, ◌≤◌, ◌||◌, List, [], ◌∷◌, length, Bool, true, false, Option, Some, None, slice_index_or}
+use mathlib.Core.Option.{some}
+use lib.ListN.{get_elem?}
+use Rattle.atomic_table.specs.Seated.{TableId}
+use Rattle.fm_line.specs.Piece.{sorted}
+use Rattle.fm_line.proofs.Sorting.{Ordered}
+use Rattle.fm_program.specs.Parts.{PlanParts}
+use Rattle.fm_core.specs.declared.sight.Sight.{Sight as Look}
+use Rattle.fm_strand.specs.declared.strand.Strand.{Strand}
+use Rattle.fm_strand.specs.Course.{end_place}
+use Rattle.fm_board.specs.Words.{place_word}
+use Rattle.fm_board.specs.declared.about.About.{About}
+use Rattle.fm_board.specs.declared.room.Room.{Room}
+use Rattle.fm_board.specs.declared.view.Hold.{Hold}
+use Rattle.fm_board.specs.declared.view.View.{View}
+use Rattle.fm_board.specs.declared.view.Mind.{Mind}
+use Rattle.fm_board.specs.Calls.{HasGiven, Releases}
+use Rattle.fm_board.specs.Plays.{MayRelease, Place, fresh, settled, viewing}
+
+-- once all were visited, what seat 0 gathered is, in its order, the next part of the piece
+pub record IsNext (v : View) : Type 0 where
+  pub ordered : Ordered v.gathered
+  pub releases : Releases v (sorted v.gathered)
+
+-- what every view of seat 0 promises
+abbrev pub Promise : Mind → Type 0
+Promise m = MayRelease m.view → IsNext m.view
+
+-- what a seat that may owe a release knows
+abbrev pub current : Bool → Mind → Mind
+current true m = settled m
+current false m = m
+
+-- a seat of a table
+pub record Post : Type 0 where
+  pub table : TableId
+  pub id : ℕ
+  pub me : Place
+
+-- a seat that may owe a release, as it counts it
+abbrev pub post : TableId → ℕ → Bool → Place → Post
+post t i owes m = record { table = t; id = i; me = (current owes m.0, m.1) }
+
+-- the slots that are out with a seat between two calls: its process's, empty while the berth is in the caller's hands
+abbrev pub carried : Option Hold → List (ℕ × Option Room)
+carried None = []
+carried (Some h) = (h.process, None) ∷ []
+
+-- whether a hold came to its end
+abbrev pub is_over : Option Hold → Bool
+is_over None = false
+is_over (Some h) = h.recorded || h.was_ended
+
+-- the looks that a seat keeps are its sweep, and it has memory for as many as there are processes
+pub record IsSwept (looks : List Look) (capacity : ℕ) (sweep : List Look) (many : ℕ) : Type 0 where
+  pub same : looks ≡ sweep
+  pub space : many ≤ capacity
+  pub within : length sweep ≤ many
+  pub few : many < 2 ^ 32
+
+-- what a contract sees of a seat: its table, and what it knows
+pub record Sight : Type 0 where
+  pub table : TableId
+  pub mind : Mind
+
+-- a seat with this view
+abbrev pub seeing : Sight → View → Sight
+seeing s v = record s { mind = viewing s.mind v }
+
+-- the seat is one of this board's
+pub record IsOurs (t : TableId) (a : About) (s : Sight) : Type 0 where
+  pub table : s.table ≡ t
+  pub plan : s.mind.view.plan ≡ a.plan
+  pub room : s.mind.room ≡ a.room
+
+-- a seat of this board that holds nothing
+pub record IsIdle (t : TableId) (a : About) (s : Sight) : Type 0 where
+  pub ours : IsOurs t a s
+  pub idle : s.mind.view.holds ≡ None
+
+-- seat 0 of a new board, that made so many seats
+abbrev pub first_sight : TableId → About → ℕ → Sight
+first_sight t a made = record { table = t; mind = fresh a.plan a.room 0 made }
+
+-- the other seats of a new board, in the order of their numbers
+pub record AreOthers (t : TableId) (a : About) (n : ℕ) (seats : List Sight) : Type 0 where
+  pub many : length seats + 1 ≡ n
+  pub each : (k : ℕ) (d : Sight) → k < length seats
+      → slice_index_or seats k d ≡ record { table = t; mind = fresh a.plan a.room (k + 1) 0 }
+
+-- a board of this plan, with a room of r events, a lead of l ticks and n seats
+pub record IsBoardOf (a : About) (p : PlanParts) (r l n : ℕ) : Type 0 where
+  pub plan : a.plan ≡ p
+  pub room : a.room ≡ r
+  pub lead : a.lead ≡ l
+  pub seats : a.seats ≡ n
+
+-- the strand of a process of a new board
+abbrev pub IsFirst : PlanParts → ℕ → Option Strand → Type 0
+IsFirst p j None = 0 < j
+IsFirst p j (Some s) = (j ≡ 0) × HasGiven p 0 0 0 s
+
+-- the slots of the first n processes of a new board
+pub record AreRooms (a : About) (n : ℕ) (rooms : List (Option Room)) : Type 0 where
+  pub many : length rooms ≡ n
+  pub each : (j : ℕ) → j < n
+      → (stock : Room) × (get_elem? rooms j ≡ some (Some stock)) × IsFirst a.plan j stock.strand
+      × (stock.outbox ≡ record { room = a.room; events = [] })
+
+-- ---- record
+
+-- what the store of a place word asks
+pub record MayWrite (a : About) (s : Sight) (p i word : ℕ) : Type 0 where
+  pub hold : Hold
+  pub is : s.mind.view.holds ≡ Some hold
+  pub process : hold.process ≡ p
+  pub there : p < length a.plan.programs
+  pub many : i ≤ hold.written
+  pub live : hold.was_ended ≡ false
+  pub right : word ≡ place_word (end_place a.plan p) i

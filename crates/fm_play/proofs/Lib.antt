@@ -1,0 +1,5 @@
+pub mod Chains
+pub mod InTime
+pub mod Meeting
+pub mod PlanFacts
+pub mod Whole

@@ -1,0 +1,5 @@
+pub use Rattle.fm_smf.specs.File
+pub use Rattle.fm_smf.specs.Writing
+pub mod Ends
+pub mod Performance
+pub mod Places

@@ -1,0 +1,22 @@
+-- What playing a plan gives, and how far its file is written.
+use Rattle.std.specs.Prelude.{ℕ, List, length, Option}
+use Rattle.fm_line.specs.Piece.{piece}
+use Rattle.fm_program.specs.Parts.{PlanParts}
+use Rattle.fm_program.specs.Process.{plan_lines}
+use Rattle.fm_smf.specs.File.{file}
+use Rattle.fm_smf.specs.Writing.{IsWritten, Written}
+use Rattle.fm_play.specs.Ends.{piece_end}
+use Rattle.fm_play.specs.declared.played.Played.{Played}
+
+-- the number of events of the piece, the tick of its end, and the length of its file in bytes
+abbrev pub played_of : PlanParts → Played
+played_of p = record {
+  events = length (piece (plan_lines p));
+  last = piece_end (plan_lines p);
+  bytes = length (file p.profile (piece (plan_lines p)) (piece_end (plan_lines p)));
+}
+
+module _ {K : Type 0} (content : K → Option (List ℕ)) (sure : K → Option ℕ) (faults : K → ℕ) where
+  -- on a new sink the plan's file was begun and its whole piece put
+  abbrev pub HasPiece : (begin now : K) → PlanParts → Written → Type 0
+  HasPiece begin now p writer = IsWritten content sure faults begin now p.profile (piece (plan_lines p)) writer

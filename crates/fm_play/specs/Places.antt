@@ -1,0 +1,19 @@
+-- Where the ends of several processes meet.
+use Rattle.std.specs.Prelude.{◌≡◌, List, [], ◌∷◌, Option, Some, None}
+use Rattle.fm_nest.specs.declared.place.Place.{Place}
+use Rattle.fm_strand.specs.Course.{later_place, latest_place}
+
+-- two places lie in the same levels
+pub record HasLevelsOf (a b : Place) : Type 0 where
+  pub depth : a.depth ≡ b.depth
+  pub origins : a.origins ≡ b.origins
+
+-- the later one of a place, where there is one, and another
+abbrev pub met_place : Option Place → Place → Place
+met_place None end = end
+met_place (Some a) end = later_place a end
+
+-- the latest of some places, where there are some
+abbrev pub latest_of : List Place → Option Place
+latest_of [] = None
+latest_of (a ∷ bs) = Some (latest_place a bs)

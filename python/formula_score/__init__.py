@@ -1,0 +1,32 @@
+"""Scores for `formula`, made in Python: always within the grammar and the ranges, with their ticks foretold.
+
+    from formula_score import Meter, Score, channel, melody, par, tempo
+
+    tune = Meter("4/4").bars(melody("c4 d4 e4 c4", "1/4"), melody("e4 f4 g4", "1/4 1/4 1/2"))
+    score = Score(tempo(96, par(channel(0, tune), channel(1, tune.transpose(-12)))))
+    print(score.text)
+    score.play("canon.mid")
+
+README.md beside this package is the page to read first.
+"""
+
+from .command import find_program, play
+from .errors import BarError, CommandError, Refused, ScoreError
+from .expected import Event
+from .lengths import dotted, euclid, ticks, triplet
+from .midi import DRUMS, DYNAMICS, INSTRUMENTS, drum
+from .music import (
+    Meter, Music, accents, articulations, bend, breath, channel, control, crescendo, drums, dynamics, flat, gate,
+    hits, instrument, melody, note, par, pause, phrase, repeat, rest, seq, slope, stretch_of, swing, tempo,
+    tempo_change, warp,
+)
+from .pitch import CHORDS, MODES, Pitch, Scale, chord
+from .score import Score
+
+__all__ = [
+    "BarError", "CHORDS", "CommandError", "DRUMS", "DYNAMICS", "Event", "INSTRUMENTS", "MODES", "Meter", "Music",
+    "Pitch", "Refused", "Scale", "Score", "ScoreError", "accents", "articulations", "bend", "breath", "channel",
+    "chord", "control", "crescendo", "dotted", "drum", "drums", "dynamics", "euclid", "find_program", "flat", "gate",
+    "hits", "instrument", "melody", "note", "par", "pause", "phrase", "play", "repeat", "rest", "seq", "slope",
+    "stretch_of", "swing", "tempo", "tempo_change", "ticks", "triplet", "warp",
+]

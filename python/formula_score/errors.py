@@ -1,0 +1,40 @@
+"""What goes wrong: in a score that is made, and in a run of the command."""
+
+from __future__ import annotations
+
+
+class ScoreError(ValueError):
+    """A score that the command would refuse, told where it is made."""
+
+
+class BarError(ScoreError):
+    """A bar that is longer or shorter than its time signature says."""
+
+    def __init__(self, bar: int, why: str):
+        super().__init__(f"bar {bar} {why}")
+        #: its number, from 1
+        self.bar = bar
+
+
+class CommandError(RuntimeError):
+    """A run of the command that ended above 0."""
+
+    def __init__(self, status: int, said: str, why: str):
+        super().__init__(why or said or f"the command ended with status {status}")
+        #: the exit status
+        self.status = status
+        #: the command's own line
+        self.said = said
+        #: the same in more words
+        self.why = why
+
+
+class Refused(CommandError):
+    """A score text that has a fault."""
+
+    def __init__(self, said: str, why: str, line: int, column: int, number: int):
+        super().__init__(3, said, why)
+        #: where its first fault stands, each from 1; a column is a byte
+        self.line, self.column = line, column
+        #: the fault's number, a key of `formula_score.faults.FAULTS`
+        self.number = number

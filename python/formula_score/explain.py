@@ -1,0 +1,159 @@
+"""Why a run of the command ended as it did, in words for a person.
+
+    python3 -m formula_score.explain STATUS LINE [WORD..]
+
+prints them for a run on these words that ended with STATUS and said LINE. It never writes a file.
+"""
+
+from __future__ import annotations
+
+import errno
+import os
+import re
+import stat
+import sys
+import unicodedata
+from typing import NamedTuple, Optional, Sequence
+
+from .faults import FAULTS, slip_at
+from .words import USAGE, read
+
+MOST_BYTES = 1_048_576
+#: The greatest part of a long line that is shown before the place, and from it on, in characters.
+SHOWN = 60
+
+
+class Place(NamedTuple):
+    """Where the first fault of a text stands: line and column from 1, a column a byte; and its number."""
+
+    line: int
+    column: int
+    number: int
+
+
+def place_of(said: str) -> Optional[Place]:
+    """The place and the number that the command's line tells of a refused text."""
+    found = re.fullmatch(r"formula: score refused: ([0-9]+):([0-9]+) fault ([0-9]+)\n?", said)
+    return Place(*map(int, found.groups())) if found else None
+
+
+def excerpt(text: bytes, place: Place) -> str:
+    """The line of the place, and a caret under it: two lines, the ends of a long one left out."""
+    lines = text.split(b"\n")
+    if not 1 <= place.line <= len(lines):
+        return ""
+    line = lines[place.line - 1].rstrip(b"\r")
+    before = _shown(line[:place.column - 1].decode("utf-8", "replace"))
+    behind = _shown(line[place.column - 1:].decode("utf-8", "replace"))
+    if len(before) > SHOWN:
+        before = "…" + before[-SHOWN:]
+    if len(behind) > SHOWN:
+        behind = behind[:SHOWN] + "…"
+    gutter = f"{place.line} | "
+    below = "".join("\t" if c == "\t" else " " * _columns(c) for c in before)
+    return f"{gutter}{before}{behind}".rstrip() + f"\n{' ' * (len(gutter) - 2)}| {below}^"
+
+
+def refusal(name: str, text: Optional[bytes], place: Place) -> str:
+    """What a refused text is told: file, line and column, the line with a caret, what it means, what to do."""
+    fault = FAULTS.get(place.number)
+    where = f"{name}:{place.line}:{place.column}"
+    if fault is None:
+        return f"{where}: fault {place.number}"
+    parts = [f"{where}: {fault.means} (fault {fault.number})"]
+    if text is not None and fault.number != 18:
+        parts.append(excerpt(text, place))
+    slip = slip_at(text, place.line, place.column, fault.number) if text is not None else None
+    if slip:
+        wrote, write = (" ".join(each.split("\n")) for each in (slip.wrote, slip.write))
+        parts.append(f"{slip.why}: in place of `{wrote}` write `{write}`")
+    else:
+        parts.append(fault.do)
+    return "\n".join(part for part in parts if part)
+
+
+def explanation(status: int, said: str, words: Sequence[str]) -> str:
+    """What is known of a run on these words that ended with this status and this line; '' for nothing."""
+    asked = read(words)
+    source, target = (asked.files + ("", ""))[:2]
+    if status == 1:
+        return f"{asked.wrong or 'these words are refused'}\n{USAGE}"
+    if status == 2:
+        return f"{source!r} cannot be read: {_why_unread(source)}"
+    if status == 3:
+        place = place_of(said)
+        return refusal(source, _text_of(source), place) if place else ""
+    if status == 4:
+        return f"{target!r} cannot be written: {_why_unwritten(target)}"
+    if status == 5:
+        return "the line could not be written to standard output" + (f": {said.strip()}" if said else "")
+    if status == 6:
+        return "there is too little memory; nothing was written"
+    return ""
+
+
+def _shown(text: str) -> str:
+    return "".join(c if c == "\t" or c.isprintable() else "\N{REPLACEMENT CHARACTER}" for c in text)
+
+
+def _columns(c: str) -> int:
+    if unicodedata.combining(c) or unicodedata.category(c) == "Mn":
+        return 0
+    return 2 if unicodedata.east_asian_width(c) in "WF" else 1
+
+
+def _text_of(name: str) -> Optional[bytes]:
+    """The text once more: of a plain file alone, since a pipe has given it away."""
+    try:
+        if not stat.S_ISREG(os.stat(name).st_mode):
+            return None
+        with open(name, "rb") as file:
+            return file.read(MOST_BYTES + 1)
+    except (OSError, ValueError):
+        return None
+
+
+def _why_unread(name: str) -> str:
+    if not name:
+        return "it has no name"
+    try:
+        with open(name, "rb") as file:
+            file.read(1)
+    except OSError as error:
+        return error.strerror or "the host does not say why"
+    return "it could not be read to its end, though it can be opened now"
+
+
+def _why_unwritten(name: str) -> str:
+    if not name:
+        return "it has no name"
+    if os.path.isdir(name):
+        return os.strerror(errno.EISDIR)
+    folder = os.path.dirname(name) or "."
+    try:
+        os.stat(folder)
+        if os.path.isfile(name) and not os.access(name, os.W_OK):
+            return os.strerror(errno.EACCES)
+        if not os.path.exists(name) and not os.access(folder, os.W_OK | os.X_OK):
+            return f"{os.strerror(errno.EACCES)}: the folder {folder!r} may not be written to"
+        if os.path.exists(name) and not stat.S_ISREG(os.stat(name).st_mode):
+            return ("it is no plain file: the length of the track is written last, so OUT must be a file that "
+                    "can be sought in, on a device with room")
+        room = os.statvfs(folder)
+        if room.f_bavail == 0:
+            return os.strerror(errno.ENOSPC)
+    except OSError as error:
+        return error.strerror or "the host does not say why"
+    return "a write failed, perhaps at a limit of size or a full disk; what is there may be a beginning of the file"
+
+
+def main(words: Sequence[str]) -> int:
+    text = explanation(int(words[0]), words[1], words[2:])
+    if text:
+        encoding = sys.stdout.encoding or "utf-8"
+        print(text.encode(encoding, "replace").decode(encoding))
+    return 0
+
+
+if __name__ == "__main__":
+    sys.exit(main(sys.argv[1:]))

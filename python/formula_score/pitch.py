@@ -1,0 +1,106 @@
+"""Pitches by their names and numbers, scales and chords."""
+
+from __future__ import annotations
+
+import re
+from typing import Union
+
+from .errors import ScoreError
+
+_DEGREES = {"c": 0, "d": 2, "e": 4, "f": 5, "g": 7, "a": 9, "b": 11}
+_NAMES = ("c", "cs", "d", "ds", "e", "f", "fs", "g", "gs", "a", "as", "b")
+
+MODES = {
+    "major": (0, 2, 4, 5, 7, 9, 11), "minor": (0, 2, 3, 5, 7, 8, 10), "harmonic minor": (0, 2, 3, 5, 7, 8, 11),
+    "melodic minor": (0, 2, 3, 5, 7, 9, 11), "dorian": (0, 2, 3, 5, 7, 9, 10), "phrygian": (0, 1, 3, 5, 7, 8, 10),
+    "lydian": (0, 2, 4, 6, 7, 9, 11), "mixolydian": (0, 2, 4, 5, 7, 9, 10), "locrian": (0, 1, 3, 5, 6, 8, 10),
+    "pentatonic": (0, 2, 4, 7, 9), "minor pentatonic": (0, 3, 5, 7, 10), "blues": (0, 3, 5, 6, 7, 10),
+    "whole tone": (0, 2, 4, 6, 8, 10), "chromatic": tuple(range(12)),
+}
+
+CHORDS = {
+    "": (0, 4, 7), "m": (0, 3, 7), "dim": (0, 3, 6), "aug": (0, 4, 8), "sus2": (0, 2, 7), "sus4": (0, 5, 7),
+    "5": (0, 7), "6": (0, 4, 7, 9), "m6": (0, 3, 7, 9), "7": (0, 4, 7, 10), "maj7": (0, 4, 7, 11),
+    "m7": (0, 3, 7, 10), "m7b5": (0, 3, 6, 10), "dim7": (0, 3, 6, 9), "add9": (0, 4, 7, 14),
+    "9": (0, 4, 7, 10, 14), "maj9": (0, 4, 7, 11, 14), "m9": (0, 3, 7, 10, 14),
+}
+
+PitchLike = Union["Pitch", str, int]
+
+
+class Pitch(int):
+    """A key of MIDI, 0 to 127, made of its number or its name: `Pitch("c4") + 12 == Pitch("c5") == 72`.
+
+    A name is a letter `a` to `g`, then `s` (sharp), `b` (flat) or nothing, then the octave, 0 to 9. It prints as
+    the score writes it.
+    """
+
+    def __new__(cls, of: PitchLike) -> "Pitch":
+        key = _key_of(of) if isinstance(of, str) else int(of)
+        if not 0 <= key <= 127:
+            raise ScoreError(f"there is no key {key}: keys go from 0 to 127")
+        return super().__new__(cls, key)
+
+    def __add__(self, semitones: int) -> "Pitch":
+        return Pitch(int(self) + semitones)
+
+    __radd__ = __add__
+
+    def __sub__(self, semitones: int) -> "Pitch":
+        return Pitch(int(self) - semitones)
+
+    def above(self, other: PitchLike) -> int:
+        """How many semitones it lies above another pitch; below, it is negative."""
+        return int(self) - int(Pitch(other))
+
+    def __str__(self) -> str:
+        octave, degree = divmod(int(self), 12)
+        return f"{_NAMES[degree]}{octave - 1}" if octave else f"key {int(self)}"
+
+    def __repr__(self) -> str:
+        return f"Pitch({str(self)!r})"
+
+
+def _key_of(name: str) -> int:
+    found = re.fullmatch(r"([a-g])([sb]?)([0-9])", name)
+    if not found:
+        raise ScoreError(f"{name!r} is no pitch: pitches are written as c4, fs4 (F sharp) or bb3 (B flat)")
+    letter, sign, octave = found.groups()
+    return 12 * (int(octave) + 1) + _DEGREES[letter] + {"": 0, "s": 1, "b": -1}[sign]
+
+
+class Scale:
+    """A scale from a pitch up. `Scale("d4", "dorian")[0]` is D4; any whole number counts on, below too."""
+
+    def __init__(self, tonic: PitchLike, mode: str = "major"):
+        if mode not in MODES:
+            raise ScoreError(f"there is no mode {mode!r}; there are {', '.join(MODES)}")
+        self.tonic, self.mode = Pitch(tonic), mode
+
+    def __getitem__(self, degree: int) -> Pitch:
+        steps = MODES[self.mode]
+        octave, step = divmod(degree, len(steps))
+        return self.tonic + (12 * octave + steps[step])
+
+    def __contains__(self, pitch: PitchLike) -> bool:
+        return (int(Pitch(pitch)) - int(self.tonic)) % 12 in MODES[self.mode]
+
+    def triad(self, degree: int) -> tuple[Pitch, ...]:
+        """The chord of three notes on a degree of the scale."""
+        return self[degree], self[degree + 2], self[degree + 4]
+
+    def __repr__(self) -> str:
+        return f"Scale({str(self.tonic)!r}, {self.mode!r})"
+
+
+def chord(name: str, octave: int = 4, inversion: int = 0) -> tuple[Pitch, ...]:
+    """The pitches of a chord by its name, as `chord("Am7", 3)`: a letter `A` to `G`, `#`, `b` or nothing, a kind."""
+    found = re.fullmatch(r"([A-G])([#b]?)(.*)", name)
+    if not found or found.group(3) not in CHORDS:
+        raise ScoreError(f"there is no chord {name!r}; kinds are {', '.join(filter(None, CHORDS))}, or none for major")
+    letter, sign, kind = found.groups()
+    root = Pitch(f"{letter.lower()}{octave}") + {"": 0, "#": 1, "b": -1}[sign]
+    pitches = [root + step for step in CHORDS[kind]]
+    if not 0 <= inversion < len(pitches):
+        raise ScoreError(f"the chord {name} has the inversions 0 to {len(pitches) - 1}")
+    return tuple(pitches[inversion:] + [pitch + 12 for pitch in pitches[:inversion]])

@@ -1,0 +1,30 @@
+"""The built program for the tests that play: FORMULA names it, else the one that scripts/formula builds."""
+
+from __future__ import annotations
+
+import os
+import pathlib
+import subprocess
+import sys
+import tempfile
+import unittest
+from typing import Optional
+
+TOP = pathlib.Path(__file__).resolve().parents[2]
+sys.path.insert(0, str(TOP / "tools" / "score_model"))
+
+_BUILT = TOP / "crates" / "fm_main" / "out" / "fm_main"
+PROGRAM: Optional[str] = os.environ.get("FORMULA") or (str(_BUILT) if _BUILT.exists() else None)
+
+needs_program = unittest.skipIf(
+    PROGRAM is None, f"NOT TRIED: no program: FORMULA names none, and {_BUILT} is not there")
+
+
+def run(text: str) -> tuple[int, str, bytes]:
+    """Status, line and file of a run on a text."""
+    assert PROGRAM is not None
+    with tempfile.TemporaryDirectory() as folder:
+        source, target = pathlib.Path(folder, "in.score"), pathlib.Path(folder, "out.mid")
+        source.write_bytes(text.encode())
+        done = subprocess.run([PROGRAM, "--workers", "0", source, target], stdout=subprocess.PIPE, check=False)
+        return done.returncode, done.stdout.decode(), target.read_bytes() if target.exists() else b""

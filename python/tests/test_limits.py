@@ -1,0 +1,81 @@
+"""The library judges a score as the command does: what is just within a limit plays, and what is just past it is
+refused by both."""
+
+import unittest
+
+from formula_score import (
+    Score, ScoreError, accents, channel, dynamics, note, par, phrase, repeat, rest, seq, tempo, ticks, warp, pause,
+)
+from formula_score.music import body_of
+from formula_score.score import _text
+
+from .program import needs_program, run
+
+QUARTER = note("c4", "1/4")
+
+
+def nested(depth, block, inner=QUARTER):
+    for _ in range(depth):
+        inner = block(inner)
+    return inner
+
+
+def lists(depth):
+    """Loops and lists in turn."""
+    inner = QUARTER
+    for at in range(depth):
+        inner = accents([64], inner) if at % 2 else repeat(1, inner)
+    return inner
+
+
+def phrases(depth):
+    inner = QUARTER
+    for at in range(depth):
+        inner = phrase(f"phrase_{at}", inner)
+    return inner
+
+
+def operations(count):
+    """So many in all, with that of the end, by phrases that are played again and again; the text stays short."""
+    thousand = phrase("thousand", *[rest(ticks(1))] * 999)  # with its do it is 1,000
+    return seq(*[thousand] * ((count - 1) // 1000), *[rest(ticks(1))] * ((count - 1) % 1000))
+
+
+# What is counted, the fault's number, music by its size, and the greatest size that is within.
+ROWS = (
+    ("warps", 12, lambda n: nested(n, lambda inner: tempo(90, inner)), 8),
+    ("loops and lists", 12, lists, 16),
+    ("blocks, as phrases", 12, phrases, 64),
+    ("braces", 4, lambda n: nested(n, lambda inner: dynamics("p", inner)), 64),
+    ("braces of a par", 4, lambda n: nested(n, lambda inner: channel(1, inner), par(QUARTER)), 62),
+    ("processes", 13, lambda n: repeat(n, par(QUARTER)), 2047),
+    ("operations", 14, operations, 262_144),
+    ("ticks", 15, lambda n: seq(repeat(1_000_000, repeat(1, rest(ticks(1_000_000)))),
+                                repeat(99_511, rest(ticks(1_000_000))), rest(ticks(n))), 627_776),
+    ("ticks in a warp", 15, lambda n: warp([pause(0)], repeat(1_000_000, rest(ticks(1_000_000))),
+                                           repeat(99_511, rest(ticks(1_000_000))), rest(ticks(n))), 627_776),
+    # a loop of 1,000,000 rounds of two notes has 4,000,000 events; one more is too many
+    ("events", 16, lambda n: seq(repeat(1_000_000, note(["c4", "e4"], ticks(1))), *[QUARTER] * n), 0),
+    # 2 for the loop and 17 a round, and 1 for the end: with 15 more they are 16,777,216
+    ("steps", 17, lambda n: seq(repeat(986_894, *[rest(ticks(1))] * 16), *[rest(ticks(1))] * n), 15),
+)
+# Within these limits a score plays for long.
+NOT_PLAYED = ("events", "steps")
+
+
+class Limits(unittest.TestCase):
+    @needs_program
+    def test_both_judge_alike(self):
+        for what, number, music, most in ROWS:
+            within, past = music(most), music(most + 1)
+            text = Score(within).text
+            if what not in NOT_PLAYED:
+                self.assertEqual(run(text)[:2], (0, ""), what)
+            with self.assertRaises(ScoreError, msg=what):
+                Score(past)
+            status, said, _ = run(_text(body_of([past]), 0))
+            self.assertEqual((status, said.split()[-1]), (3, str(number)), f"{what}: {said}")
+
+
+if __name__ == "__main__":
+    unittest.main()

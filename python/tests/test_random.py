@@ -1,0 +1,135 @@
+"""500 random scores of the library: none is refused, and each plays as the library foretells.
+
+The library's events are compared with those of tools/score_model, a player that reads the text, and the file that
+is made of them with the one that the built program writes.
+"""
+
+import random
+import unittest
+from fractions import Fraction
+
+from formula_score import (
+    DRUMS, INSTRUMENTS, Pitch, Scale, Score, accents, articulations, bend, breath, channel, chord, control, crescendo,
+    drum, drums, dynamics, euclid, flat, gate, hits, instrument, melody, note, par, pause, phrase, repeat, rest,
+    seq, slope, swing, tempo, tempo_change, ticks, warp,
+)
+
+from .program import needs_program, run
+
+import score_model
+
+SCORES = 500
+LENGTHS = [Fraction(a, b) for a, b in ((1, 4), (1, 8), (1, 16), (1, 12), (3, 8), (1, 2), (0, 1))] + [ticks(7)]
+
+
+class Maker:
+    """Random music; names of phrases are new each time."""
+
+    def __init__(self, seed):
+        self.random, self.names = random.Random(seed), 0
+
+    def length(self):
+        return self.random.choice(LENGTHS)
+
+    def pitches(self):
+        r = self.random
+        return r.choice([
+            Pitch(r.randrange(12, 116)), Scale("d4", "dorian")[r.randrange(-9, 9)],
+            f"{r.choice('cdefgab')}{r.choice(['', 's'])}4",
+            chord(r.choice(["Am7", "C", "F#dim", "Bbmaj9"]), r.randrange(2, 6)),
+        ])
+
+    def line(self):
+        r = self.random
+        return r.choice([
+            lambda: note(self.pitches(), self.length()),
+            lambda: seq(note("g4", "1/4", tied=True), note("g4", self.length())),
+            lambda: rest(self.length()),
+            lambda: melody("c4 e4 r g4+b4 g4~ g4", [self.length() for _ in range(r.randrange(1, 6))]),
+            lambda: hits(euclid(r.randrange(6), r.randrange(6, 9)), drum(r.choice(list(DRUMS))), "1/16"),
+            lambda: control(r.randrange(128), r.randrange(128)),
+            lambda: instrument(r.choice(INSTRUMENTS)),
+            lambda: bend(r.randrange(-8192, 8192)),
+        ])()
+
+    def part(self):
+        r = self.random
+        return r.choice([
+            lambda: flat(r.choice(LENGTHS[:6]), r.randrange(1, 3000)),
+            lambda: slope(r.choice(LENGTHS[:6]), r.randrange(1, 3000), r.randrange(1, 3000)),
+            lambda: pause(self.length()), lambda: breath(self.length()),
+        ])()
+
+    def name(self):
+        self.names += 1
+        return f"phrase_{self.names}"
+
+    def music(self, depth):
+        r = self.random
+        if depth == 0 or r.random() < 0.3:
+            return self.line()
+        inner = [self.music(depth - 1) for _ in range(r.randrange(1, 4))]
+        return r.choice([
+            lambda: seq(*inner), lambda: repeat(r.randrange(4), *inner), lambda: par(*inner),
+            lambda: channel(r.randrange(16), *inner), lambda: drums(*inner),
+            lambda: dynamics(r.choice(["pp", "ff", 1, 127]), *inner), lambda: gate(r.randrange(101), *inner),
+            lambda: accents(["f", "p", 17][:r.randrange(1, 4)], *inner),
+            lambda: articulations([r.randrange(101) for _ in range(r.randrange(1, 5))], *inner),
+            lambda: warp([self.part() for _ in range(r.randrange(1, 5))], *inner),
+            lambda: tempo(r.randrange(30, 300), *inner),
+            lambda: tempo_change(r.randrange(30, 300), r.randrange(30, 300), *inner),
+            lambda: swing(seq(*inner), long=r.choice([0.5, 0.6, 2 / 3, 0.75])),
+            lambda: crescendo("pp", "ff", melody("c4 d4 e4 f4", "1/8"), repeat(2, self.line(), note("a4", "1/8"))),
+            lambda: seq(*[phrase(self.name(), *inner)] * 2),
+            lambda: phrase(self.name(), *inner).transpose(1) if depth == 1 else seq(*inner),
+        ])()
+
+    def score(self):
+        return Score(*(self.music(4) for _ in range(self.random.randrange(1, 4))), seed=self.random.randrange(10**9))
+
+
+def made(seed):
+    """The random score of a seed; where it is out of a range, as a transposed drum may be, that of the next part."""
+    maker = Maker(seed)
+    while True:
+        try:
+            return maker.score()
+        except ValueError:
+            continue
+
+
+def quantity(number):
+    """A variable-length quantity of the MIDI file standard."""
+    low = bytes([number & 127])
+    return low if number < 128 else bytes(128 | byte & 127 for byte in quantity(number >> 7)) + low
+
+
+def file_of(events, end):
+    """The Standard MIDI File of events, as docs/MIDI_FILE.md says; distances are below 2^28 here."""
+    track, last = bytes.fromhex("00FF510307A120"), 0
+    for event in events:
+        track += quantity(event.tick - last) + event.message
+        last = event.tick
+    track += quantity(end - last) + bytes.fromhex("FF2F00")
+    return bytes.fromhex("4D546864 00000006 0000 0001 01E0 4D54726B") + len(track).to_bytes(4, "big") + track
+
+
+class RandomScores(unittest.TestCase):
+    def test_the_ticks_are_those_of_a_player_that_reads_the_text(self):
+        for seed in range(SCORES):
+            score = made(seed)
+            events, end = score_model.played(score.text.encode())
+            self.assertEqual([tuple(e) for e in score.events()], [(*e[:3], bytes(e[3])) for e in events], seed)
+            self.assertEqual(score.end, end, seed)
+
+    @needs_program
+    def test_the_built_program_plays_them_as_foretold(self):
+        for seed in range(SCORES):
+            score = made(seed)
+            status, said, file = run(score.text)
+            self.assertEqual((status, said), (0, ""), f"{seed}: {score.text}")
+            self.assertEqual(file, file_of(score.events(), score.end), seed)
+
+
+if __name__ == "__main__":
+    unittest.main()

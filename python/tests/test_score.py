@@ -1,0 +1,149 @@
+"""What the library makes, by rows worked out by hand."""
+
+import unittest
+from fractions import Fraction
+
+from formula_score import (
+    BarError, DRUMS, INSTRUMENTS, Meter, Pitch, Scale, Score, ScoreError, breath, channel, chord, crescendo, dotted,
+    drum, dynamics, euclid, flat, gate, instrument, melody, note, par, pause, phrase, repeat, rest, seq, slope,
+    swing, tempo, tempo_change, ticks, triplet, warp,
+)
+from formula_score.music import deformed
+
+
+def starts(score):
+    """Of each note its tick, key and velocity."""
+    return [(e.tick, e.message[1], e.message[2]) for e in score.events() if e.message[0] >> 4 == 9]
+
+
+class Pitches(unittest.TestCase):
+    def test_names_and_arithmetic(self):
+        self.assertEqual([int(Pitch(name)) for name in ("c4", "cb0", "g9", "bb3", "es4")], [60, 11, 127, 58, 65])
+        self.assertEqual(str(Pitch("c4") + 13), "cs5")
+        self.assertEqual(Pitch("c4").above("g4"), -7)
+        self.assertEqual(str(Pitch("c4") - 2), "as3")
+        self.assertEqual(str(Pitch(3)), "key 3")
+        for wrong in ("C4", "c#4", "c10", 128, -1):
+            self.assertRaises(ScoreError, Pitch, wrong)
+
+    def test_scales_and_chords(self):
+        self.assertEqual([str(Scale("d4", "dorian")[n]) for n in range(-1, 8)],
+                         "c4 d4 e4 f4 g4 a4 b4 c5 d5".split())
+        self.assertEqual(list(map(str, chord("Am7", 3))), "a3 c4 e4 g4".split())
+        self.assertEqual(list(map(str, chord("Bb", 3, inversion=1))), "d4 f4 as4".split())
+        self.assertIn("fs7", Scale("g2"))
+        self.assertRaises(ScoreError, chord, "H")
+
+    def test_general_midi(self):
+        self.assertEqual((len(INSTRUMENTS), len(DRUMS)), (128, 47))
+        self.assertEqual([instrument(name).value for name in ("violin", "trumpet", "flute", "gunshot")],
+                         [40, 56, 73, 127])
+        self.assertEqual([int(drum(name)) for name in ("acoustic bass drum", "snare", "closed hi-hat", "cowbell")],
+                         [35, 38, 42, 56])
+
+
+class Time(unittest.TestCase):
+    def test_lengths(self):
+        self.assertEqual([note("c4", of).ticks for of in ("3/8", Fraction(1, 12), 1, ticks(7), dotted("1/4"),
+                                                           triplet("1/8"))], [720, 160, 1920, 7, 720, 160])
+        for wrong in (0.25, "1/7", "1", "x", "1/0", -1, 521):
+            if wrong != "1":
+                self.assertRaises(ScoreError, rest, wrong)
+
+    def test_bars_are_counted(self):
+        bars = Meter("3/4").bars
+        bar = melody("c4 d4 e4", "1/4")
+        self.assertEqual(bars(melody("g4", "1/4"), bar, bar, pickup="1/4").ticks, 3360)
+        with self.assertRaisesRegex(BarError, "bar 2 is 1/8 too long: it has 7/8 in place of 3/4") as caught:
+            bars(bar, seq(bar, rest("1/8")))
+        self.assertEqual(caught.exception.bar, 2)
+        self.assertRaisesRegex(BarError, "bar 11 is 1/4 too short", bars, bar, melody("c4 d4", "1/4"), first=10)
+        # a bar is counted as it is written, at whatever tempo
+        self.assertEqual(bars(seq(tempo(60, bar)), bar).ticks, 1440 * 2 + 1440)
+
+    def test_deformations(self):
+        parts = [flat("1/1", 1000), breath("1/16"), slope("1/1", 1000, 2000), pause(ticks(10))]
+        rows = ((1919, True, 1919), (1920, False, 1920), (1920, True, 2040), (2880, True, 3240), (3840, True, 4930),
+                (3840, False, 4930), (4000, True, 5090))
+        for position, onset, outside in rows:
+            self.assertEqual(deformed(parts, position, onset), outside, (position, onset))
+
+    def test_tempo(self):
+        self.assertEqual(tempo(90, repeat(8, note("c4", "1/4"))).parts[0].first, 1333)
+        self.assertEqual(tempo(60, note("c4", "1/4")).ticks, 960)
+        self.assertEqual([p.ticks for p in tempo(60, repeat(3, rest("521/2"))).parts], [1_000_000, 500_480])
+        self.assertEqual(tempo_change(120, 60, note("c4", "1/1")).ticks, 2880)
+
+    def test_swing_keeps_beats(self):
+        for unit, all_of in (("1/8", [0, 320, 480, 800, 960]), ("1/16", [0, 160, 240, 400, 480])):
+            self.assertEqual([tick for tick, _, _ in starts(Score(swing(melody("c4 d4 e4 f4 g4", unit), unit=unit)))],
+                             all_of)
+
+    def test_euclid(self):
+        drawn = lambda *of: "".join("x" if beat else "." for beat in euclid(*of))
+        self.assertEqual([drawn(3, 8), drawn(4, 4), drawn(0, 2), drawn(3, 8, 3)],
+                         ["x..x..x.", "xxxx", "..", "x..x.x.."])
+
+
+class Texts(unittest.TestCase):
+    def test_a_whole_text(self):
+        tune = phrase("tune", melody("c4 e4 g4~ g4", "1/4"))
+        score = Score(par(channel(0, tune), channel(1, instrument("flute"), tune.transpose(12))), seed=7)
+        self.assertEqual(score.text, """formula 1;
+seed 7;
+phrase tune {
+  note c4 1/4; note e4 1/4; note g4 1/2;
+}
+phrase tune_up_12 {
+  note c5 1/4; note e5 1/4; note g5 1/2;
+}
+par {
+  branch {
+    channel 0 {
+      do tune;
+    }
+  }
+  branch {
+    channel 1 {
+      program 73; do tune_up_12;
+    }
+  }
+}
+""")
+
+    def test_ties(self):
+        self.assertEqual(Score(note("c4", "1/4", tied=True), note("c4", "1/4", tied=True), note("c4", "1/2")).text,
+                         "formula 1;\nnote c4 1/1;\n")
+        self.assertRaises(ScoreError, Score, note("c4", "1/4", tied=True))
+        self.assertRaises(ScoreError, Score, note("c4", "1/4", tied=True), note("d4", "1/4"))
+        self.assertRaises(ScoreError, channel, 1, note("c4", "1/4", tied=True))
+
+    def test_dynamics(self):
+        score = Score(crescendo("p", "f", melody("c4 d4 e4", "1/4"), dynamics("pp", note("f4", "1/4")),
+                                melody("g4 a4", "1/4")))
+        self.assertEqual([loud for _, _, loud in starts(score)], [49, 61, 73, 33, 84, 96])
+        self.assertRaises(ScoreError, crescendo, "p", "f", par(note("c4", "1/4")))
+
+    def test_what_the_command_would_refuse(self):
+        quarter = note("c4", "1/4")
+        deep = quarter
+        for _ in range(8):
+            deep = tempo(90, deep)
+        Score(deep)
+        rows = (
+            lambda: note([], "1/4"), lambda: note(["c4"] * 17, "1/4"), lambda: channel(16, quarter),
+            lambda: dynamics(0, quarter), lambda: gate(101, quarter), lambda: repeat(1_000_001, quarter),
+            lambda: phrase("repeat", quarter), lambda: phrase("a1", quarter), lambda: phrase("r7", quarter),
+            lambda: warp([], quarter), lambda: instrument("kazoo"), lambda: drum("kazoo"), lambda: par(),
+            lambda: Score(phrase("a", quarter), phrase("a", rest("1/4"))), lambda: Score(quarter, seed=10**9),
+            lambda: Score(tempo(90, deep)), lambda: Score(repeat(1_000_000, repeat(3, quarter))),
+            lambda: Score(repeat(4096, par(quarter))), lambda: Score(repeat(10**6, repeat(2, rest(520)))),
+            lambda: Score(repeat(10**6, repeat(20, rest(ticks(1))))), lambda: Score(*[quarter] * 262_144),
+        )
+        for number, row in enumerate(rows):
+            with self.assertRaises(ScoreError, msg=str(number)):
+                row()
+
+
+if __name__ == "__main__":
+    unittest.main()
