@@ -1,0 +1,6 @@
+pub mod Dues
+pub mod Serving
+pub mod Conducting
+pub mod Filing
+pub mod Beginnings
+mod Voices

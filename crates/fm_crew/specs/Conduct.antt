@@ -1,0 +1,121 @@
+-- What a conductor's passes need and leave.
+use Rattle.std.specs.Prelude.{◌≡◌, ℕ, ◌+◌, ◌-◌, ◌*◌, ◌<◌, ◌≤◌, List, [], length, take, true, false, Option, Some, None, IfSome}
+use Rattle.atomic_table.specs.Seated.{TableId}
+use Rattle.fm_msg.specs.Event.{TimedMessage}
+use Rattle.fm_line.specs.Line.{line}
+use Rattle.fm_line.specs.Piece.{piece}
+use Rattle.fm_buffer.specs.Gather.{EventGather}
+use Rattle.fm_core.specs.Floors.{floor_of}
+use Rattle.fm_core.specs.Sweep.{least}
+use Rattle.fm_core.specs.Taking.{due_of, is_due}
+use Rattle.fm_core.specs.declared.due.Due.{Due}
+use Rattle.fm_core.specs.declared.due.Due.TheVariants.{Nothing, Pair, Everything}
+use Rattle.fm_core.specs.declared.floor.Floor.{Floor}
+use Rattle.fm_core.specs.declared.floor.Floor.TheVariants.{At, Done}
+use Rattle.fm_program.specs.Process.{plan_lines}
+use Rattle.fm_smf.specs.Writing.{Written, Writes}
+use Rattle.fm_smf.specs.Track.{events_bytes}
+use Rattle.fm_edge.specs.Runs.{Breaks}
+use Rattle.fm_board.specs.Calls.{Releases}
+use Rattle.fm_board.specs.Quantum.{IsLimit}
+use Rattle.fm_board.specs.Seats.{IsIdle, Sight}
+use Rattle.fm_board.specs.View.{lines_of, processes, published, released, was_visited}
+use Rattle.fm_board.specs.declared.about.About.{About}
+use Rattle.fm_board.specs.declared.view.View.{View}
+
+-- the key up to which events are due
+abbrev pub key_of : Due → Option (ℕ × ℕ)
+key_of Nothing = Some (0, 0)
+key_of (Pair m i) = Some (m, i)
+key_of Everything = None
+
+-- in a pass, after so many processes: while something is due these are visited and no other is
+pub record Passing (a : About) (v : View) (gather : EventGather) (due : Due) (limit n : ℕ) : Type 0 where
+  pub plan : v.plan ≡ a.plan
+  pub conductor : v.number ≡ 0
+  pub due_is : v.due ≡ due
+  pub in_lead : IsLimit v.paced a.lead limit
+  pub marks : length v.visited ≡ processes v
+  pub front : is_due due ≡ true → (k : ℕ) → k < n → was_visited v k ≡ true
+  pub back : is_due due ≡ true → (k : ℕ) → n ≤ k → was_visited v k ≡ false
+  pub taken : gather.events ≡ v.gathered
+  pub few : length gather.events ≤ n * a.room
+  pub none : is_due due ≡ false → gather.events ≡ []
+  pub space : processes v * a.room ≤ gather.capacity
+
+-- what a pass leaves as it was
+pub record Stays (old new : View) : Type 0 where
+  pub plan : new.plan ≡ old.plan
+  pub paced : new.paced ≡ old.paced
+  pub released : new.released ≡ old.released
+  pub published : new.published ≡ old.published
+  pub halted : new.halted ≡ old.halted
+
+-- once all is done, the clock that a look found is the end of the process
+abbrev pub TellsEnd : View → ℕ → ℕ → Type 0
+TellsEnd v p clock = v.published ≡ Done → clock ≡ (line (lines_of v) p).end
+
+-- the same of the last of the first n processes
+abbrev pub TellsLast : View → ℕ → ℕ → Type 0
+TellsLast v n clock = v.published ≡ Done → 0 < n → clock ≡ (line (lines_of v) (n - 1)).end
+
+-- a seat and a gather as a conductor begins with them: as a new board's first seat is, and empty with room for all
+-- that the outboxes can hold
+pub record MayConduct (t : TableId) (a : About) (s : Sight) (gather : EventGather) : Type 0 where
+  pub idle : IsIdle t a s
+  pub conductor : s.mind.view.number ≡ 0
+  pub due : s.mind.view.due ≡ Nothing
+  pub paced : s.mind.view.paced ≡ At 0
+  pub marks : length s.mind.view.visited ≡ processes s.mind.view
+  pub gathered : s.mind.view.gathered ≡ []
+  pub released : s.mind.view.released ≡ 0
+  pub running : s.mind.view.halted ≡ false
+  pub empty : gather.events ≡ []
+  pub space : processes s.mind.view * a.room ≤ gather.capacity
+
+-- a conductor's seat after an Ok: it has released every event of the piece, and its last floor says that all is done
+pub record HasConducted (t : TableId) (a : About) (s : Sight) : Type 0 where
+  pub idle : IsIdle t a s
+  pub conductor : s.mind.view.number ≡ 0
+  pub running : s.mind.view.halted ≡ false
+  pub published : s.mind.view.published ≡ Done
+  pub released : s.mind.view.released ≡ length (piece (plan_lines a.plan))
+
+-- a publish of the sweep's least pair, and a pace
+pub record Publishes (old new : View) (paced : Floor) (due : Due) : Type 0 where
+  pub due_is : due ≡ due_of (least old.sweep)
+  pub view : new ≡ record (published old (floor_of (least old.sweep)) due) { paced = paced }
+
+-- a conductor's seat that holds nothing
+pub record IsConductor (t : TableId) (a : About) (s : Sight) : Type 0 where
+  pub idle : IsIdle t a s
+  pub conductor : s.mind.view.number ≡ 0
+
+module _ {K : Type 0} (content : K → Option (List ℕ)) (sure : K → Option ℕ) (faults : K → ℕ) where
+  -- the next events were released and written
+  pub record WritesNext (old new : View) (gather gather' : EventGather) (begin now : K) (writer writer' : Written)
+      (n : ℕ) : Type 0 where
+    pub events : List TimedMessage
+    pub releases : Releases old events
+    pub view : new ≡ released old (length events)
+    pub cleared : gather' ≡ record gather { events = [] }
+    pub count : n ≡ length events
+    pub writes : Writes content sure faults begin now events writer writer'
+
+  -- the next events were released, and the sink failed before all were written
+  pub record BreaksNext (old new : View) (begin now : K) (writer : Written) : Type 0 where
+    pub events : List TimedMessage
+    pub releases : Releases old events
+    pub view : new ≡ released old (length events)
+    pub breaks : Breaks content sure faults begin now (events_bytes writer.state events)
+
+  -- between two passes: what the seat counts as released is what the sink holds
+  pub record Conducting (a : About) (v : View) (gather : EventGather) (due : Due) (limit : ℕ) (start now : K)
+      (first writer : Written) (events : ℕ) : Type 0 where
+    pub passing : Passing a v gather due limit 0
+    pub running : v.halted ≡ false
+    pub done : due ≡ Everything → v.published ≡ Done
+    pub many : events ≡ v.released
+    pub within : v.released ≤ length (piece (lines_of v))
+    pub writes : Writes content sure faults start now (take v.released (piece (lines_of v))) first writer
+    pub at_end : IfSome (content now) (λ c. length c ≡ writer.put)

@@ -1,0 +1,4 @@
+pub mod Crew
+pub mod Conduct
+pub mod Serving
+pub mod Workers

@@ -1,0 +1,169 @@
+//! The calls of a board that a crew makes.
+ghost use Rattle.std.specs.Prelude.{◌≡◌, ◌<◌, ℕ, length, None, true};
+ghost use Rattle.atomic_table.specs.Seated.{TableId};
+ghost use Rattle.fm_core.specs.Floors.{floor_of};
+ghost use Rattle.fm_core.specs.Sweep.{least};
+ghost use Rattle.fm_core.specs.Tags.{is_claimable};
+ghost use Rattle.fm_core.specs.Taking.{due_of, is_due};
+ghost use Rattle.fm_core.specs.declared.due.Due.TheVariants.{Nothing};
+ghost use Rattle.fm_board.specs.Answers.{Claims, Found, Gave};
+ghost use Rattle.fm_board.specs.Calls.{MayGive, MayRecord, Releases};
+ghost use Rattle.fm_board.specs.Plays.{viewing};
+ghost use Rattle.fm_board.specs.Seats.{IsOurs, seeing};
+ghost use Rattle.fm_board.specs.Starting.{Starts};
+ghost use Rattle.fm_board.specs.View.{InTurn, looked, noted, processes, published, released, was_visited};
+ghost use Rattle.fm_board.specs.declared.about.About.{About};
+
+use fm_board::{Berth, Board, BoardSeat, Claim, Seen, Started};
+use fm_buffer::Gather;
+use fm_core::Floor;
+use fm_strand::Plan;
+
+/// The calls of a board that its conductor and its workers make. Whoever makes the same calls on a
+/// board and does more beside them is played on in the same way.
+pub trait Calls {
+    /// The table of words that its seats share.
+    ghost table: { Self → TableId };
+
+    /// The plan, the room and the lead.
+    ghost about: { Self → About };
+
+    /// The plan that is played.
+    fn plan(&self) -> &Plan
+        ensures { result.now ≡ (about self.now).plan };
+
+    /// How far events may be computed ahead of the floor, in ticks.
+    fn lead(&self) -> u64
+        ensures { result ≡ (about self.now).lead };
+
+    /// One load of a process's word, which the seat's sweep enters.
+    fn look(&self, seat: &mut BoardSeat, process: u32) -> Seen
+        requires ours { IsOurs (table self.now) (about self.now) seat.old }
+        requires turn { InTurn seat.old.mind.view process }
+        ensures { Found seat.old process result
+            (looked seat.old.mind.view process result.tag result.clock) seat.new };
+
+    /// One load of the floor, above which by the lead the seat may compute.
+    fn pace(&self, seat: &mut BoardSeat) -> Floor
+        requires ours { IsOurs (table self.now) (about self.now) seat.old }
+        ensures { seat.new ≡ seeing seat.old (record seat.old.mind.view { paced = result }) };
+
+    /// Takes a process whose word is as it was seen.
+    fn claim(&self, seat: &mut BoardSeat, process: u32, expected: &Seen) -> Claim
+        requires ours { IsOurs (table self.now) (about self.now) seat.old }
+        requires there { process < processes seat.old.mind.view }
+        requires idle { seat.old.mind.view.holds ≡ None }
+        requires tag { is_claimable seat.old.mind.view.number expected.now.tag ≡ true }
+        ensures { Claims (about self.now) seat.old process expected.now result seat.new };
+
+    /// Starts a process whose predecessors are all at their ends.
+    fn start(&self, seat: &mut BoardSeat, process: u32) -> Started
+        requires ours { IsOurs (table self.now) (about self.now) seat.old }
+        requires there { process < processes seat.old.mind.view }
+        requires idle { seat.old.mind.view.holds ≡ None }
+        ensures { Starts (about self.now) seat.old process result seat.new };
+
+    /// Records where the process that the seat holds came to its end.
+    fn record(&self, seat: &mut BoardSeat, berth: &Berth)
+        requires ours { IsOurs (table self.now) (about self.now) seat.old }
+        requires may { MayRecord (about self.now) seat.old.mind.view
+            berth.now.process berth.now.strand }
+        ensures { seat.new ≡ record seat.old {
+          mind = viewing seat.old.mind (noted seat.old.mind.view);
+        } };
+
+    /// Gives the process back, with what was computed in it.
+    fn give(&self, seat: &mut BoardSeat, berth: Berth)
+        requires ours { IsOurs (table self.now) (about self.now) seat.old }
+        requires may { MayGive (about self.now) seat.old.mind.view
+            berth.process berth.strand berth.outbox }
+        ensures { Gave (about self.now) seat.old berth seat.new };
+
+    /// Makes the least clock of seat 0's sweep the floor, and all up to that pair due.
+    fn publish(&self, seat: &mut BoardSeat, floor: Floor)
+        requires ours { IsOurs (table self.now) (about self.now) seat.old }
+        requires conductor { seat.old.mind.view.number ≡ 0 }
+        requires swept { length seat.old.mind.view.sweep ≡ processes seat.old.mind.view }
+        requires settled { seat.old.mind.view.due ≡ Nothing }
+        requires floor { floor ≡ floor_of (least seat.old.mind.view.sweep) }
+        ensures { seat.new ≡ seeing seat.old
+            (published seat.old.mind.view floor (due_of (least seat.old.mind.view.sweep))) };
+
+    /// Settles what was taken, which is the next part of the piece, and counts it as released.
+    fn release(&self, seat: &mut BoardSeat, gather: &mut Gather)
+        requires ours { IsOurs (table self.now) (about self.now) seat.old }
+        requires conductor { seat.old.mind.view.number ≡ 0 }
+        requires due { is_due seat.old.mind.view.due ≡ true }
+        requires visited { (p : ℕ) → p < processes seat.old.mind.view
+            → was_visited seat.old.mind.view p ≡ true }
+        requires taken { gather.old.events ≡ seat.old.mind.view.gathered }
+        ensures seat { seat.new ≡ seeing seat.old
+            (released seat.old.mind.view (length gather.new.events)) }
+        ensures gather { Releases seat.old.mind.view gather.new.events }
+        ensures capacity { gather.new.capacity ≡ gather.old.capacity };
+
+    /// Tells the other seats to stop.
+    fn halt(&self, seat: &mut BoardSeat)
+        requires ours { IsOurs (table self.now) (about self.now) seat.old }
+        requires conductor { seat.old.mind.view.number ≡ 0 }
+        ensures { seat.new ≡ seeing seat.old (record seat.old.mind.view { halted = true }) };
+
+    /// One load of whether to stop.
+    fn heed(&self, seat: &mut BoardSeat) -> bool
+        requires ours { IsOurs (table self.now) (about self.now) seat.old }
+        ensures { seat.new ≡ seeing seat.old (record seat.old.mind.view { heeded = result }) };
+}
+
+impl Calls for Board {
+    ghost table = { λ board. board.table.shared.table_id };
+
+    ghost about = { λ board. board.about };
+
+    fn plan(&self) -> &Plan {
+        self.plan()
+    }
+
+    fn lead(&self) -> u64 {
+        self.lead()
+    }
+
+    fn look(&self, seat: &mut BoardSeat, process: u32) -> Seen {
+        self.look(seat, process)
+    }
+
+    fn pace(&self, seat: &mut BoardSeat) -> Floor {
+        self.pace(seat)
+    }
+
+    fn claim(&self, seat: &mut BoardSeat, process: u32, expected: &Seen) -> Claim {
+        self.claim(seat, process, expected)
+    }
+
+    fn start(&self, seat: &mut BoardSeat, process: u32) -> Started {
+        self.start(seat, process)
+    }
+
+    fn record(&self, seat: &mut BoardSeat, berth: &Berth) {
+        self.record(seat, berth);
+    }
+
+    fn give(&self, seat: &mut BoardSeat, berth: Berth) {
+        self.give(seat, berth);
+    }
+
+    fn publish(&self, seat: &mut BoardSeat, floor: Floor) {
+        self.publish(seat, floor);
+    }
+
+    fn release(&self, seat: &mut BoardSeat, gather: &mut Gather) {
+        self.release(seat, gather);
+    }
+
+    fn halt(&self, seat: &mut BoardSeat) {
+        self.halt(seat);
+    }
+
+    fn heed(&self, seat: &mut BoardSeat) -> bool {
+        self.heed(seat)
+    }
+}

@@ -1,0 +1,79 @@
+//! How a thread passes the time while it finds nothing to do.
+ghost use Rattle.std.specs.Prelude.{◌≡◌, true};
+
+use std::hint::spin_loop;
+use std::sync::Wait;
+use std::thread::{Parker, yield_now};
+use std::time::Duration;
+
+/// How many turns in a row are tried again at once.
+const SPINS: u32 = 50;
+
+/// How many more of them let another thread run first.
+const YIELDS: u32 = 10;
+
+/// The first wait after these, in microseconds.
+const FIRST_WAIT: u64 = 5;
+
+/// The longest wait, in microseconds.
+const LONGEST_WAIT: u64 = 500;
+
+/// How long a thread has found nothing to do.
+#[derive(Drop)]
+pub struct Idle {
+    /// How many turns in a row.
+    turns: u32,
+    /// The next wait, in microseconds.
+    wait: u64,
+    parker: Parker,
+}
+
+impl Idle {
+    /// It has just begun.
+    pub fn new() -> Idle
+        ensures { result.turns ≡ 0 }
+    {
+        Idle {
+            turns: 0,
+            wait: FIRST_WAIT,
+            parker: Parker::new(),
+        }
+    }
+
+    /// After a turn of a worker. One that found nothing is followed by the next one at once, then
+    /// by a yield, then by a wait that doubles up to half a millisecond.
+    pub fn after<R: Wait>(&mut self, rt: &R, found: bool)
+        ensures { found ≡ true → self.new.turns ≡ 0 }
+    {
+        if found {
+            self.turns = 0;
+            self.wait = FIRST_WAIT;
+        } else if self.turns < SPINS + YIELDS {
+            self.yield_soon();
+        } else {
+            self.parker
+                .park_timeout(rt, Duration::from_micros(self.wait));
+            self.wait = longer(self.wait);
+        }
+    }
+
+    /// After a turn that found nothing, of one who does not wait for long: the next one at once, and
+    /// after some of them a yield.
+    pub fn yield_soon(&mut self) {
+        if self.turns < SPINS {
+            spin_loop();
+        } else {
+            yield_now();
+        }
+        self.turns = self.turns.saturating_add(1);
+    }
+}
+
+// The wait after this one.
+fn longer(wait: u64) -> u64 {
+    if wait < LONGEST_WAIT / 2 {
+        wait * 2
+    } else {
+        LONGEST_WAIT
+    }
+}
