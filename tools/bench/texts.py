@@ -111,6 +111,8 @@ def slopes(count, part):
 # 256 parts that are all passed by a body of 300 ticks, which they leave as long as it is.
 PARTS = slopes(256, b"slope ticks 1 by 1000 to 1001")
 
+LONG_PARTS = slopes(256, b"slope ticks 1000 by 1000 to 1001")
+
 # 63 and 64 tokens.
 SUM = b"set r0=" + b"1+" * 31 + b"1;"
 SIGNS = b"set r0=" + b"-" * 63 + b"1;"
@@ -222,6 +224,15 @@ def levels(count):
     """So many times in and out of a deformation of 256 parts."""
     inner = b"repeat %d{warp a{rest ticks 300;}}" % (count // 4)
     return b"formula 1;" + PARTS + b"repeat 4{" + inner + b"}"
+
+
+def deep_branches(branches, rounds):
+    """Branches of so many notes with computed keys and lengths, each eight deformations of 256 parts deep."""
+    note = b"note key (36 + (pick(60) * 7 + n0 %% 13 * 5) / 9) ticks (40 + n0 %% 5) max 44;"
+    inner = b"repeat %d{%s}" % (rounds, note.replace(b"%%", b"%"))
+    for _ in range(8):
+        inner = b"warp a{" + inner + b"}"
+    return b"formula 1;" + LONG_PARTS + b"par{" + b"".join(b"branch{" + inner + b"}" for _ in range(branches)) + b"}"
 
 
 def steps_before_forks(count):

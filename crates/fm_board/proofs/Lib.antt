@@ -25,5 +25,5 @@ pub mod Meetings
 pub mod Pairs
 pub mod Sweeping
 pub mod Advancing
-mod Voices
+pub mod Voices
 mod Numerals

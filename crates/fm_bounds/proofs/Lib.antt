@@ -2,7 +2,6 @@ pub mod SaturationLemmas
 pub mod SumsLemmas
 pub mod WeightLemmas
 pub mod LongestLemmas
-pub mod RangeLemmas
 pub mod LimitLemmas
 pub mod StandsLemmas
 pub mod WalkLemmas

@@ -14,7 +14,7 @@ use Rattle.fm_bounds.specs.declared.excess.Excess.TheVariants.{TooManyProcesses,
 use Rattle.fm_bounds.specs.Excess.{excess_at}
 use Rattle.fm_bounds.specs.Saturation.{capped}
 use Rattle.fm_bounds.specs.Reached.{AreWithin}
-use Rattle.fm_bounds.proofs.RangeLemmas.{none_first, none_second}
+use Rattle.fm_version.proofs.RangeLemmas.{none_first, none_second}
 
 -- a total up to the ceiling passes a limit where the total does
 pub capped_lt : (m n : ℕ) → m < CEILING → nat_lt m (capped n) ≡ nat_lt m n

@@ -4,18 +4,11 @@ use Rattle.fm_lex.specs.declared.lexer.TheConstants.{MAX_TEXT}
 use Rattle.fm_value.specs.declared.expr.TheConstants.{MAX_NODES}
 use Rattle.fm_value.specs.declared.node.TheConstants.{MAX_VALUE}
 use Rattle.fm_value.specs.declared.registers.TheConstants.{REGISTERS}
-use Rattle.fm_bounds.specs.declared.excess.TheConstants.{MAX_EVENTS, MAX_OPERATIONS, MAX_PROCESSES, MAX_STEPS}
-use Rattle.fm_bounds.specs.declared.span.TheConstants.{WHOLE_NOTE}
+use Rattle.fm_bounds.specs.declared.excess.TheConstants.{MAX_EVENTS, MAX_OPERATIONS, MAX_STEPS}
 use Rattle.fm_bounds.specs.declared.sums.TheConstants.{CEILING}
 
 ceiling : CEILING ≡ 2 ^ 40 + 1
 ceiling = refl
-
-ticks_of_a_whole_note : WHOLE_NOTE ≡ 1920
-ticks_of_a_whole_note = refl
-
-most_processes : MAX_PROCESSES ≡ 4096
-most_processes = refl
 
 most_operations : MAX_OPERATIONS ≡ 262144
 most_operations = refl

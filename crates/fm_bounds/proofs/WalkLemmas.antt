@@ -11,15 +11,14 @@ use Rattle.fm_grammar.specs.declared.entry.Entry as code_entry
 use Rattle.fm_warp.specs.declared.warp.TheConstants.{MAX_PARTS}
 use Rattle.fm_names.specs.Named.{named}
 use Rattle.fm_line.specs.Line.{most_events}
-use Rattle.fm_meaning.specs.Rules.{score_rules, most_operations, most_steps}
+use Rattle.fm_meaning.specs.Rules.{VersionRules, score_rules, most_operations, most_steps}
 use Rattle.fm_meaning.specs.Fault.{NumberedFault}
 use Rattle.fm_meaning.specs.Faults.{first_found}
 use Rattle.fm_meaning.specs.Resolved.{done}
 use Rattle.fm_meaning.specs.Resolve.{Known, play_of, entries_of, resolved, longest_of, nothing_known}
 use Rattle.fm_meaning.specs.Ranges.{Names, number_faults, part_faults, part_length, length_spot, each_faults, stmt_faults, body_faults, double_faults, entries_faults, second_walk}
 use Rattle.fm_meaning.specs.Bounds.{Totals, totals, plus, score_totals, score_bounds, bounds_of, bounds_in, forks, limit_faults, sums_faults, fourth_walk}
-use Rattle.fm_bounds.specs.declared.span.TheConstants.{WHOLE_NOTE}
-use Rattle.fm_bounds.specs.declared.excess.TheConstants.{MAX_PROCESSES}
+use Rattle.fm_version.specs.View.{rules_view}
 use Rattle.fm_bounds.specs.declared.sums.Sums.{Sums}
 use Rattle.fm_bounds.specs.declared.tables.Tables.{Tables}
 use Rattle.fm_bounds.specs.declared.walk.Walk.{Walk}
@@ -30,7 +29,7 @@ use Rattle.fm_bounds.specs.Reached.{Reached}
 use Rattle.fm_bounds.proofs.SaturationLemmas.{capped_below}
 use Rattle.fm_bounds.proofs.SumsLemmas.{none_saturated, sums}
 use Rattle.fm_bounds.proofs.WeightLemmas.{same_totals, plus_plus}
-use Rattle.fm_bounds.proofs.RangeLemmas.{none_first, none_second}
+use Rattle.fm_version.proofs.RangeLemmas.{none_first, none_second}
 use Rattle.fm_bounds.proofs.LimitLemmas.{are_within, first_stays}
 
 -- ---- a statement that is played
@@ -49,6 +48,7 @@ pub play_reached : (score : tree.Score) (walk : Walk) (sums : Sums) (spot : Spot
 play_reached score walk sums spot stmt rest r saturates none =
     let longest = (resolved score).longest in
     record {
+      rules = r.rules;
       known = r.known;
       names = r.names;
       before = after r;
@@ -79,7 +79,7 @@ play_refused score walk spot stmt rest f r found =
 -- the parts of a shape have no fault
 pub shape_ranges : (score : tree.Score) (walk : Walk) (name : Leaf) (parts : List PartText) (rest : List Entry)
     → Reached score walk (tree.shape name parts ∷ rest)
-    → each_faults (part_faults WHOLE_NOTE) (λ p. length_spot (part_length p)) MAX_PARTS parts ≡ []
+    → each_faults (part_faults walk.tables.rules.whole_note) (λ p. length_spot (part_length p)) MAX_PARTS parts ≡ []
 shape_ranges score walk name parts rest r =
     let each = λ (whole : ℕ). each_faults (part_faults whole) (λ p. length_spot (part_length p)) MAX_PARTS parts in
     let names = record r.names { shapes = name.text ∷ r.names.shapes } in
@@ -90,11 +90,13 @@ shape_ranges score walk name parts rest r =
 -- a shape
 pub shape_reached : (score : tree.Score) (walk : Walk) (tables : Tables) (name : Leaf) (parts : List PartText)
     (rest : List Entry) → Reached score walk (tree.shape name parts ∷ rest)
+    → tables.rules ≡ walk.tables.rules
     → ((longest : ℕ) (known : Known) → Stands walk.tables longest known → Stands tables longest (with_shape name parts known))
     → Reached score (record { tables = tables; before = walk.before }) rest
-shape_reached score walk tables name parts rest r stands =
+shape_reached score walk tables name parts rest r same stands =
     let names = record r.names { shapes = name.text ∷ r.names.shapes } in
     record {
+      rules = ap rules_view same ∙ r.rules;
       known = with_shape name parts r.known;
       names = names;
       before = r.before;
@@ -114,11 +116,13 @@ shape_reached score walk tables name parts rest r stands =
 -- a phrase
 pub phrase_reached : (score : tree.Score) (walk : Walk) (tables : Tables) (name : Leaf) (body : Body)
     (rest : List Entry) → Reached score walk (tree.phrase name body ∷ rest)
+    → tables.rules ≡ walk.tables.rules
     → ((longest : ℕ) (known : Known) → Stands walk.tables longest known → Stands tables longest (with_phrase name body known))
     → Reached score (record { tables = tables; before = walk.before }) rest
-phrase_reached score walk tables name body rest r stands =
+phrase_reached score walk tables name body rest r same stands =
     let names = record r.names { phrases = name.text ∷ r.names.phrases } in
     record {
+      rules = ap rules_view same ∙ r.rules;
       known = with_phrase name body r.known;
       names = names;
       before = r.before;
@@ -135,22 +139,26 @@ phrase_reached score walk tables name body rest r stands =
 -- ---- the beginning and the end
 
 -- nothing was gone over yet
-pub begun : (score : tree.Score) (tables : Tables) → tables.longest ≡ capped (longest_of WHOLE_NOTE score.entries)
+pub begun : (score : tree.Score) (tables : Tables) → rules_view tables.rules ≡ score_rules score
+    → tables.longest ≡ capped (longest_of tables.rules.whole_note score.entries)
     → ((name : List ℕ) → named tables.phrases name ≡ None) → ((name : List ℕ) → named tables.shapes name ≡ None)
     → second_walk score ≡ []
     → Reached score (record { tables = tables; before = sums 0 0 0 0 0 false }) score.entries
-begun score tables greatest no_phrase no_shape none =
+begun score tables rules greatest no_phrase no_shape none =
     let longest = (resolved score).longest in
-    let names : Names = record { whole = WHOLE_NOTE; shapes = []; phrases = [] } in
-    let known = nothing_known WHOLE_NOTE in
+    let whole = (score_rules score).whole_note in
+    let same : tables.rules.whole_note ≡ whole = ap VersionRules.whole_note rules in
+    let names : Names = record { whole = whole; shapes = []; phrases = [] } in
+    let known = nothing_known whole in
     record {
+      rules = rules;
       known = known;
       names = names;
       before = totals 0 0 0 0 0;
       forks = false;
       stands = record {
-        greatest = greatest;
-        whole = refl;
+        greatest = greatest ∙ ap (λ w. capped (longest_of w score.entries)) same;
+        whole = sym same;
         phrases = λ name. ap (λ o. unwrap_or o (weight_in 0 done)) (no_phrase name);
         shapes = λ name. ap (λ o. unwrap_or o []) (no_shape name);
       };
@@ -183,7 +191,7 @@ at_entry score walk entries i x within is r =
 
 -- the totals of a score, each the number itself and not past its limit
 pub record Ends (score : tree.Score) (whole : Sums) : Type 0 where
-  pub processes : whole.processes ≤ MAX_PROCESSES
+  pub processes : whole.processes ≤ (score_rules score).most_processes
   pub operations : whole.operations ≤ most_operations
   pub events : whole.events ≤ most_events
   pub steps : whole.steps ≤ most_steps

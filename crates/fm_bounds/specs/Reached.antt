@@ -9,6 +9,7 @@ use Rattle.fm_meaning.specs.Rules.{score_rules, most_operations, most_steps}
 use Rattle.fm_meaning.specs.Resolve.{Known, entries_of, resolved}
 use Rattle.fm_meaning.specs.Ranges.{Names, entries_faults}
 use Rattle.fm_meaning.specs.Bounds.{Totals, plus, score_totals, bounds_in, sums_faults, fourth_walk}
+use Rattle.fm_version.specs.View.{rules_view}
 use Rattle.fm_bounds.specs.declared.bounds.Bounds.{Bounds}
 use Rattle.fm_bounds.specs.declared.walk.Walk.{Walk}
 use Rattle.fm_bounds.specs.Saturation.{saturated}
@@ -38,6 +39,7 @@ pub record AreWithin (most : ℕ) (a : Totals) : Type 0 where
 
 -- before these entries of a score nothing was too much, and the walk has what they need
 pub record Reached (score : Score) (walk : Walk) (rest : List Entry) : Type 0 where
+  pub rules : rules_view walk.tables.rules ≡ score_rules score
   pub known : Known
   pub names : Names
   pub before : Totals

@@ -8,7 +8,6 @@ use Rattle.fm_grammar.specs.Score.{Leaf, Body}
 use Rattle.fm_meaning.specs.Resolve.{Known, meaning_of, named_as, passage_of, part_of}
 use Rattle.fm_bounds.specs.declared.sums.Sums.{Sums}
 use Rattle.fm_bounds.specs.declared.tables.Tables.{Tables}
-use Rattle.fm_bounds.specs.declared.span.TheConstants.{WHOLE_NOTE}
 use Rattle.fm_bounds.specs.Saturation.{capped}
 use Rattle.fm_bounds.specs.Weight.{weight_in}
 
@@ -20,11 +19,11 @@ phrase_weight tables name = unwrap_or (named tables.phrases name) (weight_in 0 d
 abbrev pub shape_parts : Tables → List ℕ → List Part
 shape_parts tables name = unwrap_or (named tables.shapes name) []
 
--- the tables have what is known at a place of the text: for each phrase what it adds at most, for each shape its
--- parts; and the greatest entry of all rhythm lists
+-- the tables have what is known at a place of the text: the ticks of a whole note, for each phrase what it adds at
+-- most, for each shape its parts; and the greatest entry of all rhythm lists
 pub record Stands (tables : Tables) (longest : ℕ) (known : Known) : Type 0 where
   pub greatest : tables.longest ≡ capped longest
-  pub whole : known.whole ≡ WHOLE_NOTE
+  pub whole : known.whole ≡ tables.rules.whole_note
   pub phrases : (name : List ℕ) → phrase_weight tables name ≡ weight_in longest (meaning_of name done known.phrases)
   pub shapes : (name : List ℕ) → shape_parts tables name ≡ meaning_of name [] known.shapes
 

@@ -3,7 +3,7 @@
 /// What a score asks for at most; the number of processes exactly.
 #[derive(Clone, Copy, Debug, PartialEq, Eq)]
 pub struct Bounds {
-    /// Up to `MAX_PROCESSES`.
+    /// Up to as many as the version of the score has.
     pub processes: u32,
     /// Up to `MAX_OPERATIONS`.
     pub operations: u32,

@@ -12,9 +12,6 @@ use crate::sums::Sums;
 use fm_tick::MAX_TICK;
 use thiserror::Error;
 
-/// The most processes of a score.
-pub const MAX_PROCESSES: u32 = 4_096;
-
 /// The most operations, once phrases and loops that fork are written out.
 pub const MAX_OPERATIONS: u32 = 262_144;
 
@@ -27,8 +24,8 @@ pub const MAX_STEPS: u32 = 16_777_216;
 /// Which total of a score passes its limit.
 #[derive(Clone, Copy, Debug, PartialEq, Eq, Drop, Error)]
 pub enum Excess {
-    /// More than `MAX_PROCESSES`.
-    #[error("the score has more than {} processes", MAX_PROCESSES)]
+    /// More than the version of the score has.
+    #[error("the score has too many processes")]
     TooManyProcesses,
     /// More than `MAX_OPERATIONS`.
     #[error("the score has more than {} operations", MAX_OPERATIONS)]
@@ -51,14 +48,15 @@ fn passes(total: u64, limit: u64) -> bool
     total > limit
 }
 
-/// The first total of a whole score that passes its limit, if one does.
+/// The first total of a whole score that passes its limit, if one does. The version of the score has
+/// so many processes at most.
 #[tactic(auto, using(crate::proofs::LimitLemmas::limits))]
-pub(crate) fn first_excess(whole: Sums) -> Option<Excess>
+pub(crate) fn first_excess(most_processes: u32, whole: Sums) -> Option<Excess>
     ensures { (rules : VersionRules) (spot : Spot) (a : Totals) (f : Bool) →
-        rules.most_processes ≡ MAX_PROCESSES → whole ≡ saturated a f →
+        rules.most_processes ≡ most_processes → whole ≡ saturated a f →
         first_found (limit_faults rules spot a) ≡ option_map (excess_at spot) result }
 {
-    if passes(whole.processes, u64::from(MAX_PROCESSES)) {
+    if passes(whole.processes, u64::from(most_processes)) {
         Some(Excess::TooManyProcesses)
     } else if passes(whole.operations, u64::from(MAX_OPERATIONS)) {
         Some(Excess::TooManyOperations)

@@ -11,7 +11,6 @@ mod bounds;
 mod excess;
 mod fault;
 mod longest;
-mod shape;
 mod span;
 mod sums;
 mod tables;
@@ -19,6 +18,6 @@ mod walk;
 mod weigh;
 
 pub use bounds::Bounds;
-pub use excess::{Excess, MAX_EVENTS, MAX_OPERATIONS, MAX_PROCESSES, MAX_STEPS};
+pub use excess::{Excess, MAX_EVENTS, MAX_OPERATIONS, MAX_STEPS};
 pub use fault::BoundsFault;
 pub use walk::find_bounds;

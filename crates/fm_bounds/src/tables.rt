@@ -7,20 +7,21 @@ ghost use Rattle.fm_meaning.specs.Resolve.{Known, part_of};
 ghost use Rattle.fm_meaning.specs.Bounds.{warped_length};
 ghost use Rattle.fm_bounds.specs.Saturation.{capped};
 ghost use Rattle.fm_bounds.specs.Stands.{Stands, phrase_weight, shape_parts, with_phrase, with_shape};
-ghost use Rattle.fm_bounds.specs.declared.span.TheConstants.{WHOLE_NOTE};
 
 use crate::sums::{CEILING, Sums, cap};
 use crate::weigh::weigh_items;
 use fm_grammar::{Item, Name};
 use fm_names::Names;
 use fm_tick::MAX_TICK;
+use fm_version::Rules;
 use fm_warp::Warp;
 use std::alloc::AllocError;
 
-/// What each phrase adds at most, and each shape as a deformation. The latest definition of a name
-/// counts.
+/// The rules of the score, what each phrase adds at most, and each shape as a deformation. The
+/// latest definition of a name counts.
 #[derive(Drop)]
 pub(crate) struct Tables<'s> {
+    pub(crate) rules: Rules,
     /// The greatest entry of all rhythm lists, in ticks up to the ceiling.
     pub(crate) longest: u64,
     pub(crate) phrases: Names<'s, Sums>,
@@ -57,7 +58,9 @@ impl<'s> Tables<'s> {
         name: &Name<'s>,
         body: &[Item<'s>],
     ) -> Result<(), AllocError>
-        ensures { OnOk result ((longest : ℕ) (known : Known) → Stands self.old longest known →
+        ensures rules { OnOk result (self.new.rules ≡ self.old.rules) }
+        ensures stands { OnOk result ((longest : ℕ) (known : Known) →
+            Stands self.old longest known →
             Stands self.new longest
             (with_phrase (name_view name.now) (items_view body.now) known)) }
     {
@@ -67,8 +70,9 @@ impl<'s> Tables<'s> {
 
     /// Lets the name stand for a shape from here on.
     pub(crate) fn add_shape(&mut self, name: &Name<'s>, warp: Warp) -> Result<(), AllocError>
-        ensures { OnOk result ((longest : ℕ) (known : Known) (parts : List PartText) →
-            warp ≡ map (part_of WHOLE_NOTE) parts → Stands self.old longest known →
+        ensures rules { OnOk result (self.new.rules ≡ self.old.rules) }
+        ensures stands { OnOk result ((longest : ℕ) (known : Known) (parts : List PartText) →
+            warp ≡ map (part_of self.old.rules.whole_note) parts → Stands self.old longest known →
             Stands self.new longest (with_shape (name_view name.now) parts known)) }
     {
         self.shapes.define(name.text, warp)

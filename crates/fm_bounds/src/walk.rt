@@ -17,12 +17,12 @@ use crate::bounds::Bounds;
 use crate::excess::first_excess;
 use crate::fault::BoundsFault;
 use crate::longest::longest_rhythm;
-use crate::shape::warp_of;
 use crate::sums::Sums;
 use crate::tables::Tables;
 use crate::weigh::weigh_item;
 use fm_grammar::{Entry, Item, Score};
 use fm_names::Names;
+use fm_version::{rules_of, warp_of};
 use std::alloc::Global;
 
 /// What the walk needs of the entries behind it.
@@ -46,7 +46,7 @@ impl<'s> Walk<'s> {
             ≡ Some (excess_at spot why) }
     {
         self.before = self.before.plus(weigh_item(&self.tables, item));
-        match first_excess(self.before.whole()) {
+        match first_excess(self.tables.rules.most_processes, self.before.whole()) {
             None => Ok(()),
             Some(why) => Err(BoundsFault::Refused {
                 why,
@@ -70,7 +70,7 @@ impl<'s> Walk<'s> {
     {
         match entry {
             Entry::Shape { name, parts } => {
-                let warp = warp_of(alloc, parts)?;
+                let warp = warp_of(alloc, self.tables.rules.whole_note, parts)?;
                 self.tables.add_shape(name, warp)?;
                 Ok(())
             }
@@ -94,9 +94,11 @@ pub fn find_bounds(alloc: Global, score: &Score) -> Result<Bounds, BoundsFault>
         let s = score_view score.now in
         first_found (fourth_walk (score_rules s) (resolved s)) ≡ Some (excess_at spot why) }
 {
+    let rules = rules_of(score);
     let mut walk = Walk {
         tables: Tables {
-            longest: longest_rhythm(&score.entries),
+            rules,
+            longest: longest_rhythm(rules.whole_note, &score.entries),
             phrases: Names::new(alloc),
             shapes: Names::new(alloc),
         },

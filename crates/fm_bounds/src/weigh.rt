@@ -29,9 +29,16 @@ pub(crate) fn weigh_item(tables: &Tables, item: &Item) -> Sums
         result ≡ weight_of longest (play_of known (item_view item.now).what) }
 {
     match &item.what {
-        What::Note { pitches, duration } => note(most_ticks(duration), pitches.len()),
+        What::Note { pitches, duration } => note(
+            most_ticks(tables.rules.whole_note, duration),
+            pitches.len(),
+        ),
         What::Play { pitches } => note(tables.longest, pitches.len()),
-        What::Rest { duration } => Sums::single(most_ticks(duration), 0, 1),
+        What::Rest { duration } => Sums::single(
+            most_ticks(tables.rules.whole_note, duration),
+            0,
+            1,
+        ),
         What::Skip => Sums::single(tables.longest, 0, 1),
         What::Control { .. } => Sums::single(0, 1, 1),
         What::Program { .. } => Sums::single(0, 1, 1),

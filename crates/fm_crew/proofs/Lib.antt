@@ -3,4 +3,3 @@ pub mod Serving
 pub mod Conducting
 pub mod Filing
 pub mod Beginnings
-mod Voices

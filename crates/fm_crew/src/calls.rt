@@ -36,6 +36,10 @@ pub trait Calls {
     fn lead(&self) -> u64
         ensures { result ≡ (about self.now).lead };
 
+    /// How many events an outbox holds, 1 to 64.
+    fn room(&self) -> u32
+        ensures { result ≡ (about self.now).room };
+
     /// One load of a process's word, which the seat's sweep enters.
     fn look(&self, seat: &mut BoardSeat, process: u32) -> Seen
         requires ours { IsOurs (table self.now) (about self.now) seat.old }
@@ -125,6 +129,10 @@ impl Calls for Board {
 
     fn lead(&self) -> u64 {
         self.lead()
+    }
+
+    fn room(&self) -> u32 {
+        self.room()
     }
 
     fn look(&self, seat: &mut BoardSeat, process: u32) -> Seen {

@@ -1,5 +1,5 @@
 //! How a thread passes the time while it finds nothing to do.
-ghost use Rattle.std.specs.Prelude.{◌≡◌, true};
+ghost use Rattle.std.specs.Prelude.{◌≡◌, ◌≤◌, true};
 
 use std::hint::spin_loop;
 use std::sync::Wait;
@@ -7,13 +7,13 @@ use std::thread::{Parker, yield_now};
 use std::time::Duration;
 
 /// How many turns in a row are tried again at once.
-const SPINS: u32 = 50;
+const SPINS: u32 = 8;
 
 /// How many more of them let another thread run first.
-const YIELDS: u32 = 10;
+const YIELDS: u32 = 4;
 
 /// The first wait after these, in microseconds.
-const FIRST_WAIT: u64 = 5;
+const FIRST_WAIT: u64 = 20;
 
 /// The longest wait, in microseconds.
 const LONGEST_WAIT: u64 = 500;
@@ -57,9 +57,11 @@ impl Idle {
         }
     }
 
-    /// After a turn that found nothing, of one who does not wait for long: the next one at once, and
-    /// after some of them a yield.
-    pub fn yield_soon(&mut self) {
+    /// After a turn that found nothing, of one who does not wait for long: the next one at once,
+    /// and after some of them a yield.
+    pub fn yield_soon(&mut self)
+        ensures { self.old.turns ≤ self.new.turns }
+    {
         if self.turns < SPINS {
             spin_loop();
         } else {

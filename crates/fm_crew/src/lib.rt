@@ -2,11 +2,11 @@
 //! writes the file.
 //!
 //! [`open`] takes all memory. [`play`] lends the workers' seats to threads and conducts on the
-//! caller's thread; [`worker`] and [`conduct`] are its parts. After an Ok the sink holds exactly the
-//! file of the plan's piece (clause `ok`), however the threads were interleaved, and the conductor's
-//! seat has released all of it on the board (`conducted`). All of them work over [`Calls`], the
-//! calls of a board: a board's own, or the same calls with a record beside them. That a worker gets
-//! a process, or that any thread gets on, is not said.
+//! caller's thread; [`worker`] and [`conduct`] are its parts. After an Ok the sink holds exactly
+//! the file of the plan's piece (clause `ok`), however the threads were interleaved, and the
+//! conductor's seat has released all of it on the board (`conducted`). All of them work over
+//! [`Calls`], the calls of a board: a board's own, or the same calls with a record beside them.
+//! That a worker gets a process, or that any thread gets on, is not said.
 #![tactic(auto)]
 
 mod advance;

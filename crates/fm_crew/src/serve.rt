@@ -17,6 +17,10 @@ use fm_buffer::{Gather, Outbox};
 use fm_core::{Due, Tag};
 use fm_edge::Gate;
 
+/// The most events of an outbox that the conductor fills itself where it finds it empty: with so few
+/// a worker's quantum costs more than it saves.
+const SMALL_ROOM: u32 = 4;
+
 /// Claims a process, takes what is due of it, and gives it back. Where it is the one that holds the
 /// floor back, it is run up to the limit before. Says whether it was to be had.
 pub fn collect<B: Calls, G: Gate>(
@@ -52,7 +56,8 @@ pub fn collect<B: Calls, G: Gate>(
     }
 }
 
-// Takes what is due of a process that the seat holds, runs it unless it is ended, and gives it back.
+// Takes what is due of a process that the seat holds, runs it unless it is ended, and gives it
+// back.
 fn serve<B: Calls, G: Gate>(
     board: &B,
     gate: &G,
@@ -74,22 +79,25 @@ fn serve<B: Calls, G: Gate>(
     if ended {
         board.give(seat, berth);
     } else {
-        let share = share_of(due, limit, &berth);
+        let share = share_of(due, limit, board.room(), &berth);
         advance(board, gate, share, seat, berth);
     }
 }
 
-// The last tick to which the conductor runs a process after its take: the limit where the process
-// holds the floor back and nothing of it waits, else 0, at which nothing new is computed.
-fn share_of(due: Due, limit: u64, berth: &Berth) -> u64
+// The last tick to which the conductor runs a process after its take: 0, at which nothing new is
+// computed, where something of it waits. Else the limit, where the process holds the floor back or
+// its outbox is small, and the floor's tick where it does not.
+fn share_of(due: Due, limit: u64, room: u32, berth: &Berth) -> u64
     ensures { result ≤ limit }
 {
     match due {
-        Due::Pair { process, .. } => {
-            if process == berth.process && berth.outbox.len() == 0 {
+        Due::Pair { time, process } => {
+            if berth.outbox.len() > 0 {
+                0
+            } else if process == berth.process || room <= SMALL_ROOM {
                 limit
             } else {
-                0
+                time.min(limit)
             }
         }
         Due::Nothing | Due::Everything => 0,

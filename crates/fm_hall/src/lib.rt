@@ -13,6 +13,7 @@ mod desk;
 mod dues;
 mod effects;
 mod hall;
+mod holds;
 mod refusals;
 mod rules;
 mod searches;

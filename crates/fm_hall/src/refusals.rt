@@ -5,7 +5,7 @@ ghost use Rattle.fm_core.specs.Numbers.{any_below};
 ghost use Rattle.fm_core.specs.State.{Setting, held_by, cell, desk};
 ghost use Rattle.fm_core.specs.Floors.{within};
 ghost use Rattle.fm_core.specs.Tags as words;
-ghost use Rattle.fm_core.specs.Steps.{first, reason, holding, waits, unvisited, wrong_clock, wrong_end};
+ghost use Rattle.fm_core.specs.Steps.{first, reason, waits, unvisited, wrong_clock, wrong_end};
 ghost use Rattle.fm_core.specs.Invariant.{Sound};
 ghost use Rattle.fm_hall.specs.Given.{given_table};
 
@@ -21,18 +21,6 @@ pub(crate) fn is_held_by(seat: u32, own: Cell) -> bool
     ensures { result ≡ held_by seat own }
 {
     is_held(own.tag) && own.seat == seat
-}
-
-/// Whether a seat holds a process.
-pub(crate) fn is_holding(tables: &Tables, seat: u32) -> bool
-    ensures { result ≡ holding tables.now.state seat }
-{
-    for process in 0..tables.processes() {
-        if is_held_by(seat, tables.cell(process)) {
-            return true;
-        }
-    }
-    false
 }
 
 /// Whether some predecessor of a process is not ended.
@@ -146,7 +134,7 @@ fn why_not_claim(tables: &Tables, seat: u32, process: u32) -> Option<Reason>
     if process >= tables.processes() {
         return Some(Reason::NoProcess);
     }
-    if is_holding(tables, seat) {
+    if tables.is_holding(seat) {
         return Some(Reason::Holding);
     }
     if !is_claimable(seat, tables.cell(process).tag) {
@@ -165,7 +153,7 @@ fn why_not_start(rules: &Rules, tables: &Tables, seat: u32, process: u32) -> Opt
     if process >= tables.processes() {
         return Some(Reason::NoProcess);
     }
-    if is_holding(tables, seat) {
+    if tables.is_holding(seat) {
         return Some(Reason::Holding);
     }
     if !is_unborn(tables.cell(process).tag) {

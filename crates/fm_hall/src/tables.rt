@@ -4,11 +4,13 @@ ghost use Rattle.fm_line.specs.Piece.{sorted};
 ghost use Rattle.fm_line.proofs.Sorting.{Ordered};
 ghost use Rattle.fm_core.specs.State.{cell, desk, visited, no_desk, opening};
 ghost use Rattle.fm_core.specs.Effects.{with_cell, with_desk, published};
+ghost use Rattle.fm_core.specs.Steps.{holding};
 ghost use Rattle.fm_core.specs.Sweep.{swept};
 ghost use Rattle.fm_core.specs.declared.due.Due.TheVariants.{Nothing};
 ghost use Rattle.fm_hall.specs.Stored.{Stored, desk_of, HasSweeps};
 
 use crate::desk::Desk;
+use crate::holds::{begin_hold, end_hold};
 use fm_buffer::Gather;
 use fm_core::{Cell, Due, Floor, Sight, Tag};
 use fm_msg::Event;
@@ -30,6 +32,8 @@ pub(crate) struct Tables {
     cells: Vec<Cell>,
     floor: Floor,
     desks: Vec<Desk>,
+    // How many processes each seat holds.
+    holds: Vec<u32>,
     due: Due,
     visited: Vec<bool>,
     gather: Gather,
@@ -57,8 +61,7 @@ impl Model for Tables {
     } };
 
     ghost invariant = { λ t.
-        IsTables (length t.cells.items) (length t.desks.items) (length t.visited.items)
-        t.desks.items };
+        IsTables t.cells.items (length t.visited.items) t.desks.items t.holds.items };
 }
 
 impl Tables {
@@ -84,10 +87,12 @@ impl Tables {
         let gather = Gather::new(alloc, gathers)?;
         let released = Vec::with_capacity(alloc, releases)?;
         let desks = empty_desks(alloc, processes, seats)?;
+        let holds = vec![in alloc; 0; seats as usize]?;
         Ok(Tables {
             cells,
             floor: Floor::At(0),
             desks,
+            holds,
             due: Due::Nothing,
             visited,
             gather,
@@ -107,6 +112,14 @@ impl Tables {
         ensures { result ≡ length self.now.state.desks }
     {
         self.desks.len() as u32
+    }
+
+    /// Whether a seat holds a process: one look at what is counted.
+    pub(crate) fn is_holding(&self, seat: u32) -> bool
+        requires { seat < length self.now.state.desks }
+        ensures { result ≡ holding self.now.state seat }
+    {
+        0 < self.holds[seat as usize]
     }
 
     /// How far a process is.
@@ -174,7 +187,10 @@ impl Tables {
         requires { process < length self.old.state.cells }
         ensures { self.new ≡ record self.old { state = with_cell self.old.state process next } }
     {
+        let from = self.cells[process as usize];
         self.cells[process as usize] = next;
+        end_hold(&mut self.holds, from);
+        begin_hold(&mut self.holds, next);
     }
 
     /// Notes that a process was visited.

@@ -20,7 +20,7 @@ pub fn least(warp: &Warp, t: u64) -> Option<u64>
     counted::<Brand>(warp, t, Blank::new(1))
 }
 
-/// `least`, with a count of the questions that is then let go.
+// `least`, with a count of the questions that is then let go.
 fn counted<L: Ledger>(warp: &Warp, t: u64, blank: Blank) -> Option<u64>
     requires in_time { t ≤ MAX_TICK }
     requires name { blank.name ≡ L.name }
@@ -32,8 +32,8 @@ fn counted<L: Ledger>(warp: &Warp, t: u64, blank: Blank) -> Option<u64>
     halve(warp, t, &mut Questions::<L>::new(blank))
 }
 
-/// `least`, by halving: there are 2^40 + 1 positions, a number of 41 binary digits, so the
-/// deformation is asked at most 41 times.
+// `least`, by halving: there are 2^40 + 1 positions, a number of 41 binary digits, so the
+// deformation is asked at most 41 times.
 fn halve<L: Ledger>(warp: &Warp, t: u64, questions: &mut Questions<L>) -> Option<u64>
     requires { t ≤ MAX_TICK }
     ensures there { IfSome result (IsLeastAt 0 warp.now t) }

@@ -10,7 +10,7 @@ use fm_warp::{MAX_PART_TICKS, Part, Warp};
 use std::alloc::Global;
 use std::test::Fail;
 
-/// A deformation of one part.
+// A deformation of one part.
 fn warp_of(alloc: Global, part: Part) -> Result<Warp, Fail>
     requires { IsPart part }
 {
@@ -19,7 +19,7 @@ fn warp_of(alloc: Global, part: Part) -> Result<Warp, Fail>
     Ok(warp)
 }
 
-/// A deformation of one steady part.
+// A deformation of one steady part.
 fn steady(alloc: Global, length: u32, thousandths: u32) -> Result<Warp, Fail>
     requires { 1 ≤ length × (length ≤ MAX_PART_TICKS) }
 {

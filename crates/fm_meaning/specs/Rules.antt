@@ -1,15 +1,27 @@
 -- What a version of the language fixes, and the ranges of its numbers.
-use Rattle.std.specs.Prelude.{ℕ}
+use Rattle.std.specs.Prelude.{ℕ, ◌*◌, false}
+use Rattle.fm_msg.specs.declared.profile.Profile.{Profile}
+use Rattle.fm_msg.specs.declared.profile.TheConstants.{DIVISION}
 use Rattle.fm_grammar.specs.Score.{Score}
 
--- what depends on the head of a score: the ticks of a whole note, and how many processes it may have
+-- what depends on the head of a score: how its file is written, the ticks of a whole note, and how many processes it
+-- may have
 pub record VersionRules : Type 0 where
+  pub profile : Profile
   pub whole_note : ℕ
   pub most_processes : ℕ
 
--- the rules of a score
+-- the rules of a score, which its version fixes: in version 1 each status byte is written
 abbrev pub score_rules : Score → VersionRules
-score_rules score = record { whole_note = 1920; most_processes = 4096 }
+score_rules score = record {
+  profile = record { running = false; division = DIVISION };
+  whole_note = 4 * DIVISION;
+  most_processes = 4096;
+}
+
+-- how the file of a score is written
+unfoldable pub profile_of : Score → Profile
+profile_of score = (score_rules score).profile
 
 -- the version of the language
 abbrev pub version_number : ℕ

@@ -27,6 +27,11 @@ abbrev pub composed : Side → List (List Part) → List Frame → ℕ → ℕ
 composed _ _ [] x = x
 composed side warps (frame ∷ inner) x = lifted side warps frame (composed side warps inner x)
 
+-- the position at each level, the outermost first, that a position of the innermost comes to
+abbrev pub positions : Side → List (List Part) → List Frame → ℕ → List ℕ
+positions _ _ [] _ = []
+positions side warps (_ ∷ inner) x = composed side warps inner x ∷ positions side warps inner x
+
 -- a whole list of positions, mapped by the innermost level and then by one level after the other outwards
 abbrev pub mapped_outwards : Side → List (List Part) → List Frame → List ℕ → List ℕ
 mapped_outwards _ _ [] xs = xs

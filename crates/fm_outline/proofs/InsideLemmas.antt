@@ -11,21 +11,21 @@ use Rattle.fm_meaning.specs.Rules.{most_rounds, most_data, most_gate, bend_centr
 use Rattle.fm_meaning.specs.Ranges.{stmt_faults, body_faults, branches_faults, expr_faults, number_faults, numbers_faults}
 use Rattle.fm_meaning.specs.Ranges.{each_faults, length_faults, length_spot, pitches_faults, duration_faults, amount_faults}
 use Rattle.fm_outline.specs.InRange.{AmountFits, StmtInRange, BodyInRange, BranchesInRange}
-use Rattle.fm_outline.proofs.RangeLemmas.{none_first, none_second}
+use Rattle.fm_version.proofs.RangeLemmas.{none_first, none_second}
 
 -- the pitches of a note
-pub note_pitches : (ps : List text.Pitch) (d : text.Duration) → StmtInRange (text.note ps d) → pitches_faults ps ≡ []
+pub note_pitches : {ticks : ℕ} (ps : List text.Pitch) (d : text.Duration) → StmtInRange ticks (text.note ps d) → pitches_faults ps ≡ []
 note_pitches ps d r = none_first (pitches_faults ps) (duration_faults r.names.whole d) r.faultless
 
 -- its duration
-pub note_duration : (ps : List text.Pitch) (d : text.Duration) → StmtInRange (text.note ps d)
-    → duration_faults 1920 d ≡ []
+pub note_duration : {ticks : ℕ} (ps : List text.Pitch) (d : text.Duration) → StmtInRange ticks (text.note ps d)
+    → duration_faults ticks d ≡ []
 note_duration ps d r =
     ap (λ w. duration_faults w d) (sym r.whole)
     ∙ none_second (pitches_faults ps) (duration_faults r.names.whole d) r.faultless
 
 -- the duration of a rest
-pub rest_duration : (d : text.Duration) → StmtInRange (text.rest d) → duration_faults 1920 d ≡ []
+pub rest_duration : {ticks : ℕ} (d : text.Duration) → StmtInRange ticks (text.rest d) → duration_faults ticks d ≡ []
 rest_duration d r = ap (λ w. duration_faults w d) (sym r.whole) ∙ r.faultless
 
 -- a number of seven bits fits
@@ -40,24 +40,24 @@ bend_fits (text.literal v spot) none = search rules
 bend_fits (text.Amount.computed e) none = tt
 
 -- the number of a controller
-pub control_number : (n : Number) (a : text.Amount) → StmtInRange (text.control n a) → number_faults 0 most_data n ≡ []
+pub control_number : {ticks : ℕ} (n : Number) (a : text.Amount) → StmtInRange ticks (text.control n a) → number_faults 0 most_data n ≡ []
 control_number n a r = none_first (number_faults 0 most_data n) (amount_faults (pos 0) (pos most_data) a) r.faultless
 
 -- and its value
-pub control_amount : (n : Number) (a : text.Amount) → StmtInRange (text.control n a) → AmountFits a
+pub control_amount : {ticks : ℕ} (n : Number) (a : text.Amount) → StmtInRange ticks (text.control n a) → AmountFits a
 control_amount n a r =
     data_fits a (none_second (number_faults 0 most_data n) (amount_faults (pos 0) (pos most_data) a) r.faultless)
 
 -- the number of a program
-pub program_amount : (a : text.Amount) → StmtInRange (text.program a) → AmountFits a
+pub program_amount : {ticks : ℕ} (a : text.Amount) → StmtInRange ticks (text.program a) → AmountFits a
 program_amount a r = data_fits a r.faultless
 
 -- a bend
-pub bend_amount : (a : text.Amount) → StmtInRange (text.bend a) → AmountFits a
+pub bend_amount : {ticks : ℕ} (a : text.Amount) → StmtInRange ticks (text.bend a) → AmountFits a
 bend_amount a r = bend_fits a r.faultless
 
 -- the first block
-pub first_block : (e : text.Postfix) (a b : text.Body) → StmtInRange (text.choice e a b) → BodyInRange a
+pub first_block : {ticks : ℕ} (e : text.Postfix) (a b : text.Body) → StmtInRange ticks (text.choice e a b) → BodyInRange ticks a
 first_block e a b r = record {
   names = r.names;
   whole = r.whole;
@@ -67,7 +67,7 @@ first_block e a b r = record {
 }
 
 -- the second block
-pub second_block : (e : text.Postfix) (a b : text.Body) → StmtInRange (text.choice e a b) → BodyInRange b
+pub second_block : {ticks : ℕ} (e : text.Postfix) (a b : text.Body) → StmtInRange ticks (text.choice e a b) → BodyInRange ticks b
 second_block e a b r = record {
   names = r.names;
   whole = r.whole;
@@ -76,7 +76,7 @@ second_block e a b r = record {
 }
 
 -- the statements of a loop with a count that is computed
-pub again_body : (e : text.Postfix) (n : Number) (b : text.Body) → StmtInRange (text.again e n b) → BodyInRange b
+pub again_body : {ticks : ℕ} (e : text.Postfix) (n : Number) (b : text.Body) → StmtInRange ticks (text.again e n b) → BodyInRange ticks b
 again_body e n b r = record {
   names = r.names;
   whole = r.whole;
@@ -85,15 +85,15 @@ again_body e n b r = record {
 }
 
 -- the lengths of a rhythm
-pub rhythm_lengths : (ls : List Length) (b : text.Body) → StmtInRange (text.rhythm ls b)
-    → each_faults (length_faults 1920) length_spot MAX_ENTRIES ls ≡ []
+pub rhythm_lengths : {ticks : ℕ} (ls : List Length) (b : text.Body) → StmtInRange ticks (text.rhythm ls b)
+    → each_faults (length_faults ticks) length_spot MAX_ENTRIES ls ≡ []
 rhythm_lengths ls b r =
     ap (λ w. each_faults (length_faults w) length_spot MAX_ENTRIES ls) (sym r.whole)
     ∙ none_first (each_faults (length_faults r.names.whole) length_spot MAX_ENTRIES ls) (body_faults r.names b)
     r.faultless
 
 -- the statements under it
-pub rhythm_body : (ls : List Length) (b : text.Body) → StmtInRange (text.rhythm ls b) → BodyInRange b
+pub rhythm_body : {ticks : ℕ} (ls : List Length) (b : text.Body) → StmtInRange ticks (text.rhythm ls b) → BodyInRange ticks b
 rhythm_body ls b r = record {
   names = r.names;
   whole = r.whole;
@@ -103,7 +103,7 @@ rhythm_body ls b r = record {
 }
 
 -- the statements under a list of articulations
-pub artic_body : (ns : List Number) (b : text.Body) → StmtInRange (text.artic ns b) → BodyInRange b
+pub artic_body : {ticks : ℕ} (ns : List Number) (b : text.Body) → StmtInRange ticks (text.artic ns b) → BodyInRange ticks b
 artic_body ns b r = record {
   names = r.names;
   whole = r.whole;
@@ -111,7 +111,7 @@ artic_body ns b r = record {
 }
 
 -- the statements under a list of velocities
-pub loud_body : (ns : List Number) (b : text.Body) → StmtInRange (text.loud ns b) → BodyInRange b
+pub loud_body : {ticks : ℕ} (ns : List Number) (b : text.Body) → StmtInRange ticks (text.loud ns b) → BodyInRange ticks b
 loud_body ns b r = record {
   names = r.names;
   whole = r.whole;
@@ -119,12 +119,12 @@ loud_body ns b r = record {
 }
 
 -- the branches of a fork
-pub par_branches : (bs : text.Branches) → StmtInRange (text.par bs) → BranchesInRange bs
+pub par_branches : {ticks : ℕ} (bs : text.Branches) → StmtInRange ticks (text.par bs) → BranchesInRange ticks bs
 par_branches bs r = record { names = r.names; whole = r.whole; faultless = r.faultless }
 
 -- the branch at a place
-pub branch_at : {A : Type 0} (view : A → text.Body) (xs : List A) → BranchesInRange (branches_of (map view xs))
-    → (i : ℕ) (x : A) → i < length xs → x ≡ get_or xs i x → BodyInRange (view x)
+pub branch_at : {ticks : ℕ} {A : Type 0} (view : A → text.Body) (xs : List A) → BranchesInRange ticks (branches_of (map view xs))
+    → (i : ℕ) (x : A) → i < length xs → x ≡ get_or xs i x → BodyInRange ticks (view x)
 branch_at view [] r i x within is = absurd (omega arith)
 branch_at view (y ∷ xs) r zero x within is =
     let same : x ≡ y = is in
@@ -144,8 +144,8 @@ branch_at view (y ∷ xs) r (suc i) x within is =
     }) i x (omega arith) is
 
 -- the statement at a place
-pub item_at : (xs : List Item) → BodyInRange (items_view xs) → (i : ℕ) (x : Item) → i < length xs
-    → x ≡ get_or xs i x → StmtInRange (item_view x).what
+pub item_at : {ticks : ℕ} (xs : List Item) → BodyInRange ticks (items_view xs) → (i : ℕ) (x : Item) → i < length xs
+    → x ≡ get_or xs i x → StmtInRange ticks (item_view x).what
 item_at [] r i x within is = absurd (omega arith)
 item_at (y ∷ xs) r zero x within is =
     let same : x ≡ y = is in

@@ -15,7 +15,7 @@ use Rattle.fm_grammar.specs.Score as text
 use Rattle.fm_grammar.specs.View.{entry_view}
 use Rattle.fm_meaning.specs.Resolve.{part_of, meaning_of, named_as}
 use Rattle.fm_meaning.specs.Ranges.{Names, stmt_faults, body_faults, double_faults, each_faults, part_faults, part_length, length_spot, number_faults, entries_faults, second_walk}
-use Rattle.fm_meaning.specs.Rules.{version_number}
+use Rattle.fm_meaning.specs.Rules.{score_rules, version_number}
 use Rattle.fm_expansion.specs.Outline as plain
 use Rattle.fm_expansion.specs.Numbering.{Catalogue, numbered, instruction_of, block_of, outline, outline_from, warp_added, no_tables}
 use Rattle.fm_outline.specs.declared.known.Known.{Known}
@@ -25,21 +25,21 @@ use Rattle.fm_outline.specs.View.{Look, phrase_at, look_in, phrases_behind, phra
 use Rattle.fm_outline.specs.Growing.{followed}
 use Rattle.fm_outline.specs.Knows.{Knows}
 use Rattle.fm_outline.specs.Walked.{Extends, WalkedBy}
-use Rattle.fm_outline.proofs.RangeLemmas.{none_first, none_second}
+use Rattle.fm_version.proofs.RangeLemmas.{none_first, none_second}
 use Rattle.fm_outline.proofs.SeenLemmas.{step_seen}
 use Rattle.fm_outline.proofs.GrowingLemmas.{placed, placed_more}
 
 -- ---- what has no fault
 
 -- a statement that is played
-pub play_in_range : (names : Names) (spot : Spot) (stmt : text.Stmt) (rest : List text.Entry) → names.whole ≡ 1920
-    → entries_faults names (text.plays spot stmt ∷ rest) ≡ [] → StmtInRange stmt
+pub play_in_range : {ticks : ℕ} (names : Names) (spot : Spot) (stmt : text.Stmt) (rest : List text.Entry)
+    → names.whole ≡ ticks → entries_faults names (text.plays spot stmt ∷ rest) ≡ [] → StmtInRange ticks stmt
 play_in_range names spot stmt rest whole none =
     record { names = names; whole = whole; faultless = none_first (stmt_faults names stmt) (entries_faults names rest) none }
 
 -- the statements of a phrase
-pub phrase_in_range : (names : Names) (name : text.Leaf) (body : text.Body) (rest : List text.Entry)
-    → names.whole ≡ 1920 → entries_faults names (text.phrase name body ∷ rest) ≡ [] → BodyInRange body
+pub phrase_in_range : {ticks : ℕ} (names : Names) (name : text.Leaf) (body : text.Body) (rest : List text.Entry)
+    → names.whole ≡ ticks → entries_faults names (text.phrase name body ∷ rest) ≡ [] → BodyInRange ticks body
 phrase_in_range names name body rest whole none = record {
   names = names;
   whole = whole;
@@ -50,9 +50,9 @@ phrase_in_range names name body rest whole none = record {
 }
 
 -- the parts of a shape
-pub shape_in_range : (names : Names) (name : text.Leaf) (parts : List PartText) (rest : List text.Entry)
-    → names.whole ≡ 1920 → entries_faults names (text.shape name parts ∷ rest) ≡ []
-    → each_faults (part_faults 1920) (λ p. length_spot (part_length p)) MAX_PARTS parts ≡ []
+pub shape_in_range : {ticks : ℕ} (names : Names) (name : text.Leaf) (parts : List PartText) (rest : List text.Entry)
+    → names.whole ≡ ticks → entries_faults names (text.shape name parts ∷ rest) ≡ []
+    → each_faults (part_faults ticks) (λ p. length_spot (part_length p)) MAX_PARTS parts ≡ []
 shape_in_range names name parts rest whole none =
     let faults = λ (w : ℕ). each_faults (part_faults w) (λ p. length_spot (part_length p)) MAX_PARTS parts in
     ap faults (sym whole)
@@ -149,7 +149,7 @@ play_walked score known phrases block grown t u spot stmt rest s at pushed is r 
 -- a shape more
 pub shape_walked : (score : text.Score) (known : Known) (shapes : table.Names ℕ) (phrases : List (List Step))
     (block : List Step) (t u : plain.Tables) (name : text.Leaf) (parts : List PartText) (rest : List text.Entry)
-    (p : ℕ) (warp : List Part) → warp ≡ map (part_of 1920) parts → p ≡ length t.warps → u ≡ warp_added warp t
+    (p : ℕ) (warp : List Part) → warp ≡ map (part_of known.whole) parts → p ≡ length t.warps → u ≡ warp_added warp t
     → ((q : List ℕ) → named shapes q ≡ cond (bytes_eq q name.text) (Some p) (named known.shapes q))
     → WalkedBy score known phrases block t (text.shape name parts ∷ rest)
     → WalkedBy score (record known { shapes = shapes }) phrases block u rest
@@ -241,22 +241,23 @@ phrase_walked score known names forking phrases grown block t u name body rest p
 -- before the first entry
 pub begun : (score : text.Score) (known : Known) (t : plain.Tables)
     → ((q : List ℕ) → named known.shapes q ≡ None) → ((q : List ℕ) → named known.phrases q ≡ None) → t ≡ no_tables
-    → second_walk score ≡ [] → WalkedBy score known [] [] t score.entries
-begun score known t shapes phrases empty none = record {
-  names = record { whole = 1920; shapes = []; phrases = [] };
-  k = record { whole = 1920; shapes = []; phrases = [] };
-  whole = refl;
+    → known.whole ≡ (score_rules score).whole_note → second_walk score ≡ []
+    → WalkedBy score known [] [] t score.entries
+begun score known t shapes phrases empty is none = record {
+  names = record { whole = (score_rules score).whole_note; shapes = []; phrases = [] };
+  k = record { whole = (score_rules score).whole_note; shapes = []; phrases = [] };
+  whole = sym is;
   faultless =
       none_second (number_faults version_number version_number score.version)
-      (entries_faults (record { whole = 1920; shapes = []; phrases = [] }) score.entries) none;
+      (entries_faults (record { whole = (score_rules score).whole_note; shapes = []; phrases = [] }) score.entries) none;
   knows = λ look more. record {
-    whole = refl;
+    whole = sym is;
     shapes = λ q. ap (λ o. unwrap_or o 0) (shapes q);
     phrases = λ q. ap (phrase_at look) (phrases q);
   };
   stand = λ look more. refl;
   so_far = λ look more.
-      ap (outline_from (record { whole = 1920; shapes = []; phrases = [] }) score.entries) (sym empty);
+      ap (outline_from (record { whole = (score_rules score).whole_note; shapes = []; phrases = [] }) score.entries) (sym empty);
 }
 
 -- the entries from one on

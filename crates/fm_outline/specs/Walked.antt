@@ -26,7 +26,7 @@ pub record WalkedBy (score : text.Score) (known : Known) (phrases : List (List S
     (tables : plain.Tables) (rest : List text.Entry) : Type 0 where
   pub names : Names
   pub k : Catalogue
-  pub whole : names.whole ≡ 1920
+  pub whole : names.whole ≡ known.whole
   pub faultless : entries_faults names rest ≡ []
   pub knows : (look : Look) → Extends (phrases_view phrases) look → Knows known look k
   pub stand : (look : Look) → Extends (phrases_view phrases) look

@@ -5,10 +5,11 @@ ghost use Rattle.fm_names.specs.Named.{named};
 
 use fm_names::Names;
 
-/// Where each shape stands in the table of deformations, the number of each phrase, and, by its
-/// number, whether a phrase forks.
+/// The ticks of a whole note, where each shape stands in the table of deformations, the number of
+/// each phrase, and, by its number, whether a phrase forks.
 #[derive(Drop)]
 pub(crate) struct Known<'s> {
+    pub(crate) whole: u32,
     pub(crate) shapes: Names<'s, u32>,
     pub(crate) phrases: Names<'s, u32>,
     pub(crate) forking: Vec<bool>,

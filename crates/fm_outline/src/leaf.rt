@@ -25,19 +25,20 @@ use std::alloc::{AllocError, Global};
 /// A note of a duration of its own.
 pub(crate) fn outline_note(
     alloc: Global,
+    whole: u32,
     pitches: &[Pitch],
     duration: &Duration,
     tables: &mut Tables,
 ) -> Result<Instruction, AllocError>
     requires pitches { pitches_faults (map pitch_view pitches.now) ≡ [] }
-    requires duration { duration_faults 1920 (duration_view duration.now) ≡ [] }
+    requires duration { duration_faults whole (duration_view duration.now) ≡ [] }
     ensures { IfOk result (λ i. (look : Look) →
         numbered (instruction_view look i) (tables_view tables.new)
         ≡ note_numbered (map pitch_view pitches.now)
-        (span_numbered 1920 (duration_view duration.now)) (tables_view tables.old)) }
+        (span_numbered whole (duration_view duration.now)) (tables_view tables.old)) }
 {
     let keys = outline_keys(alloc, pitches, tables)?;
-    let lasting = outline_duration(alloc, duration, tables)?;
+    let lasting = outline_duration(alloc, whole, duration, tables)?;
     let chord = tables.add_chord(keys)?;
     Ok(Instruction::Note { chord, lasting })
 }
@@ -64,15 +65,16 @@ pub(crate) fn outline_play(
 /// A rest.
 pub(crate) fn outline_rest(
     alloc: Global,
+    whole: u32,
     duration: &Duration,
     tables: &mut Tables,
 ) -> Result<Instruction, AllocError>
-    requires { duration_faults 1920 (duration_view duration.now) ≡ [] }
-    ensures { IfOk result (λ i. (k : Catalogue) (look : Look) → k.whole ≡ 1920 →
+    requires { duration_faults whole (duration_view duration.now) ≡ [] }
+    ensures { IfOk result (λ i. (k : Catalogue) (look : Look) → k.whole ≡ whole →
         numbered (instruction_view look i) (tables_view tables.new)
         ≡ instruction_of k (tree.rest (duration_view duration.now)) (tables_view tables.old)) }
 {
-    let lasting = outline_duration(alloc, duration, tables)?;
+    let lasting = outline_duration(alloc, whole, duration, tables)?;
     Ok(Instruction::Rest { lasting })
 }
 

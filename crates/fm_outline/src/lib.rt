@@ -13,7 +13,6 @@ mod leaf;
 mod number;
 mod outline;
 mod quality;
-mod shape;
 mod statement;
 mod step;
 mod tables;

@@ -1,8 +1,7 @@
 //! Lengths and the numbers of lists.
 
-ghost use Rattle.std.specs.Prelude.{◌≡◌, ◌≤◌, [], length, map, IfOk, OnOk};
+ghost use Rattle.std.specs.Prelude.{◌≡◌, [], length, map, IfOk, OnOk};
 ghost use Rattle.fm_pattern.specs.declared.cursor.TheConstants.{MAX_ENTRIES};
-ghost use Rattle.fm_program.specs.declared.op.TheConstants.{MAX_LENGTH};
 ghost use Rattle.fm_grammar.specs.declared.number.Number.{Number};
 ghost use Rattle.fm_meaning.specs.Resolve.{length_ticks};
 ghost use Rattle.fm_meaning.specs.Ranges.{each_faults, length_faults, length_spot};
@@ -11,34 +10,17 @@ ghost use Rattle.fm_outline.specs.View.{tables_view};
 
 use crate::tables::Tables;
 use fm_grammar::{Length, Number};
+use fm_version::ticks;
 use std::alloc::{AllocError, Global};
 
-/// The ticks of a whole note.
-pub(crate) const WHOLE_NOTE: u64 = 1_920;
-
-/// A length that has no fault, in ticks.
-pub(crate) fn ticks(length: &Length) -> u32
-    requires { length_faults 1920 length.now ≡ [] }
-    ensures value { result ≡ length_ticks 1920 length.now }
-    ensures small { result ≤ MAX_LENGTH }
-{
-    match length {
-        Length::Share { over, under } => {
-            let ticks = WHOLE_NOTE * u64::from(over.value);
-            (ticks / u64::from(under.value)) as u32
-        }
-        Length::Ticks { count } => count.value,
-    }
-}
-
 // The entries of a rhythm, which have no fault.
-fn lengths(alloc: Global, list: &[Length]) -> Result<Vec<u32>, AllocError>
-    requires { each_faults (length_faults 1920) length_spot MAX_ENTRIES list.now ≡ [] }
-    ensures { IfOk result (λ l. l.items ≡ map (length_ticks 1920) list.now) }
+fn lengths(alloc: Global, whole: u32, list: &[Length]) -> Result<Vec<u32>, AllocError>
+    requires { each_faults (length_faults whole) length_spot MAX_ENTRIES list.now ≡ [] }
+    ensures { IfOk result (λ l. l.items ≡ map (length_ticks whole) list.now) }
 {
     let mut entries = Vec::with_capacity(alloc, list.len())?;
     for length in list {
-        entries.push(ticks(length))?;
+        entries.push(ticks(whole, length))?;
     }
     Ok(entries)
 }
@@ -54,18 +36,20 @@ fn numbers(alloc: Global, list: &[Number]) -> Result<Vec<u32>, AllocError>
     Ok(entries)
 }
 
-/// Appends a rhythm, whose entries have no fault, and gives its place.
+/// Appends a rhythm, whose entries have no fault, and gives its place. A whole note has `whole`
+/// ticks.
 pub(crate) fn add_lengths(
     alloc: Global,
+    whole: u32,
     list: &[Length],
     tables: &mut Tables,
 ) -> Result<u32, AllocError>
-    requires { each_faults (length_faults 1920) length_spot MAX_ENTRIES list.now ≡ [] }
+    requires { each_faults (length_faults whole) length_spot MAX_ENTRIES list.now ≡ [] }
     ensures at { IfOk result (λ p. p ≡ length (tables_view tables.old).lists) }
     ensures added { OnOk result (tables_view tables.new
-        ≡ list_added (map (length_ticks 1920) list.now) (tables_view tables.old)) }
+        ≡ list_added (map (length_ticks whole) list.now) (tables_view tables.old)) }
 {
-    let entries = lengths(alloc, list)?;
+    let entries = lengths(alloc, whole, list)?;
     tables.add_list(entries)
 }
 

@@ -2,6 +2,7 @@
 
 use crate::step::Step;
 use crate::tables::Tables;
+use fm_msg::Profile;
 
 /// A score with its tables. Each phrase names only phrases before it.
 #[derive(Drop)]
@@ -13,4 +14,6 @@ pub struct Outline {
     pub block: Vec<Step>,
     /// The seed of the score's draws, 0 where the text has none.
     pub seed: u32,
+    /// How the file of the score is written.
+    pub profile: Profile,
 }

@@ -29,15 +29,21 @@ pub(crate) fn outline_item(
     known: &Known,
     tables: &mut Tables,
 ) -> Result<Instruction, AllocError>
-    requires { StmtInRange (item_view item.now).what }
+    requires { StmtInRange known.now.whole (item_view item.now).what }
     ensures { IfOk result (λ i. (k : Catalogue) (look : Look) → Knows known.now look k →
         numbered (instruction_view look i) (tables_view tables.new)
         ≡ instruction_of k (item_view item.now).what (tables_view tables.old)) }
 {
     match &item.what {
-        What::Note { pitches, duration } => outline_note(alloc, pitches, duration, tables),
+        What::Note { pitches, duration } => outline_note(
+            alloc,
+            known.whole,
+            pitches,
+            duration,
+            tables,
+        ),
         What::Play { pitches } => outline_play(alloc, pitches, tables),
-        What::Rest { duration } => outline_rest(alloc, duration, tables),
+        What::Rest { duration } => outline_rest(alloc, known.whole, duration, tables),
         What::Skip => Ok(Instruction::Rest {
             lasting: Lasting::Beat,
         }),
@@ -104,7 +110,7 @@ pub(crate) fn outline_item(
             })
         }
         What::Rhythm { list, body } => {
-            let list = add_lengths(alloc, list, tables)?;
+            let list = add_lengths(alloc, known.whole, list, tables)?;
             let body = outline_items(alloc, body, known, tables)?;
             Ok(Instruction::Under {
                 quality: Quality::Duration,
@@ -141,7 +147,7 @@ pub(crate) fn outline_items(
     known: &Known,
     tables: &mut Tables,
 ) -> Result<Vec<Step>, AllocError>
-    requires { BodyInRange (items_view items.now) }
+    requires { BodyInRange known.now.whole (items_view items.now) }
     ensures { IfOk result (λ steps. (k : Catalogue) (look : Look) → Knows known.now look k →
         numbered (block_view look steps.items) (tables_view tables.new)
         ≡ block_of k (items_view items.now) (tables_view tables.old)) }

@@ -8,10 +8,10 @@ ghost use Rattle.fm_outline.specs.View.{tables_view, lasting_view};
 ghost use Rattle.fm_outline.specs.InRange.{AmountFits, PitchFits};
 
 use crate::lasting::Lasting;
-use crate::number::ticks;
 use crate::tables::Tables;
 use fm_grammar::{Amount, Duration, Pitch};
 use fm_program::Draw;
+use fm_version::ticks;
 use std::alloc::{AllocError, Global};
 
 /// A number of a message.
@@ -66,19 +66,20 @@ pub(crate) fn outline_keys(
     Ok(keys)
 }
 
-/// A duration.
+/// A duration, where a whole note has `whole` ticks.
 pub(crate) fn outline_duration(
     alloc: Global,
+    whole: u32,
     duration: &Duration,
     tables: &mut Tables,
 ) -> Result<Lasting, AllocError>
-    requires { duration_faults 1920 (duration_view duration.now) ≡ [] }
+    requires { duration_faults whole (duration_view duration.now) ≡ [] }
     ensures { IfOk result (λ l. numbered (lasting_view l) (tables_view tables.new)
-        ≡ span_numbered 1920 (duration_view duration.now) (tables_view tables.old)) }
+        ≡ span_numbered whole (duration_view duration.now) (tables_view tables.old)) }
 {
     match duration {
         Duration::Fixed { length } => Ok(Lasting::Ticks {
-            ticks: ticks(length),
+            ticks: ticks(whole, length),
         }),
         Duration::Computed { value, most } => {
             let expr = tables.add_expr(alloc, value)?;

@@ -5,6 +5,7 @@ ghost use Rattle.fm_pattern.specs.declared.cursor.TheConstants.{MAX_ENTRIES};
 ghost use Rattle.fm_warp.specs.declared.warp.TheConstants.{MAX_PARTS};
 ghost use Rattle.fm_grammar.specs.Score as tree;
 ghost use Rattle.fm_grammar.specs.View.{entry_view, item_view, items_view, name_view, score_view};
+ghost use Rattle.fm_meaning.specs.Rules.{profile_of};
 ghost use Rattle.fm_meaning.specs.Resolve.{seed_of};
 ghost use Rattle.fm_meaning.specs.Ranges.{each_faults, part_faults, part_length, length_spot, second_walk};
 ghost use Rattle.fm_expansion.specs.Numbering.{outline};
@@ -16,12 +17,12 @@ ghost use Rattle.fm_outline.specs.Walked.{Walked, played};
 use crate::fork::{before_fork, before_fork_inside};
 use crate::known::Known;
 use crate::outline::Outline;
-use crate::shape::warp_of;
 use crate::statement::{outline_item, outline_items};
 use crate::step::Step;
 use crate::tables::{Tables, place};
 use fm_grammar::{Entry, Item, Name, PartText, Score};
 use fm_names::Names;
+use fm_version::{rules_of, warp_of};
 use std::alloc::{AllocError, Global};
 
 /// What stands before a place of the text, and what is known there.
@@ -36,7 +37,7 @@ pub(crate) struct Walk<'s> {
 impl<'s> Walk<'s> {
     // Appends a statement that is played.
     fn play(&mut self, alloc: Global, item: &Item) -> Result<(), AllocError>
-        requires { StmtInRange (item_view item.now).what }
+        requires { StmtInRange self.old.known.whole (item_view item.now).what }
         ensures { OnOk result ((score : tree.Score) (rest : List tree.Entry) →
             Walked score self.old (played item.now ∷ rest) → Walked score self.new rest) }
     {
@@ -56,7 +57,7 @@ impl<'s> Walk<'s> {
         name: &Name<'s>,
         body: &[Item],
     ) -> Result<(), AllocError>
-        requires { BodyInRange (items_view body.now) }
+        requires { BodyInRange self.old.known.whole (items_view body.now) }
         ensures { OnOk result ((score : tree.Score) (rest : List tree.Entry) →
             Walked score self.old (tree.phrase (name_view name.now) (items_view body.now) ∷ rest) →
             Walked score self.new rest) }
@@ -76,13 +77,15 @@ impl<'s> Walk<'s> {
         name: &Name<'s>,
         parts: &[PartText],
     ) -> Result<(), AllocError>
-        requires { each_faults (part_faults 1920) (λ p. length_spot (part_length p)) MAX_PARTS
+        requires { each_faults (part_faults self.old.known.whole) (λ p. length_spot (part_length p)) MAX_PARTS
             parts.now ≡ [] }
         ensures { OnOk result ((score : tree.Score) (rest : List tree.Entry) →
             Walked score self.old (tree.shape (name_view name.now) parts.now ∷ rest) →
             Walked score self.new rest) }
     {
-        let number = self.tables.add_warp(warp_of(alloc, parts)?)?;
+        let number = self
+            .tables
+            .add_warp(warp_of(alloc, self.known.whole, parts)?)?;
         self.known.shapes.define(name.text, number)
     }
 
@@ -118,9 +121,12 @@ pub fn outline_of(alloc: Global, score: &Score) -> Result<Outline, AllocError>
     ensures outline { IfOk result (λ o. outline_view o ≡ outline (score_view score.now)) }
     ensures phrases { IfOk result PhrasesStand }
     ensures seed { IfOk result (λ o. o.seed ≡ seed_of (score_view score.now).seed) }
+    ensures profile { IfOk result (λ o. o.profile ≡ profile_of (score_view score.now)) }
 {
+    let rules = rules_of(score);
     let mut walk = Walk {
         known: Known {
+            whole: rules.whole_note,
             shapes: Names::new(alloc),
             phrases: Names::new(alloc),
             forking: Vec::new(alloc),
@@ -138,5 +144,6 @@ pub fn outline_of(alloc: Global, score: &Score) -> Result<Outline, AllocError>
         phrases: walk.phrases,
         block: walk.block,
         seed,
+        profile: rules.profile,
     })
 }

@@ -70,4 +70,4 @@ look_at earlier = look_in (phrases_view earlier)
 
 -- the plan of an outline
 abbrev pub outline_plan : Outline → PlanParts
-outline_plan o = let v = outline_view o in expansion v.tables o.seed v.value
+outline_plan o = let v = outline_view o in expansion v.tables o.seed o.profile v.value

@@ -13,7 +13,6 @@ ghost use Rattle.fm_plan.specs.Seen.{outline_plan};
 use crate::expanding::{Expanded, expand};
 use fm_expansion::{plans_fit, plans_play_the_score};
 use fm_grammar::Score;
-use fm_msg::Profile;
 use fm_outline::{Outline, Tables, outline_of};
 use fm_program::{Plan, Stock};
 use std::alloc::{AllocError, Global};
@@ -24,7 +23,12 @@ pub fn outline_plan(alloc: Global, outline: Outline) -> Result<Plan, AllocError>
     ensures { IfOk result (λ p. p ≡ outline_plan outline) }
 {
     let Expanded { programs, scopes } = expand(alloc, &outline)?;
-    let Outline { tables, seed, .. } = outline;
+    let Outline {
+        tables,
+        seed,
+        profile,
+        ..
+    } = outline;
     let Tables {
         exprs,
         lists,
@@ -38,7 +42,7 @@ pub fn outline_plan(alloc: Global, outline: Outline) -> Result<Plan, AllocError>
         scopes,
         warps,
     };
-    Ok(Plan::of(stock, programs, u64::from(seed), Profile::first()))
+    Ok(Plan::of(stock, programs, u64::from(seed), profile))
 }
 
 /// The plan of a score that is accepted: its processes have the lines that the score means, and

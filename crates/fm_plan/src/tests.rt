@@ -4,6 +4,7 @@ mod outlines;
 
 use crate::expand;
 use fm_lex::Spot;
+use fm_msg::Profile;
 use fm_outline::{Instruction, Lasting, Outline, Step, Tables};
 use fm_program::{Count, Op, Span, Turn};
 use std::alloc::{AllocError, Global};
@@ -48,6 +49,7 @@ fn outline(alloc: Global, block: Vec<Step>) -> Result<Outline, AllocError> {
         phrases: vec![in alloc; phrase]?,
         block,
         seed: 0,
+        profile: Profile::first(),
     })
 }
 

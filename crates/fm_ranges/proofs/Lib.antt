@@ -3,4 +3,3 @@ pub mod ListLemmas
 pub mod Congruence
 pub mod DefiningLemmas
 pub mod EntryLemmas
-mod Numerals

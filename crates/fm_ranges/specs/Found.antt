@@ -7,7 +7,6 @@ use Rattle.fm_ranges.specs.declared.fault.RangeWhy.{RangeWhy}
 use Rattle.fm_ranges.specs.declared.fault.RangeWhy.TheVariants.{DoubleName, UnknownName, OutOfRange, NotTicks}
 use Rattle.fm_ranges.specs.declared.fault.RangeFault.{RangeFault}
 use Rattle.fm_ranges.specs.declared.known.Known.{Known}
-use Rattle.fm_ranges.specs.declared.number.TheConstants.{WHOLE_NOTE}
 
 -- the number of a fault
 abbrev pub range_number : RangeWhy → ℕ
@@ -25,6 +24,6 @@ abbrev pub found : {A : Type 0} → Result A RangeFault → Option NumberedFault
 found (Ok x) = None
 found (Err f) = Some (numbered f)
 
--- the names that are known
+-- the names that are known, and the ticks of a whole note
 abbrev pub known_view : Known → ranges.Names
-known_view k = record { whole = WHOLE_NOTE; shapes = names_in k.shapes; phrases = names_in k.phrases }
+known_view k = record { whole = k.whole; shapes = names_in k.shapes; phrases = names_in k.phrases }

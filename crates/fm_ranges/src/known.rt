@@ -3,26 +3,27 @@
 ghost use Rattle.std.specs.Prelude.{◌≡◌, [], OnOk};
 ghost use Rattle.fm_grammar.specs.View.{entry_view};
 ghost use Rattle.fm_ranges.specs.Found.{known_view};
-ghost use Rattle.fm_ranges.specs.declared.number.TheConstants.{WHOLE_NOTE};
 ghost use Rattle.fm_ranges.specs.Entries.{SameNames, behind};
 
 use fm_grammar::Entry;
 use fm_names::Names;
 use std::alloc::{AllocError, Global};
 
-/// The names of shapes and of phrases.
+/// The ticks of a whole note, and the names of shapes and of phrases.
 #[derive(Drop)]
 pub(crate) struct Known<'s> {
+    pub(crate) whole: u32,
     pub(crate) shapes: Names<'s, ()>,
     pub(crate) phrases: Names<'s, ()>,
 }
 
 /// Nothing is defined.
-pub(crate) fn nothing_known<'s>(alloc: Global) -> Known<'s>
+pub(crate) fn nothing_known<'s>(alloc: Global, whole: u32) -> Known<'s>
     ensures { SameNames (known_view result)
-        (record { whole = WHOLE_NOTE; shapes = []; phrases = [] }) }
+        (record { whole = whole; shapes = []; phrases = [] }) }
 {
     Known {
+        whole,
         shapes: Names::new(alloc),
         phrases: Names::new(alloc),
     }

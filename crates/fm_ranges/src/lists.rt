@@ -1,6 +1,6 @@
 //! Lists, of which each entry behind the most is one too many.
 
-ghost use Rattle.std.specs.Prelude.{◌≡◌, ◌++◌, map, nat_eq};
+ghost use Rattle.std.specs.Prelude.{◌≡◌, ◌++◌, map};
 ghost use Rattle.fm_grammar.specs.View.{pitch_view};
 ghost use Rattle.fm_meaning.specs.Faults.{first_found};
 ghost use Rattle.fm_meaning.specs.Ranges.{
@@ -14,16 +14,16 @@ ghost use Rattle.fm_meaning.specs.Ranges.{
   pitch_spot,
   empty_faults,
 };
-ghost use Rattle.fm_meaning.specs.Resolve.{length_ticks};
 ghost use Rattle.fm_ranges.specs.Found.{found};
 
 use crate::fault::{RangeFault, out_of_range};
-use crate::number::{WHOLE_NOTE, check_length, check_number};
+use crate::number::{check_length, check_number};
 use crate::value::check_pitch;
 use fm_grammar::{Length, Number, PartText, Pitch};
 use fm_lex::Spot;
 use fm_pattern::MAX_ENTRIES;
 use fm_tick::MAX_STRETCH;
+use fm_version::ticks_of;
 use fm_warp::MAX_PARTS;
 
 /// How many pitches one statement has at most.
@@ -62,15 +62,15 @@ fn spot_of_length(length: Length) -> Spot
 }
 
 /// The entries of a rhythm.
-pub(crate) fn check_lengths(lengths: &[Length]) -> Result<(), RangeFault>
+pub(crate) fn check_lengths(whole: u32, lengths: &[Length]) -> Result<(), RangeFault>
     ensures { found result
-        ≡ first_found (each_faults (length_faults WHOLE_NOTE) length_spot MAX_ENTRIES lengths.now) }
+        ≡ first_found (each_faults (length_faults whole) length_spot MAX_ENTRIES lengths.now) }
 {
     for (i, length) in lengths.iter().enumerate() {
         if i >= MAX_ENTRIES {
             return Err(out_of_range(spot_of_length(*length)));
         }
-        check_length(*length)?;
+        check_length(whole, *length)?;
     }
     Ok(())
 }
@@ -100,60 +100,47 @@ fn length_of_part(part: PartText) -> Length
     }
 }
 
-// Whether a length has no ticks, or none that can be said.
-fn is_empty(length: Length) -> bool
-    ensures { result ≡ nat_eq (length_ticks WHOLE_NOTE length) 0 }
-{
-    match length {
-        Length::Share { over, under } => {
-            let ticks = u64::from(WHOLE_NOTE) * u64::from(over.value);
-            under.value == 0 || ticks / u64::from(under.value) == 0
-        }
-        Length::Ticks { count } => count.value == 0,
-    }
-}
-
 // A length of at least one tick.
-fn check_stretched(length: Length) -> Result<(), RangeFault>
+fn check_stretched(whole: u32, length: Length) -> Result<(), RangeFault>
     ensures { found result
-        ≡ first_found (length_faults WHOLE_NOTE length ++ empty_faults WHOLE_NOTE length) }
+        ≡ first_found (length_faults whole length ++ empty_faults whole length) }
 {
-    check_length(length)?;
-    if is_empty(length) {
+    check_length(whole, length)?;
+    if ticks_of(whole, &length) == 0 {
         return Err(out_of_range(spot_of_length(length)));
     }
     Ok(())
 }
 
 // A part of a shape.
-fn check_part(part: PartText) -> Result<(), RangeFault>
-    ensures { found result ≡ first_found (part_faults WHOLE_NOTE part) }
+fn check_part(whole: u32, part: PartText) -> Result<(), RangeFault>
+    ensures { found result ≡ first_found (part_faults whole part) }
 {
     match part {
         PartText::Flat { length, by } => {
-            check_stretched(length)?;
+            check_stretched(whole, length)?;
             check_number(by, 1, MAX_STRETCH)
         }
         PartText::Slope { length, by, to } => {
-            check_stretched(length)?;
+            check_stretched(whole, length)?;
             check_number(by, 1, MAX_STRETCH)?;
             check_number(to, 1, MAX_STRETCH)
         }
-        PartText::Pause { length } | PartText::Breath { length } => check_length(length),
+        PartText::Pause { length } | PartText::Breath { length } => check_length(whole, length),
     }
 }
 
 /// The parts of a shape.
-pub(crate) fn check_parts(parts: &[PartText]) -> Result<(), RangeFault>
+pub(crate) fn check_parts(whole: u32, parts: &[PartText]) -> Result<(), RangeFault>
     ensures { found result
-        ≡ first_found (each_faults (part_faults WHOLE_NOTE) (λ p. length_spot (part_length p))
+        ≡ first_found (each_faults (part_faults whole) (λ p. length_spot (part_length p))
         MAX_PARTS parts.now) }
 {
     for (i, part) in parts.iter().enumerate() {
         if i >= MAX_PARTS {
             return Err(out_of_range(spot_of_length(length_of_part(*part))));
         }
-        check_part(*part)?;
+        check_part(whole, *part)?;
     }
     Ok(())
 }

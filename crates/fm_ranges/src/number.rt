@@ -10,9 +10,6 @@ use crate::fault::{RangeFault, RangeWhy, out_of_range};
 use fm_grammar::{Length, Number};
 use fm_lex::Spot;
 
-/// How many ticks a whole note has.
-pub const WHOLE_NOTE: u32 = 1_920;
-
 /// The longest length that is written as one, in ticks.
 pub const MAX_TICKS: u32 = 1_000_000;
 
@@ -37,13 +34,13 @@ pub(crate) fn check_literal(value: i64, spot: Spot, least: i64, most: i64) -> Re
 }
 
 // A share of a whole note.
-fn check_share(over: Number, under: Number) -> Result<(), RangeFault>
-    ensures { found result ≡ first_found (share_faults WHOLE_NOTE over under) }
+fn check_share(whole: u32, over: Number, under: Number) -> Result<(), RangeFault>
+    ensures { found result ≡ first_found (share_faults whole over under) }
 {
     if under.value == 0 {
         return Err(out_of_range(over.spot));
     }
-    let ticks = u64::from(WHOLE_NOTE) * u64::from(over.value);
+    let ticks = u64::from(whole) * u64::from(over.value);
     if ticks % u64::from(under.value) != 0 {
         return Err(RangeFault {
             why: RangeWhy::NotTicks,
@@ -56,12 +53,12 @@ fn check_share(over: Number, under: Number) -> Result<(), RangeFault>
     Ok(())
 }
 
-/// A length.
-pub(crate) fn check_length(length: Length) -> Result<(), RangeFault>
-    ensures { found result ≡ first_found (length_faults WHOLE_NOTE length) }
+/// A length, where a whole note has `whole` ticks.
+pub(crate) fn check_length(whole: u32, length: Length) -> Result<(), RangeFault>
+    ensures { found result ≡ first_found (length_faults whole length) }
 {
     match length {
-        Length::Share { over, under } => check_share(over, under),
+        Length::Share { over, under } => check_share(whole, over, under),
         Length::Ticks { count } => check_number(count, 0, MAX_TICKS),
     }
 }

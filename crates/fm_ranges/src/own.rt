@@ -23,7 +23,7 @@ pub const MAX_ROUNDS: u32 = 1_000_000;
 pub const MAX_CHANNEL: u32 = 15;
 
 /// The greatest articulation, in percent of the duration.
-pub const MAX_GATE: u32 = 100;
+pub const MAX_ARTICULATION: u32 = 100;
 
 /// The lowest bend.
 pub const LEAST_BEND: i64 = -8_192;
@@ -53,10 +53,10 @@ pub(crate) fn check_own(item: &Item, known: &Known) -> Result<(), RangeFault>
     match &item.what {
         What::Note { pitches, duration } => {
             check_pitches(pitches)?;
-            check_duration(duration)
+            check_duration(known.whole, duration)
         }
         What::Play { pitches } => check_pitches(pitches),
-        What::Rest { duration } => check_duration(duration),
+        What::Rest { duration } => check_duration(known.whole, duration),
         What::Control { controller, amount } => {
             check_number(*controller, 0, MAX_DATA)?;
             check_amount(amount, 0, i64::from(MAX_DATA))
@@ -74,9 +74,9 @@ pub(crate) fn check_own(item: &Item, known: &Known) -> Result<(), RangeFault>
         What::Warp { name, .. } => check_name(name, &known.shapes),
         What::Channel { number, .. } => check_number(*number, 0, MAX_CHANNEL),
         What::Volume { number, .. } => check_number(*number, 1, MAX_DATA),
-        What::Gate { number, .. } => check_number(*number, 0, MAX_GATE),
-        What::Rhythm { list, .. } => check_lengths(list),
-        What::Artic { list, .. } => check_numbers(list, 0, MAX_GATE),
+        What::Gate { number, .. } => check_number(*number, 0, MAX_ARTICULATION),
+        What::Rhythm { list, .. } => check_lengths(known.whole, list),
+        What::Artic { list, .. } => check_numbers(list, 0, MAX_ARTICULATION),
         What::Loud { list, .. } => check_numbers(list, 1, MAX_DATA),
         What::Skip | What::Par { .. } => Ok(()),
     }

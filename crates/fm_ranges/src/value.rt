@@ -9,7 +9,7 @@ ghost use Rattle.fm_meaning.specs.Ranges.{pitch_faults};
 ghost use Rattle.fm_ranges.specs.Found.{found};
 
 use crate::fault::{RangeFault, out_of_range};
-use crate::number::{MAX_TICKS, WHOLE_NOTE, check_length, check_literal, check_number};
+use crate::number::{MAX_TICKS, check_length, check_literal, check_number};
 use fm_grammar::{Amount, Duration, Pitch};
 use fm_lex::Spot;
 use fm_value::{Expr, MAX_VALUE, Node, Spot2};
@@ -78,12 +78,12 @@ pub(crate) fn check_amount(amount: &Amount, least: i64, most: i64) -> Result<(),
 }
 
 /// A duration.
-pub(crate) fn check_duration(duration: &Duration) -> Result<(), RangeFault>
+pub(crate) fn check_duration(whole: u32, duration: &Duration) -> Result<(), RangeFault>
     ensures { found result
-        ≡ first_found (duration_faults WHOLE_NOTE (duration_view duration.now)) }
+        ≡ first_found (duration_faults whole (duration_view duration.now)) }
 {
     match duration {
-        Duration::Fixed { length } => check_length(*length),
+        Duration::Fixed { length } => check_length(whole, *length),
         Duration::Computed { value, most } => {
             check_expr(value)?;
             check_number(*most, 0, MAX_TICKS)

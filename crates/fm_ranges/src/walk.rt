@@ -11,13 +11,11 @@ ghost use Rattle.fm_grammar.specs.View.{name_view};
 use crate::fault::{RangeFault, RangeWhy};
 use crate::known::{Known, define, nothing_known};
 use crate::lists::check_parts;
-use crate::number::{WHOLE_NOTE, check_number};
+use crate::number::check_number;
 use crate::statement::{check_item, check_items};
 use fm_grammar::{Entry, Name, Score};
+use fm_version::{VERSION, rules_of};
 use std::alloc::{AllocError, Global};
-
-/// The version of the language.
-pub const VERSION: u32 = 1;
 
 // A name that may be defined.
 fn check_new(name: &Name, known: &Known) -> Result<(), RangeFault>
@@ -41,7 +39,7 @@ fn check_entry(entry: &Entry, known: &Known) -> Result<(), RangeFault>
     match entry {
         Entry::Shape { name, parts } => {
             check_new(name, known)?;
-            check_parts(parts)
+            check_parts(known.whole, parts)
         }
         Entry::Phrase { name, body } => {
             check_new(name, known)?;
@@ -52,12 +50,16 @@ fn check_entry(entry: &Entry, known: &Known) -> Result<(), RangeFault>
 }
 
 // The first fault of the entries.
-fn first_of_entries(alloc: Global, entries: &[Entry]) -> Result<Option<RangeFault>, AllocError>
+fn first_of_entries(
+    alloc: Global,
+    whole: u32,
+    entries: &[Entry],
+) -> Result<Option<RangeFault>, AllocError>
     ensures { IfOk result (λ f. option_map numbered f
-        ≡ first_found (entries_faults (record { whole = WHOLE_NOTE; shapes = []; phrases = [] })
+        ≡ first_found (entries_faults (record { whole = whole; shapes = []; phrases = [] })
         (map entry_view entries.now))) }
 {
-    let mut known = nothing_known(alloc);
+    let mut known = nothing_known(alloc, whole);
     for entry in entries {
         match check_entry(entry, &known) {
             Ok(()) => define(&mut known, entry)?,
@@ -76,5 +78,5 @@ pub fn first_range_fault(alloc: Global, score: &Score) -> Result<Option<RangeFau
     if let Err(fault) = check_number(score.version, VERSION, VERSION) {
         return Ok(Some(fault));
     }
-    first_of_entries(alloc, &score.entries)
+    first_of_entries(alloc, rules_of(score).whole_note, &score.entries)
 }

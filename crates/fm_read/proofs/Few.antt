@@ -44,6 +44,12 @@ listed_few body = by_read (entries None body) refl
     by_read (Ok es) is = entries_few None body es is
     by_read (Err s) is = omega arith
 
+-- a track in front of other chunks has no more entries than bytes
+pub first_few : (p : Part) (ps : List Part) →
+    length (pairs_read (entries None p.body)) + length (joined_parts ps) ≤ length (joined_parts (p ∷ ps))
+first_few p ps =
+    omega (arith, length-append (p.head ++ p.body) (joined_parts ps), length-append p.head p.body, listed_few p.body)
+
 -- a track has no more entries than the chunks have bytes
 pub track_few : (ps : List Part) (k : ℕ) (es : List Pair) → slice_get (tracks ps) k ≡ Some es → length es ≤ length (joined_parts ps)
 track_few [] k es is = absurd cc

@@ -21,3 +21,4 @@ pub mod FaultRead
 pub mod FaultTrack
 pub mod FileFaultTook
 pub mod FileFaultRead
+pub mod WrittenFileLemmas

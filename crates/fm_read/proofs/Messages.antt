@@ -33,12 +33,14 @@ unfolding filler_entries
 fillers_silent now zero = refl
 fillers_silent now (suc k) = fillers_silent (now + MAX_QUANTITY) k
 
-fillers_last : (now k : ℕ) → time_after now (filler_entries k) ≡ now + MAX_QUANTITY * k
+-- the time behind so many fillers
+pub fillers_last : (now k : ℕ) → time_after now (filler_entries k) ≡ now + MAX_QUANTITY * k
 unfolding filler_entries
 fillers_last now zero = omega arith
 fillers_last now (suc k) = omega (arith, fillers_last (now + MAX_QUANTITY) k)
 
-timed_last : (now ticks status : ℕ) (event : List ℕ) → time_after now (timed ticks status event) ≡ now + ticks
+-- behind an event with its fillers
+pub timed_last : (now ticks status : ℕ) (event : List ℕ) → time_after now (timed ticks status event) ≡ now + ticks
 timed_last now ticks status event =
     time_append now (filler_entries (filler_count ticks)) _ ∙ omega (arith, fillers_last now (filler_count ticks))
 
@@ -83,7 +85,8 @@ pub whole_shown : (b : Bool) (m : Msg) → is_in_range m ≡ true →
 whole_shown true m fits = whole_data m fits
 whole_shown false m fits = whole_message m
 
-events_last : (s : TrackState) (events : List TimedMessage) → NeverFalls s.last events →
+-- behind events
+pub events_last : (s : TrackState) (events : List TimedMessage) → NeverFalls s.last events →
     time_after s.last (event_entries s events) ≡ last_time s.last events
 events_last s [] rise = refl
 events_last s (e ∷ events) rise =

@@ -3,14 +3,14 @@ ghost use Rattle.std.specs.Prelude.{◌≡◌, ◌+◌, ◌≤◌, ◌<◌, ◌^
 ghost use Rattle.std.specs.Prelude.{None, IfOk, IfErr, IfSome, IfNone, MatchOption};
 ghost use Rattle.fm_read.specs.Reading.{Gives};
 ghost use Rattle.fm_read.specs.Files.{wide_at, short_at, has_kind, chunk_fault, held, past_chunk};
-ghost use Rattle.fm_read.specs.Files.{read_chunk, chunks, tracked, body_chunks};
+ghost use Rattle.fm_read.specs.Files.{read_chunk, chunks, tracks, tracked, body_chunks};
 ghost use Rattle.fm_read.specs.Tracks.{IsRead, entries};
-ghost use Rattle.fm_read.specs.Kept.{chunks_of};
+ghost use Rattle.fm_read.specs.Kept.{chunks_of, joined_parts};
 ghost use Rattle.fm_read.specs.Views.{as_part};
 ghost use Rattle.fm_read.specs.Seen.{track_found, present};
 
 use crate::fault::{CUT, ReadKind, Stop};
-use crate::track::judge_track;
+use crate::track::{Track, judge_track};
 use std::marker::Model;
 
 /// A chunk of a file.
@@ -183,5 +183,22 @@ impl<'a> Chunks<'a> {
         let (chunk, rest) = split_chunk(self.rest);
         self.rest = rest;
         Some(chunk)
+    }
+
+    /// The next chunk that is a track, as its entries. Chunks of other kinds are passed over.
+    pub fn next_track(&mut self) -> Option<Track<'a>>
+        ensures given { MatchOption result (tracks self.old ≡ [])
+            (λ t. tracks self.old ≡ t ∷ tracks self.new) }
+        // A track has no more entries than bytes.
+        ensures few { IfSome result (λ t. length t + length (joined_parts self.new)
+            ≤ length (joined_parts self.old)) }
+        ensures shorter { IfSome result (λ t. length self.new < length self.old) }
+    {
+        while let Some(chunk) = self.next() {
+            if has_kind(b"MTrk", chunk.head) {
+                return Some(Track::of_body(chunk.body));
+            }
+        }
+        None
     }
 }

@@ -155,6 +155,9 @@ fn a_quarter_note_has_its_parts(rt: HostRuntime) {
     assert_eq!(rt; file.head(), &NOTE[..14]);
     let body = file.chunks().next().map(|chunk| chunk.body);
     assert_eq!(rt; body, Some(&NOTE[22..]));
+    let mut chunks = file.chunks();
+    assert!(rt; chunks.next_track().is_some());
+    assert!(rt; chunks.next_track().is_none());
     let tracks = file.tracks();
     assert_eq!(rt; tracks, 1);
     if tracks > 0 {

@@ -21,5 +21,6 @@ pub use laws::{
     deltas_split, lengths_make_files, quantities_read_back, running_tracks_are_shorter, tracks_fit,
 };
 pub use limits::{BEFORE_TRACK, LENGTH_PLACE, MAX_QUANTITY, MAX_TIME, MAX_TRACK, START_LENGTH};
+pub use piece::{FILLER, PIECE, fillers_before, piece_of};
 pub use whole::write_file;
 pub use writer::Writer;

@@ -3,7 +3,8 @@ use Rattle.std.proofs.Common.{◌≡◌, ℕ, ◌-◌, List, length, Option, Som
 use Rattle.fm_line.specs.declared.line.Line.{Line}
 use Rattle.fm_line.specs.Line.{line}
 use Rattle.fm_line.specs.Piece.{piece}
-use Rattle.fm_grammar.specs.Score.{Score}
+use Rattle.fm_grammar.specs.Score as tree
+use Rattle.fm_meaning.specs.Rules.{profile_of}
 use Rattle.fm_meaning.specs.Resolve.{resolved}
 use Rattle.fm_meaning.specs.Lines.{played_lines, played_piece, played_end}
 use Rattle.fm_meaning.specs.Verdict.{Means}
@@ -19,17 +20,19 @@ use Rattle.fm_smf.specs.File.{file}
 use Rattle.fm_smf.specs.Writing.{IsFinished, IsBroken}
 use Rattle.fm_gen.specs.declared.summary.Summary.{Summary}
 use Rattle.fm_words.specs.Settings.{Settings}
+use Rattle.fm_top.specs.declared.run_fault.RunFault.{RunFault}
+use Rattle.fm_top.specs.declared.run_fault.RunFault.TheVariants.{Words, Read, Score, Write, Memory}
 use Rattle.fm_top.specs.Summing.{totals}
 use Rattle.fm_top.specs.Taking.{TakesPlan, TakesScore, offered, remaining}
-use Rattle.fm_top.specs.Outcome.{WritesScore, BreaksScore, WritesWith, number_asked, profile_of, score_file, score_summary}
+use Rattle.fm_top.specs.Outcome.{WritesScore, BreaksScore, WritesWith, Holds, StopsAt, number_asked, score_file, score_summary}
 
 -- the lines of the plan of an accepted text are those that it means
 abbrev pub PlansPlay : Type 0
-PlansPlay = (text : List ℕ) (s : Score) → Means text s → plan_lines (score_plan s) ≡ played_lines (resolved s)
+PlansPlay = (text : List ℕ) (s : tree.Score) → Means text s → plan_lines (score_plan s) ≡ played_lines (resolved s)
 
 -- and the last of them ends where the score ends
 abbrev pub LastLinesEnd : Type 0
-LastLinesEnd = (text : List ℕ) (s : Score) → Means text s
+LastLinesEnd = (text : List ℕ) (s : tree.Score) → Means text s
     → (line (played_lines (resolved s)) (length (played_lines (resolved s)) - 1)).end ≡ played_end (resolved s)
 
 -- the lines of a plan that was taken
@@ -38,8 +41,7 @@ lines_taken : PlansPlay → (o n : Option (List ℕ)) (plan : PlanParts) (t : Ta
 lines_taken plays o n plan t = ap plan_lines t.planned.planned ∙ plays t.text t.planned.score t.planned.means
 
 -- the plan of a score has the score's profile
-plan_profile : (s : Score) → (score_plan s).profile ≡ profile_of s
-unfolding profile_of
+plan_profile : (s : tree.Score) → (score_plan s).profile ≡ profile_of s
 plan_profile s = refl
 
 -- so has a plan that was taken
@@ -52,15 +54,15 @@ summed profile ls end =
     record { processes = length ls; events = length (piece ls); last = end; bytes = length (file profile (piece ls) end) }
 
 -- what is summed up of a plan that was played are the totals of its score
-pub totals_taken : PlansPlay → LastLinesEnd → (o n : Option (List ℕ)) (plan rounds : PlanParts) (t : TakesPlan o n plan)
-    → rounds ≡ plan → (processes : ℕ) (played : Played) → processes ≡ length plan.programs → played ≡ played_of rounds
+pub totals_taken : PlansPlay → LastLinesEnd → (o n : Option (List ℕ)) (plan : PlanParts) (t : TakesPlan o n plan)
+    → (processes : ℕ) (played : Played) → processes ≡ length plan.programs → played ≡ played_of plan
     → totals processes played ≡ score_summary t.planned.score
 unfolding score_summary score_file
-totals_taken plays last o n plan rounds t same processes played count is =
+totals_taken plays last o n plan t processes played count is =
     let r = resolved t.planned.score in
     let many : processes ≡ length (plan_lines plan) = count ∙ sym (plan-lines-length plan) in
     let sums : totals processes played ≡ totals (length (plan_lines plan)) (played_of plan) =
-    ap (λ k. totals k played) many ∙ ap (totals (length (plan_lines plan))) (is ∙ ap played_of same)
+    ap (λ k. totals k played) many ∙ ap (totals (length (plan_lines plan))) is
     in
     sums
     ∙ ap (λ p. summed p (plan_lines plan) (piece_end (plan_lines plan))) (profile_taken o n plan t)
@@ -83,19 +85,18 @@ module _ {S K : Type 0} (left : S → Option (List ℕ)) (source_faults : S → 
     (content : K → Option (List ℕ)) (sure : K → Option ℕ) (faults : K → ℕ)
     (asked : Option Settings) (source source' : S) (sink sink' : K)
     (settings : Settings) (given : asked ≡ Some settings) where
-  module _ (plays : PlansPlay) (last : LastLinesEnd) (plan rounds : PlanParts)
-      (t : TakesPlan (offered settings.generate (left source)) (remaining settings.generate (left source')) plan)
-      (same : rounds ≡ plan) where
+  module _ (plays : PlansPlay) (last : LastLinesEnd) (plan : PlanParts)
+      (t : TakesPlan (offered settings.generate (left source)) (remaining settings.generate (left source')) plan) where
     -- the lines that are played
-    lines : plan_lines rounds ≡ played_lines (resolved t.planned.score)
-    lines = ap plan_lines same ∙ lines_taken plays _ _ plan t
+    lines : plan_lines plan ≡ played_lines (resolved t.planned.score)
+    lines = lines_taken plays _ _ plan t
 
     -- and their profile
-    profile : rounds.profile ≡ profile_of t.planned.score
-    profile = ap (λ (p : PlanParts). p.profile) same ∙ profile_taken _ _ plan t
+    profile : plan.profile ≡ profile_of t.planned.score
+    profile = profile_taken _ _ plan t
 
     -- the file of the plan's piece is written
-    score_written : IsFinished content sure faults sink sink' rounds.profile (piece (plan_lines rounds)) (piece_end (plan_lines rounds))
+    score_written : IsFinished content sure faults sink sink' plan.profile (piece (plan_lines plan)) (piece_end (plan_lines plan))
         → WritesScore left source_faults content sure faults asked source source' sink sink'
     score_written file = record {
       words = is_something asked settings given;
@@ -105,15 +106,15 @@ module _ {S K : Type 0} (left : S → Option (List ℕ)) (source_faults : S → 
           subst (λ e. IsFinished content sure faults sink sink' (profile_of t.planned.score) (played_piece (resolved t.planned.score)) e)
           (last t.text t.planned.score t.planned.means)
           (subst (λ ls. IsFinished content sure faults sink sink' (profile_of t.planned.score) (piece ls) (piece_end ls)) lines
-          (subst (λ p. IsFinished content sure faults sink sink' p (piece (plan_lines rounds)) (piece_end (plan_lines rounds)))
+          (subst (λ p. IsFinished content sure faults sink sink' p (piece (plan_lines plan)) (piece_end (plan_lines plan)))
           profile file));
     }
 
     -- and this is what there is to tell of it
     pub summary_written : (processes : ℕ) (played : Played) (summary : Option Summary)
-        → processes ≡ length plan.programs → played ≡ played_of rounds
+        → processes ≡ length plan.programs → played ≡ played_of plan
         → summary ≡ option_map (λ _. totals processes played) settings.generate
-        → IsFinished content sure faults sink sink' rounds.profile (piece (plan_lines rounds)) (piece_end (plan_lines rounds))
+        → IsFinished content sure faults sink sink' plan.profile (piece (plan_lines plan)) (piece_end (plan_lines plan))
         → WritesWith left source_faults content sure faults asked source source' sink sink' summary
     unfolding score_written
     summary_written processes played summary count is sums finished = record {
@@ -121,14 +122,18 @@ module _ {S K : Type 0} (left : S → Option (List ℕ)) (source_faults : S → 
       sums =
           sums
           ∙ ap (λ s. option_map (λ _. s) settings.generate)
-          (totals_taken plays last _ _ plan rounds t same processes played count is)
+          (totals_taken plays last _ _ plan t processes played count is)
           ∙ ap (λ a. option_map (λ _. score_summary t.planned.score) (number_asked a)) (sym given);
     }
 
-    -- a call failed before it was
-    pub score_broken : IsBroken content sure faults sink sink' rounds.profile (piece (plan_lines rounds)) (piece_end (plan_lines rounds))
-        → BreaksScore left source_faults content sure faults asked source source' sink sink'
-    score_broken broken = record {
+    -- the play of the plan stopped: a call failed before it was, or memory was wanting
+    pub score_stopped : (fault : RunFault) → StopsAt content sure faults sink sink' plan fault
+        → Holds left source_faults content sure faults asked source source' sink sink' fault
+    score_stopped Words none = absurd none
+    score_stopped Read none = absurd none
+    score_stopped (Score spot number) none = absurd none
+    score_stopped Memory untouched = untouched
+    score_stopped Write broken = record {
       words = is_something asked settings given;
       score = t.planned.score;
       taken = score_taken asked settings given (left source) (left source') plan t;
@@ -136,6 +141,6 @@ module _ {S K : Type 0} (left : S → Option (List ℕ)) (source_faults : S → 
           subst (λ e. IsBroken content sure faults sink sink' (profile_of t.planned.score) (played_piece (resolved t.planned.score)) e)
           (last t.text t.planned.score t.planned.means)
           (subst (λ ls. IsBroken content sure faults sink sink' (profile_of t.planned.score) (piece ls) (piece_end ls)) lines
-          (subst (λ p. IsBroken content sure faults sink sink' p (piece (plan_lines rounds)) (piece_end (plan_lines rounds)))
+          (subst (λ p. IsBroken content sure faults sink sink' p (piece (plan_lines plan)) (piece_end (plan_lines plan)))
           profile broken));
     }

@@ -4,3 +4,4 @@ pub mod Telling
 pub mod Outcome
 pub mod Summing
 pub mod TellingRows
+pub mod Schedules

@@ -7,10 +7,14 @@ use Rattle.fm_edge.specs.Runs.{Puts}
 use Rattle.fm_words.specs.Settings.{Settings}
 use Rattle.fm_gen.specs.declared.summary.Summary.{Summary}
 use Rattle.fm_lex.specs.declared.spot.Spot.{Spot}
-use Rattle.fm_msg.specs.declared.profile.Profile.{Profile}
-use Rattle.fm_smf.specs.File.{file, first_profile}
+use Rattle.fm_line.specs.Piece.{piece}
+use Rattle.fm_play.specs.Ends.{piece_end}
+use Rattle.fm_program.specs.Parts.{PlanParts}
+use Rattle.fm_program.specs.Process.{plan_lines}
+use Rattle.fm_smf.specs.File.{file}
 use Rattle.fm_smf.specs.Writing.{IsFinished, IsBroken}
 use Rattle.fm_grammar.specs.Score as tree
+use Rattle.fm_meaning.specs.Rules.{profile_of}
 use Rattle.fm_meaning.specs.Resolve.{resolved}
 use Rattle.fm_meaning.specs.Lines.{played_lines, played_piece, played_end}
 use Rattle.fm_meaning.specs.Verdict.{HasFault, Means}
@@ -29,11 +33,6 @@ abbrev pub number_asked : Option Settings → Option ℕ
 number_asked None = None
 number_asked (Some settings) = settings.generate
 
--- how the file of a score is written, which its version fixes: in version 1 each status byte is written, and a quarter
--- note has 480 ticks
-unfoldable pub profile_of : tree.Score → Profile
-profile_of score = first_profile
-
 -- the Standard MIDI File of what a score means
 unfoldable pub score_file : tree.Score → List ℕ
 score_file score = file (profile_of score) (played_piece (resolved score)) (played_end (resolved score))
@@ -50,6 +49,15 @@ score_summary score = record {
 -- what there is to tell of a score that was played: its totals, where it is a large score that was asked for
 abbrev pub summary_asked : Option ℕ → tree.Score → Option Summary
 summary_asked asked score = option_map (λ _. score_summary score) asked
+
+module _ {K : Type 0} (content : K → Option (List ℕ)) (sure : K → Option ℕ) (faults : K → ℕ) (sink sink' : K) where
+  -- what a fault says of the sink, where a plan was to be played: a call failed before its file was in the sink, or
+  -- memory was wanting before the first byte
+  abbrev pub StopsAt : PlanParts → RunFault → Type 0
+  StopsAt plan Write =
+      IsBroken content sure faults sink sink' plan.profile (piece (plan_lines plan)) (piece_end (plan_lines plan))
+  StopsAt plan Memory = sink' ≡ sink
+  StopsAt plan fault = ⊥
 
 module _ {S K : Type 0} (left : S → Option (List ℕ)) (source_faults : S → ℕ)
     (content : K → Option (List ℕ)) (sure : K → Option ℕ) (faults : K → ℕ)

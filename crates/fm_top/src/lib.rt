@@ -8,6 +8,7 @@
 #![tactic(auto)]
 
 mod judge;
+mod laws;
 mod play;
 mod read_fault;
 mod run;
@@ -21,4 +22,5 @@ mod text;
 mod top;
 
 pub use fm_words::{WordsFault, names};
+pub use laws::same_file_for_every_schedule;
 pub use top::formula;

@@ -1,37 +1,110 @@
-//! Plays what was opened. It takes no memory.
-ghost use Rattle.std.specs.Prelude.{◌≡◌, ◌≤◌, OnOk, OnErr, IfOk};
+//! Plays a plan: alone, in rounds of threads, or by a crew of threads that run freely.
+ghost use Rattle.std.specs.Prelude.{◌≡◌, OnOk, OnErr, IfOk, IfErr};
 ghost use Rattle.fm_edge.specs.Content.{IsNew};
 ghost use Rattle.fm_line.specs.Piece.{piece};
-ghost use Rattle.fm_program.specs.Process.{plan_lines};
-ghost use Rattle.fm_smf.specs.Writing.{IsFinished, IsBroken};
 ghost use Rattle.fm_play.specs.Ends.{piece_end};
 ghost use Rattle.fm_play.specs.Performance.{played_of};
+ghost use Rattle.fm_program.specs.Process.{plan_lines};
+ghost use Rattle.fm_smf.specs.Writing.{IsFinished};
+ghost use Rattle.fm_words.specs.View.{HasRanges, options_view};
+ghost use Rattle.fm_top.specs.Outcome.{StopsAt};
 
+use crate::run_fault::RunFault;
 use fm_edge::{Gate, Sink};
-use fm_round::{MAX_WORKERS, Played, Rounds};
-use fm_smf::SinkFault;
+use fm_play::Played;
+use fm_program::Plan;
+use fm_round::Rounds;
+use fm_words::Options;
+use std::alloc::Global;
+use std::sync::Wait;
 use std::thread::Threads;
 
-/// Writes the file of the piece into a new sink, alone or in rounds of so many threads, and gives
-/// its size.
-pub fn play<R: Threads + Sync, G: Gate + Sync, K: Sink>(
+/// Writes the file of the plan's piece into a new sink, in the way that the options ask for, and
+/// gives its size. All memory is taken before the first byte.
+pub fn play<R: Threads + Wait + Sync, G: Gate + Sync, K: Sink>(
     rt: &R,
-    rounds: Rounds,
-    workers: u32,
+    alloc: Global,
+    plan: Plan,
+    options: &Options,
     gate: &G,
     sink: &mut K,
-) -> Result<Played, SinkFault>
-    requires workers { workers ≤ MAX_WORKERS }
+) -> Result<Played, RunFault>
+    requires ranges { HasRanges (options_view options.now) }
     requires new { IsNew (K.content sink.old) }
     ensures ok { OnOk result (IsFinished K.content K.sure K.faults sink.old sink.new
-        rounds.profile (piece (plan_lines rounds)) (piece_end (plan_lines rounds))) }
-    ensures err { OnErr result (IsBroken K.content K.sure K.faults sink.old sink.new
-        rounds.profile (piece (plan_lines rounds)) (piece_end (plan_lines rounds))) }
-    ensures played { IfOk result (λ played. played ≡ played_of rounds) }
+        plan.profile (piece (plan_lines plan)) (piece_end (plan_lines plan))) }
+    ensures err { IfErr result (StopsAt K.content K.sure K.faults sink.old sink.new plan) }
+    ensures played { IfOk result (λ played. played ≡ played_of plan) }
 {
-    if workers == 0 {
-        rounds.play_alone(sink)
+    if options.workers == 0 {
+        play_alone(alloc, plan, options, sink)
+    } else if options.rounds {
+        play_in_rounds(rt, alloc, plan, options, gate, sink)
     } else {
-        rounds.play(rt, workers, gate, sink)
+        play_by_crew(rt, alloc, plan, options, gate, sink)
     }
+}
+
+// The same on this thread alone.
+fn play_alone<K: Sink>(
+    alloc: Global,
+    plan: Plan,
+    options: &Options,
+    sink: &mut K,
+) -> Result<Played, RunFault>
+    requires ranges { HasRanges (options_view options.now) }
+    requires new { IsNew (K.content sink.old) }
+    ensures ok { OnOk result (IsFinished K.content K.sure K.faults sink.old sink.new
+        plan.profile (piece (plan_lines plan)) (piece_end (plan_lines plan))) }
+    ensures err { IfErr result (StopsAt K.content K.sure K.faults sink.old sink.new plan) }
+    ensures played { IfOk result (λ played. played ≡ played_of plan) }
+{
+    let rounds = Rounds::open(alloc, plan, options.room, options.lead)?;
+    Ok(rounds.play_alone(sink)?)
+}
+
+// The same in rounds of as many threads as there are workers.
+fn play_in_rounds<R: Threads + Sync, G: Gate + Sync, K: Sink>(
+    rt: &R,
+    alloc: Global,
+    plan: Plan,
+    options: &Options,
+    gate: &G,
+    sink: &mut K,
+) -> Result<Played, RunFault>
+    requires ranges { HasRanges (options_view options.now) }
+    requires new { IsNew (K.content sink.old) }
+    ensures ok { OnOk result (IsFinished K.content K.sure K.faults sink.old sink.new
+        plan.profile (piece (plan_lines plan)) (piece_end (plan_lines plan))) }
+    ensures err { IfErr result (StopsAt K.content K.sure K.faults sink.old sink.new plan) }
+    ensures played { IfOk result (λ played. played ≡ played_of plan) }
+{
+    let rounds = Rounds::open(alloc, plan, options.room, options.lead)?;
+    Ok(rounds.play(rt, options.workers, gate, sink)?)
+}
+
+// The same by a crew: so many workers, and a conductor on this thread.
+fn play_by_crew<R: Threads + Wait + Sync, G: Gate + Sync, K: Sink>(
+    rt: &R,
+    alloc: Global,
+    plan: Plan,
+    options: &Options,
+    gate: &G,
+    sink: &mut K,
+) -> Result<Played, RunFault>
+    requires ranges { HasRanges (options_view options.now) }
+    requires new { IsNew (K.content sink.old) }
+    ensures ok { OnOk result (IsFinished K.content K.sure K.faults sink.old sink.new
+        plan.profile (piece (plan_lines plan)) (piece_end (plan_lines plan))) }
+    ensures err { IfErr result (StopsAt K.content K.sure K.faults sink.old sink.new plan) }
+    ensures played { IfOk result (λ played. played ≡ played_of plan) }
+{
+    let (board, mut seat, others, mut gather) = fm_crew::open(
+        alloc,
+        plan,
+        options.room,
+        options.lead,
+        options.workers,
+    )?;
+    Ok(fm_crew::play(rt, &board, &mut seat, others, &mut gather, gate, sink)?)
 }

@@ -12,15 +12,16 @@ use crate::score::read_score;
 use fm_edge::{Gate, Sink, Source};
 use fm_expansion::plans_play_the_score;
 use fm_gen::Summary;
+use fm_play::Played;
 use fm_promise::scores_end_with_their_last_line;
-use fm_round::{Played, Rounds};
 use fm_words::{WordsFault, read_options};
 use std::alloc::Global;
+use std::sync::Wait;
 use std::thread::Threads;
 
 /// Reads the words and the score of the source, or makes the large score that the words ask for,
 /// and writes its file into the new sink. It gives what there is to tell of a large score.
-pub fn run<R: Threads + Sync, S: Source, K: Sink, G: Gate + Sync>(
+pub fn run<R: Threads + Wait + Sync, S: Source, K: Sink, G: Gate + Sync>(
     rt: &R,
     alloc: Global,
     words: &[String],
@@ -50,10 +51,9 @@ pub fn run<R: Threads + Sync, S: Source, K: Sink, G: Gate + Sync>(
     plans_play_the_score();
     scores_end_with_their_last_line();
     let processes = plan.processes();
-    let rounds = Rounds::open(alloc, plan, options.room, options.lead)?;
-    match play(rt, rounds, options.workers, gate, sink) {
+    match play(rt, alloc, plan, &options, gate, sink) {
         Ok(played) => Ok(summary_of(options.generate, processes, played)),
-        Err(_) => Err(RunFault::Write),
+        Err(fault) => Err(fault),
     }
 }
 

@@ -1,8 +1,9 @@
 //! Why a run has no file to show.
 ghost use Rattle.std.specs.Prelude.{◌≡◌};
-ghost use Rattle.fm_top.specs.declared.run_fault.RunFault.TheVariants.{Memory};
+ghost use Rattle.fm_top.specs.declared.run_fault.RunFault.TheVariants.{Memory, Write};
 
 use fm_lex::Spot;
+use fm_smf::SinkFault;
 use std::alloc::AllocError;
 use thiserror::Error;
 
@@ -27,5 +28,13 @@ impl From<AllocError> for RunFault {
 
     fn from(_: AllocError) -> Self {
         RunFault::Memory
+    }
+}
+
+impl From<SinkFault> for RunFault {
+    ghost from_gives = { λ _ e. e ≡ Write };
+
+    fn from(_: SinkFault) -> Self {
+        RunFault::Write
     }
 }

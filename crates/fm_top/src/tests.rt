@@ -1,6 +1,7 @@
 mod large;
 mod lines;
 mod rows;
+mod scripted;
 mod ways;
 
 use super::*;
@@ -121,6 +122,16 @@ fn repeated(
     }
     text.push_str(ends.1)?;
     Ok(text)
+}
+
+// The first read gives the text, the second the end of it; the third would fail.
+#[test]
+fn no_read_follows_the_end(rt: HostRuntime) -> Result<(), Fail> {
+    let alloc = rt.alloc();
+    let ran = run_on(&rt, alloc, FILES, NOTE.as_bytes(), (&[3], &[], &[]))?;
+    let file = file_with(alloc, QUARTER, 4)?;
+    check_left(&rt, &ran, (0, b"", file.as_slice()), NOTE);
+    Ok(())
 }
 
 // The text is longer than one piece of the source.

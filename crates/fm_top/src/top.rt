@@ -17,7 +17,7 @@ use std::thread::Threads;
 /// Reads the words and the text of the source, or makes the large score that the words ask for,
 /// writes the text's file into the new sink, and answers with an exit status from 0 to 6. The
 /// console is told in one line of each run that does not end with the file, and of each large score
-/// that is written. The gate is passed round each time slice.
+/// that is written. Threads pass the gate round each time slice; a run with 0 workers has none.
 pub fn formula<R: Threads + Wait + Sync, S: Source, K: Sink, C: Console, G: Gate + Sync>(
     rt: &R,
     alloc: Global,

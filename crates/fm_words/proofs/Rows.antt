@@ -6,17 +6,17 @@ use Rattle.fm_words.specs.Command.{command}
 use Rattle.fm_words.specs.Settings.{Settings, settings_in, settings_of}
 
 -- a byte more before the first word
-abbrev with_byte : ℕ → List Text → List Text
+abbrev pub with_byte : ℕ → List Text → List Text
 with_byte byte [] = (byte ∷ []) ∷ []
 with_byte byte (word ∷ words) = (byte ∷ word) ∷ words
 
 -- the words between the bars
-abbrev words_in : List ℕ → List Text
+abbrev pub words_in : List ℕ → List Text
 words_in [] = [] ∷ []
 words_in (byte ∷ bytes) = if byte == 124 then [] ∷ words_in bytes else with_byte byte (words_in bytes)
 
 -- settings that are written out, without a large score
-abbrev asked : List ℕ → List ℕ → ℕ → ℕ → ℕ → Bool → Option Settings
+abbrev pub asked : List ℕ → List ℕ → ℕ → ℕ → ℕ → Bool → Option Settings
 asked source target workers lead room rounds = Some (record {
   source = source;
   target = target;

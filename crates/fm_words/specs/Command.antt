@@ -1,8 +1,9 @@
 -- The command of which the words are read, as clap's statement of a simple command sees it.
-use Rattle.std.specs.Prelude.{ℕ, List, codes, Some, true}
+use Rattle.std.specs.Prelude.{ℕ, List, ◌∷◌, ◌++◌, codes, map, Some, true}
 use Rattle.clap.specs.Words.{App, Rule, new_app, new_rule, with_rule}
 use Rattle.clap.specs.Simple.{on_top}
 use Rattle.clap.specs.declared.builder.ArgAction.TheVariants.{SetTrue}
+use Rattle.fm_words.specs.Rules.{Choice, nothing, number}
 
 -- a text that has to be there, by its place
 abbrev pub text_named : List ℕ → Rule
@@ -26,3 +27,16 @@ command = with_rule (with_rule (with_rule (with_rule (with_rule (with_rule (with
     (text_named (codes "IN"))) (text_named (codes "OUT")))
     (option_named (codes "workers"))) (option_named (codes "lead"))) (option_named (codes "room")))
     (option_named (codes "generate"))) (flag_named (codes "rounds"))
+
+-- an option of a table
+abbrev pub option_of : Choice → Rule
+option_of choice = elim choice.takes as (λ _. Rule) [
+  | nothing ↦ flag_named choice.name
+  | number low high ↦ option_named choice.name
+]
+
+-- the command of two texts and of the options of a table
+abbrev pub command_of : List Choice → App
+command_of table = on_top (λ s. record s {
+  rules = s.rules ++ text_named (codes "IN") ∷ text_named (codes "OUT") ∷ map option_of table;
+}) bare_command

@@ -9,12 +9,14 @@
 
 mod chosen;
 mod command;
+mod laws;
 mod limits;
 mod options;
 #[cfg(test)]
 mod tests;
 mod words_fault;
 
+pub use laws::{tables_obey_rules, words_obey_rules};
 pub use limits::{
     DEFAULT_LEAD, DEFAULT_ROOM, DEFAULT_WORKERS, MAX_GENERATE, MAX_LEAD, MAX_ROOM, MAX_WORKERS,
     MIN_ROOM,

@@ -12,10 +12,7 @@ const SPOT: Spot = Spot {
 };
 
 const EXCESSES: &[(Excess, &str)] = &[
-    (
-        Excess::TooManyProcesses,
-        "the score has more than 4096 processes",
-    ),
+    (Excess::TooManyProcesses, "the score has too many processes"),
     (
         Excess::TooManyOperations,
         "the score has more than 262144 operations",

@@ -48,6 +48,10 @@ impl<R: Abort> Calls for Bounded<'_, R> {
         self.board.lead()
     }
 
+    fn room(&self) -> u32 {
+        self.board.room()
+    }
+
     fn look(&self, seat: &mut BoardSeat, process: u32) -> Seen {
         self.count();
         self.board.look(seat, process)
@@ -155,7 +159,8 @@ fn work_watched<R: Abort + Threads + Wait + Sync>(
     requires workers { AreWorkers board.now.table.shared.table_id board.now.about others.old }
 {
     let mut work = ||
-        requires { IsSync R.row × AreWorkers board.now.table.shared.table_id board.now.about others.now }
+        requires { IsSync R.row
+            × AreWorkers board.now.table.shared.table_id board.now.about others.now }
     { work_all(rt, board, gate, others) };
     let mut watching = ||
         requires { IsConductor board.now.table.shared.table_id board.now.about seat.now }

@@ -4,7 +4,6 @@ use Rattle.fm_grammar.specs.Score as tree
 use Rattle.fm_grammar.specs.View.{items_view, item_view, branches_of, body_of}
 use Rattle.fm_grammar.specs.declared.item.Item.{Item, the_lemmas}
 use Rattle.fm_meaning.specs.Resolve.{longest_inside, longest_entry, longest_among}
-use Rattle.fm_bounds.specs.declared.span.TheConstants.{WHOLE_NOTE}
 use Rattle.fm_bounds.proofs.SaturationLemmas.{capped_max}
 use Rattle.fm_bounds.proofs.WeightLemmas.{map_take_more, map_twice}
 use Rattle.fm_bounds.proofs.LongestLemmas.{inside_more, among_more}
@@ -19,11 +18,11 @@ longest_item-loop-branch-preserved t c =
     let so_far = map view (take i branches) in
     rw (
       map_take_more view branches i b c.loop-branch-test.true c.branch-item.is,
-      among_more WHOLE_NOTE so_far (view b),
+      among_more c.args.whole so_far (view b),
       ← c.deref-in-loop-branch.ensures.value,
     )
     (c.max-longest.ensures ∙ ap₂ max c.loop-branch.invariant c.longest_items-in-loop-branch.ensures
-    ∙ capped_max (longest_among WHOLE_NOTE (branches_of so_far)) (longest_inside WHOLE_NOTE (items_view c.deref-in-loop-branch.result.now)))
+    ∙ capped_max (longest_among c.args.whole (branches_of so_far)) (longest_inside c.args.whole (items_view c.deref-in-loop-branch.result.now)))
 
 pub longest_item-returns-after-loop-branch : goal.longest_item-returns-after-loop-branch
 longest_item-returns-after-loop-branch t c =
@@ -41,6 +40,6 @@ longest_items-loop-item-preserved t c =
     let i = c.loop-item.item-index in
     let x = c.item-item.result in
     let so_far = map item_view (take i items) in
-    rw (map_take_more item_view items i x c.loop-item-test.true c.item-item.is, inside_more WHOLE_NOTE so_far (item_view x))
+    rw (map_take_more item_view items i x c.loop-item-test.true c.item-item.is, inside_more c.args.whole so_far (item_view x))
     (c.max-longest.ensures ∙ ap₂ max c.loop-item.invariant c.longest_item.ensures
-    ∙ capped_max (longest_inside WHOLE_NOTE (body_of so_far)) (longest_entry WHOLE_NOTE (item_view x).what))
+    ∙ capped_max (longest_inside c.args.whole (body_of so_far)) (longest_entry c.args.whole (item_view x).what))

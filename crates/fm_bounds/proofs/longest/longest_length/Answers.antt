@@ -1,6 +1,5 @@
 use Rattle.std.proofs.Common.{ap, ◌∙◌}
 use Rattle.fm_meaning.specs.Resolve.{length_ticks}
-use Rattle.fm_bounds.specs.declared.span.TheConstants.{WHOLE_NOTE}
 use Rattle.fm_bounds.specs.Saturation.{capped}
 use Rattle.fm_bounds.proofs.LongestLemmas.{greatest_step}
 use Rattle.fm_bounds.proofs.longest.longest_length.Goals as goal
@@ -8,5 +7,5 @@ use Rattle.fm_bounds.proofs.longest.longest_length.Goals as goal
 pub loop-length-preserved : goal.loop-length-preserved
 loop-length-preserved c =
     c.max-longest.ensures
-    ∙ greatest_step (length_ticks WHOLE_NOTE) c.args.lengths.now c.loop-length.length-index _ c.loop-length-test.true
+    ∙ greatest_step (length_ticks c.args.whole) c.args.lengths.now c.loop-length.length-index _ c.loop-length-test.true
     c.loop-length.invariant (c.cap.ensures ∙ ap capped c.ticks_of.ensures)

@@ -1,7 +1,6 @@
 use Rattle.std.proofs.Common.{take, map, ap₂, ◌∙◌, max, ◌∷◌, []}
 use Rattle.fm_grammar.specs.View.{entry_view}
 use Rattle.fm_meaning.specs.Resolve.{longest_of}
-use Rattle.fm_bounds.specs.declared.span.TheConstants.{WHOLE_NOTE}
 use Rattle.fm_bounds.proofs.SaturationLemmas.{capped_max}
 use Rattle.fm_bounds.proofs.WeightLemmas.{map_take_more}
 use Rattle.fm_bounds.proofs.LongestLemmas.{entries_more}
@@ -13,6 +12,6 @@ loop-entry-preserved c =
     let i = c.loop-entry.entry-index in
     let x = c.entry-item.result in
     let so_far = map entry_view (take i entries) in
-    rw (map_take_more entry_view entries i x c.loop-entry-test.true c.entry-item.is, entries_more WHOLE_NOTE so_far (entry_view x))
+    rw (map_take_more entry_view entries i x c.loop-entry-test.true c.entry-item.is, entries_more c.args.whole so_far (entry_view x))
     (c.max-longest.ensures ∙ ap₂ max c.loop-entry.invariant c.longest_in.ensures
-    ∙ capped_max (longest_of WHOLE_NOTE so_far) (longest_of WHOLE_NOTE (entry_view x ∷ [])))
+    ∙ capped_max (longest_of c.args.whole so_far) (longest_of c.args.whole (entry_view x ∷ [])))

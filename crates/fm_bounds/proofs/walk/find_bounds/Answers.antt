@@ -8,8 +8,8 @@ use Rattle.fm_bounds.proofs.walk.find_bounds.Goals as goal
 pub loop-entry-init : goal.loop-entry-init
 loop-entry-init c =
     begun (score_view c.args.score.now)
-    (record { longest = c.longest_rhythm.result; phrases = c.new.result; shapes = c.new-2.result })
-    (rw c.deref.ensures.value at c.longest_rhythm.ensures) c.new.ensures c.new-2.ensures c.requires
+    (record { rules = c.rules_of-rules.result; longest = c.longest_rhythm.result; phrases = c.new.result; shapes = c.new-2.result })
+    c.rules_of-rules.ensures.rules (rw c.deref.ensures.value at c.longest_rhythm.ensures) c.new.ensures c.new-2.ensures c.requires
 
 pub returns-in_err-enter-clause-refused : goal.returns-in_err-enter-clause-refused
 returns-in_err-enter-clause-refused c = λ why spot is.

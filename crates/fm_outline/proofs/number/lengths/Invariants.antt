@@ -4,4 +4,4 @@ use Rattle.fm_outline.proofs.number.lengths.Given as goal
 
 -- the entries so far
 abbrev pub invariant-loop-length : goal.invariant-loop-length
-invariant-loop-length l = l.entries.items ≡ map (length_ticks 1920) (take l.length-index l.list)
+invariant-loop-length l = l.entries.items ≡ map (length_ticks l.whole) (take l.length-index l.list)

@@ -29,7 +29,7 @@ outline_item-outline_note-requires-clause-pitches t c =
     ≡ tree.note (map pitch_view c.in-Note.pitches.items) (duration_view c.in-Note.duration)
     = note_is c.args.item.now c.in-Note.pitches c.in-Note.duration c.in-Note.is in
     rw c.deref.ensures.value
-    (note_pitches (map pitch_view c.in-Note.pitches.items) (duration_view c.in-Note.duration) (rw (← seen) c.requires))
+    (note_pitches {ticks = c.args.known.now.whole} (map pitch_view c.in-Note.pitches.items) (duration_view c.in-Note.duration) (rw (← seen) c.requires))
 
 pub outline_item-outline_note-requires-clause-duration :
     goal.outline_item-outline_note-requires-clause-duration
@@ -48,23 +48,23 @@ pub outline_item-outline_control-requires-clause-controller :
     goal.outline_item-outline_control-requires-clause-controller
 outline_item-outline_control-requires-clause-controller t c =
     let seen = control_is c.args.item.now c.in-Control.controller c.in-Control.amount c.in-Control.is in
-    control_number c.in-Control.controller (amount_view c.in-Control.amount) (rw (← seen) c.requires)
+    control_number {ticks = c.args.known.now.whole} c.in-Control.controller (amount_view c.in-Control.amount) (rw (← seen) c.requires)
 
 pub outline_item-outline_control-requires-clause-amount :
     goal.outline_item-outline_control-requires-clause-amount
 outline_item-outline_control-requires-clause-amount t c =
     let seen = control_is c.args.item.now c.in-Control.controller c.in-Control.amount c.in-Control.is in
-    control_amount c.in-Control.controller (amount_view c.in-Control.amount) (rw (← seen) c.requires)
+    control_amount {ticks = c.args.known.now.whole} c.in-Control.controller (amount_view c.in-Control.amount) (rw (← seen) c.requires)
 
 pub outline_item-outline_send-requires : goal.outline_item-outline_send-requires
 outline_item-outline_send-requires t c =
     let seen = program_is c.args.item.now c.in-Program.amount c.in-Program.is in
-    program_amount (amount_view c.in-Program.amount) (rw (← seen) c.requires)
+    program_amount {ticks = c.args.known.now.whole} (amount_view c.in-Program.amount) (rw (← seen) c.requires)
 
 pub outline_item-outline_send-requires-in-Bend : goal.outline_item-outline_send-requires-in-Bend
 outline_item-outline_send-requires-in-Bend t c =
     let seen = bend_is c.args.item.now c.in-Bend.amount c.in-Bend.is in
-    bend_amount (amount_view c.in-Bend.amount) (rw (← seen) c.requires)
+    bend_amount {ticks = c.args.known.now.whole} (amount_view c.in-Bend.amount) (rw (← seen) c.requires)
 
 pub outline_item-outline_items-requires : goal.outline_item-outline_items-requires
 outline_item-outline_items-requires t c =
@@ -72,7 +72,7 @@ outline_item-outline_items-requires t c =
     let b = items_view c.in-If.no.items in
     let seen : (item_view c.args.item.now).what ≡ tree.choice (expr_view c.in-If.test) a b
     = choice_is c.args.item.now c.in-If.test c.in-If.yes c.in-If.no c.in-If.is in
-    let inside : BodyInRange a = first_block (expr_view c.in-If.test) a b (rw (← seen) c.requires) in
+    let inside : BodyInRange c.args.known.now.whole a = first_block (expr_view c.in-If.test) a b (rw (← seen) c.requires) in
     (search (rules, the_lemmas), rw c.deref-in-If.ensures.value inside)
 
 pub outline_item-outline_items-requires-in-If : goal.outline_item-outline_items-requires-in-If
@@ -81,7 +81,7 @@ outline_item-outline_items-requires-in-If t c =
     let b = items_view c.in-If.no.items in
     let seen : (item_view c.args.item.now).what ≡ tree.choice (expr_view c.in-If.test) a b
     = choice_is c.args.item.now c.in-If.test c.in-If.yes c.in-If.no c.in-If.is in
-    let inside : BodyInRange b = second_block (expr_view c.in-If.test) a b (rw (← seen) c.requires) in
+    let inside : BodyInRange c.args.known.now.whole b = second_block (expr_view c.in-If.test) a b (rw (← seen) c.requires) in
     (search (rules, the_lemmas), rw c.deref-in-If-2.ensures.value inside)
 
 pub outline_item-outline_items-requires-in-Again :
@@ -90,7 +90,7 @@ outline_item-outline_items-requires-in-Again t c =
     let b = items_view c.in-Again.body.items in
     let seen : (item_view c.args.item.now).what ≡ tree.again (expr_view c.in-Again.count) c.in-Again.most b
     = again_is c.args.item.now c.in-Again.count c.in-Again.most c.in-Again.body c.in-Again.is in
-    let inside : BodyInRange b = again_body (expr_view c.in-Again.count) c.in-Again.most b (rw (← seen) c.requires) in
+    let inside : BodyInRange c.args.known.now.whole b = again_body (expr_view c.in-Again.count) c.in-Again.most b (rw (← seen) c.requires) in
     (search (rules, the_lemmas), rw c.deref-in-Again.ensures.value inside)
 
 pub outline_item-add_lengths-requires : goal.outline_item-add_lengths-requires
@@ -106,7 +106,7 @@ outline_item-outline_items-requires-in-Rhythm t c =
     let b = items_view c.in-Rhythm.body.items in
     let seen : (item_view c.args.item.now).what ≡ tree.rhythm c.in-Rhythm.list.items b
     = rhythm_is c.args.item.now c.in-Rhythm.list c.in-Rhythm.body c.in-Rhythm.is in
-    let inside : BodyInRange b = rhythm_body c.in-Rhythm.list.items b (rw (← seen) c.requires) in
+    let inside : BodyInRange c.args.known.now.whole b = rhythm_body c.in-Rhythm.list.items b (rw (← seen) c.requires) in
     (search (rules, the_lemmas), rw c.deref-in-Rhythm-2.ensures.value inside)
 
 pub outline_item-outline_items-requires-in-Artic :
@@ -115,7 +115,7 @@ outline_item-outline_items-requires-in-Artic t c =
     let b = items_view c.in-Artic.body.items in
     let seen : (item_view c.args.item.now).what ≡ tree.artic c.in-Artic.list.items b
     = artic_is c.args.item.now c.in-Artic.list c.in-Artic.body c.in-Artic.is in
-    let inside : BodyInRange b = artic_body c.in-Artic.list.items b (rw (← seen) c.requires) in
+    let inside : BodyInRange c.args.known.now.whole b = artic_body c.in-Artic.list.items b (rw (← seen) c.requires) in
     (search (rules, the_lemmas), rw c.deref-in-Artic-2.ensures.value inside)
 
 pub outline_item-outline_items-requires-in-Loud : goal.outline_item-outline_items-requires-in-Loud
@@ -123,7 +123,7 @@ outline_item-outline_items-requires-in-Loud t c =
     let b = items_view c.in-Loud.body.items in
     let seen : (item_view c.args.item.now).what ≡ tree.loud c.in-Loud.list.items b
     = loud_is c.args.item.now c.in-Loud.list c.in-Loud.body c.in-Loud.is in
-    let inside : BodyInRange b = loud_body c.in-Loud.list.items b (rw (← seen) c.requires) in
+    let inside : BodyInRange c.args.known.now.whole b = loud_body c.in-Loud.list.items b (rw (← seen) c.requires) in
     (search (rules, the_lemmas), rw c.deref-in-Loud-2.ensures.value inside)
 
 -- ---- statements
@@ -262,7 +262,7 @@ outline_item-returns-in_ok-body-in-Rhythm t c = λ k look knows.
     let ls = c.in-Rhythm.list.items in
     let seen : (item_view c.args.item.now).what ≡ tree.rhythm ls (items_view c.in-Rhythm.body.items)
     = rhythm_is c.args.item.now c.in-Rhythm.list c.in-Rhythm.body c.in-Rhythm.is in
-    let list : map (length_ticks 1920) c.deref-in-Rhythm.result.now ≡ map (length_ticks k.whole) ls
+    let list : map (length_ticks c.args.known.now.whole) c.deref-in-Rhythm.result.now ≡ map (length_ticks k.whole) ls
     = ap₂ (λ w l. map (length_ticks w) l) (sym knows.whole) c.deref-in-Rhythm.ensures.value in
     rw (
       seen,
@@ -270,7 +270,7 @@ outline_item-returns-in_ok-body-in-Rhythm t c = λ k look knows.
       ← list,
       ← c.deref-in-Rhythm-2.ensures.value,
     )
-    (under_numbered k meaning.duration (map (length_ticks 1920) c.deref-in-Rhythm.result.now) (items_view c.deref-in-Rhythm-2.result.now)
+    (under_numbered k meaning.duration (map (length_ticks c.args.known.now.whole) c.deref-in-Rhythm.result.now) (items_view c.deref-in-Rhythm-2.result.now)
     (block_view look c.in_ok-body-in-Rhythm.body.items) c.in_ok-list-in-Rhythm.list (tables_view c.args.tables.now)
     (tables_view c.add_lengths.new.tables) (tables_view c.outline_items-in-Rhythm.new.tables)
     c.in_ok-list-in-Rhythm.ensures.at c.in_ok-list-in-Rhythm.ensures.added
@@ -325,9 +325,9 @@ outline_item-outline_items-requires-in-loop-branch t c =
     let branches = c.deref-branch-items.result.now in
     let seen : (item_view c.args.item.now).what ≡ tree.par (branches_of (map view branches))
     = search (rules, the_lemmas, map_twice, c.deref-branch-items.ensures.value) in
-    let all : BranchesInRange (branches_of (map view branches))
+    let all : BranchesInRange c.args.known.now.whole (branches_of (map view branches))
     = par_branches (branches_of (map view branches)) (rw (← seen) c.requires) in
-    let inside : BodyInRange (items_view c.branch-item.result.items)
+    let inside : BodyInRange c.args.known.now.whole (items_view c.branch-item.result.items)
     = branch_at view branches all c.loop-branch.branch-index c.branch-item.result c.loop-branch-test.true
     c.branch-item.is in
     (search (rules, the_lemmas), rw c.deref-in-loop-branch.ensures.value inside)
@@ -366,7 +366,7 @@ outline_items-loop-item-init t c = λ k look knows. search rules
 
 pub outline_items-outline_item-requires : goal.outline_items-outline_item-requires
 outline_items-outline_item-requires t c =
-    let inside : StmtInRange (item_view c.item-item.result).what
+    let inside : StmtInRange c.args.known.now.whole (item_view c.item-item.result).what
     = item_at c.args.items.now c.requires c.loop-item.item-index c.item-item.result c.loop-item-test.true
     c.item-item.is in
     (search (rules, the_lemmas), inside)

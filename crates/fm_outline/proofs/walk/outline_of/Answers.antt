@@ -1,6 +1,7 @@
-use Rattle.std.proofs.Common.{◌+◌, map, drop}
+use Rattle.std.proofs.Common.{◌+◌, map, drop, ap}
 use Rattle.std.specs.Prelude.{vec_items}
 use Rattle.fm_grammar.specs.View.{entry_view, score_view}
+use Rattle.fm_meaning.specs.Rules.{VersionRules}
 use Rattle.fm_outline.specs.View.{tables_view}
 use Rattle.fm_outline.proofs.WalkLemmas.{begun, at_entry, ends_as_outline, phrases_stand}
 use Rattle.fm_outline.proofs.walk.outline_of.Goals as goal
@@ -8,8 +9,9 @@ use Rattle.fm_outline.proofs.walk.outline_of.Goals as goal
 pub loop-entry-init : goal.loop-entry-init
 loop-entry-init c =
     rw (c.new-5.ensures.items, c.new-6.ensures.items)
-    (begun (score_view c.args.score.now) (record { shapes = c.new.result; phrases = c.new-2.result; forking = c.new-3.result })
-    (tables_view c.new-4.result) c.new.ensures c.new-2.ensures c.new-4.ensures c.requires)
+    (begun (score_view c.args.score.now) (record { whole = c.rules_of-rules.result.whole_note; shapes = c.new.result; phrases = c.new-2.result; forking = c.new-3.result })
+    (tables_view c.new-4.result) c.new.ensures c.new-2.ensures c.new-4.ensures
+    (ap VersionRules.whole_note c.rules_of-rules.ensures.rules) c.requires)
 
 pub enter-requires : goal.enter-requires
 enter-requires c =

@@ -18,8 +18,8 @@ returns-in_ok-add_shape-in-Shape-clause-ok c = λ score rest r.
     let seen : entry_view c.args.entry.now ≡ tree.shape (name_view c.in-Shape.name) c.deref.result.now = search rules in
     shape_reached score c.args.self.now c.add_shape.new.self (name_view c.in-Shape.name) c.deref.result.now rest
     (subst (λ e. Reached score c.args.self.now (e ∷ rest)) seen r)
-    (λ longest known stands.
-    c.in_ok-add_shape-in-Shape.ensures longest known c.deref.result.now c.in_ok-warp-in-Shape.ensures stands)
+    c.in_ok-add_shape-in-Shape.ensures.rules (λ longest known stands.
+    c.in_ok-add_shape-in-Shape.ensures.stands longest known c.deref.result.now c.in_ok-warp-in-Shape.ensures stands)
 
 pub returns-in_ok-add_phrase-in-Phrase-clause-ok : goal.returns-in_ok-add_phrase-in-Phrase-clause-ok
 returns-in_ok-add_phrase-in-Phrase-clause-ok c = λ score rest r.
@@ -27,7 +27,7 @@ returns-in_ok-add_phrase-in-Phrase-clause-ok c = λ score rest r.
     let seen : entry_view c.args.entry.now ≡ tree.phrase (name_view c.in-Phrase.name) body = search rules in
     phrase_reached score c.args.self.now c.add_phrase.new.self (name_view c.in-Phrase.name) body rest
     (subst (λ e. Reached score c.args.self.now (e ∷ rest)) seen r)
-    (λ longest known stands. c.in_ok-add_phrase-in-Phrase.ensures longest known stands)
+    c.in_ok-add_phrase-in-Phrase.ensures.rules c.in_ok-add_phrase-in-Phrase.ensures.stands
 
 pub returns-in-Play-clause-refused : goal.returns-in-Play-clause-refused
 returns-in-Play-clause-refused c = λ why spot is score rest r.

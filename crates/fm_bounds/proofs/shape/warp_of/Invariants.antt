@@ -1,8 +1,0 @@
-use Rattle.std.proofs.Common.{◌≡◌, take, map}
-use Rattle.fm_meaning.specs.Resolve.{part_of}
-use Rattle.fm_bounds.specs.declared.span.TheConstants.{WHOLE_NOTE}
-use Rattle.fm_bounds.proofs.shape.warp_of.Given as goal
-
--- the parts so far
-abbrev pub invariant-loop-part : goal.invariant-loop-part
-invariant-loop-part l = l.warp ≡ map (part_of WHOLE_NOTE) (take l.part-index l.parts)

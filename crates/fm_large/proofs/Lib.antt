@@ -1,0 +1,11 @@
+mod NumberTokens
+mod Text
+mod Forms
+mod ScoreForm
+mod Reading
+mod Clear
+mod Ends
+mod Totals
+mod Sounds
+mod Performance
+mod Rows

@@ -1,0 +1,9 @@
+pub mod Channels
+pub mod Counts
+pub mod Passing
+pub mod PushLemmas
+pub mod SplitLemmas
+pub mod Rising
+pub mod TallyLemmas
+pub mod TestFiles
+mod Rows

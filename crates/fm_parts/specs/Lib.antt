@@ -1,0 +1,9 @@
+pub use Rattle.fm_edge.specs.Causes
+pub use Rattle.fm_edge.specs.Content
+pub use Rattle.fm_edge.specs.Runs
+pub use Rattle.fm_msg.specs.Event
+pub use Rattle.fm_msg.specs.Message
+pub use Rattle.fm_read.specs.WrittenFile
+pub mod Format1
+pub mod Gathered
+pub mod Tally

@@ -1,0 +1,77 @@
+//! Bytes on their way to a sink, gathered to pieces.
+ghost use Rattle.std.specs.Prelude.{◌≡◌, ◌++◌, ◌<◌, [], ◌∷◌, OnOk, OnErr};
+ghost use Rattle.fm_edge.specs.Runs.{Puts, Breaks};
+ghost use Rattle.fm_parts.specs.Gathered.{Passes};
+
+use arrayvec::ArrayVec;
+use fm_edge::{Failed, Sink};
+use std::marker::Model;
+
+/// How many bytes a piece has.
+pub const PIECE_LENGTH: usize = 4096;
+
+/// The bytes that were not put yet, fewer than a piece.
+#[derive(Drop)]
+pub struct Gatherer {
+    bytes: ArrayVec<u8, 4096>,
+}
+
+impl Model for Gatherer {
+    ghost use Rattle.std.specs.Prelude.{◌<◌, List, ℕ};
+    ghost use Rattle.arrayvec.specs.ArrayVec.{array_vec_len};
+    ghost use Rattle.fm_parts.specs.declared.gatherer.TheConstants.{PIECE_LENGTH};
+
+    ghost Value = { List ℕ };
+
+    ghost view = { λ g. g.bytes.items };
+
+    ghost invariant = { λ g. array_vec_len g.bytes < PIECE_LENGTH };
+}
+
+impl Gatherer {
+    /// Nothing is gathered.
+    pub fn new() -> Gatherer
+        ensures { result ≡ [] }
+    {
+        Gatherer {
+            bytes: ArrayVec::new(),
+        }
+    }
+
+    // Takes a byte more, and puts the piece that is full with it.
+    fn push<K: Sink>(&mut self, byte: u8, sink: &mut K) -> Result<(), Failed>
+        ensures ok { OnOk result (Passes K.content K.sure K.faults
+            sink.old sink.new self.old self.new (byte ∷ [])) }
+        ensures err { OnErr result (Breaks K.content K.sure K.faults
+            sink.old sink.new (self.old ++ byte ∷ [])) }
+    {
+        self.bytes.push(byte);
+        if self.bytes.len() < PIECE_LENGTH {
+            return Ok(());
+        }
+        let put = sink.put(self.bytes.as_slice());
+        self.bytes.clear();
+        put
+    }
+
+    /// Takes these bytes, and puts each piece that is full with them.
+    pub fn push_all<K: Sink>(&mut self, bytes: &[u8], sink: &mut K) -> Result<(), Failed>
+        ensures ok { OnOk result (Passes K.content K.sure K.faults
+            sink.old sink.new self.old self.new bytes.now) }
+        ensures err { OnErr result (Breaks K.content K.sure K.faults
+            sink.old sink.new (self.old ++ bytes.now)) }
+    {
+        for byte in bytes {
+            self.push(*byte, sink)?;
+        }
+        Ok(())
+    }
+
+    /// Puts what is gathered.
+    pub fn finish<K: Sink>(self, sink: &mut K) -> Result<(), Failed>
+        ensures ok { OnOk result (Puts K.content K.sure K.faults sink.old sink.new self) }
+        ensures err { OnErr result (Breaks K.content K.sure K.faults sink.old sink.new self) }
+    {
+        sink.put(self.bytes.as_slice())
+    }
+}

@@ -1,0 +1,14 @@
+use Rattle.std.proofs.Common.{◌≡◌, ◌≤◌, length}
+use Rattle.fm_read.specs.Files.{tracks}
+use Rattle.fm_read.specs.Kept.{joined_parts}
+use Rattle.fm_read.proofs.chunk.Chunks.next_track.Given as goal
+
+abbrev pub invariant-loop-chunk : goal.invariant-loop-chunk
+invariant-loop-chunk l = record {
+  same : tracks l.self ≡ tracks l.initial.self;
+  within : length (joined_parts l.self) ≤ length (joined_parts l.initial.self);
+  fewer : length l.self ≤ length l.initial.self;
+}
+
+abbrev pub decreases-loop-chunk : goal.decreases-loop-chunk
+decreases-loop-chunk l = length l.self

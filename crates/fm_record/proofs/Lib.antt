@@ -1,0 +1,5 @@
+pub mod ReadingLemmas
+pub mod StepLemmas
+pub mod HeadLemmas
+pub mod TapeLemmas
+mod Rows

@@ -1,0 +1,4 @@
+pub mod StepBytes
+pub mod Reading
+pub mod Head
+pub mod Recording

@@ -1,0 +1,112 @@
+//! A tape with steps of all kinds, the record that it is, and heads that cannot stand.
+
+ghost use Rattle.std.specs.Prelude.{◌≡◌, ◌≤◌, length};
+
+use super::*;
+use std::alloc::{AllocError, Global};
+use std::test::Fail;
+
+/// What stands before the steps: 3 seats, room 32, lead 7,680, and the text `formula 1;`.
+const HEAD: [u8; 24] = *b"FMR1\x03\x20\0\0\x1E\0\0\0\0\x0Aformula 1;";
+
+/// A step of each kind, one after the other.
+const STEPS: [u8; 42] = [
+    1, 1, 1, 2, 2, 16, 63, 255, 3, 3, 4, 5, 4, 0, 0, 7, 5, 2, 1, 0, 6, 16, 63, 255, 64, 1, 44, 1,
+    0, 0, 0, 0, 0, 1, 7, 8, 3, 9, 1, 2, 3, 4,
+];
+
+const GIVE: Step = Step::Give {
+    seat: 16,
+    process: 16_383,
+    taken: 64,
+    computed: 300,
+    clock: 1_099_511_627_776,
+    ended: true,
+};
+
+// A tape with a step of each kind.
+fn filled(alloc: Global) -> Result<Tape, AllocError> {
+    let mut tape = Tape::new(alloc, 3, 32, 7_680, b"formula 1;")?;
+    push_pairs(&mut tape)?;
+    tape.push(&Step::Give {
+        seat: 16,
+        process: 16_383,
+        taken: 64,
+        computed: 300,
+        clock: 1_099_511_627_776,
+        ended: true,
+    })?;
+    tape.push(&Step::Publish)?;
+    tape.push(&Step::Pace { seat: 3 })?;
+    tape.push(&Step::Release { count: 0x0102_0304 })?;
+    Ok(tape)
+}
+
+// The kinds that name a seat and a process.
+fn push_pairs(tape: &mut Tape) -> Result<(), AllocError> {
+    tape.push(&Step::Look {
+        seat: 1,
+        process: 258,
+    })?;
+    tape.push(&Step::Claim {
+        seat: 16,
+        process: 16_383,
+    })?;
+    tape.push(&Step::Start {
+        seat: 3,
+        process: 1_029,
+    })?;
+    tape.push(&Step::Record {
+        seat: 0,
+        process: 7,
+    })?;
+    tape.push(&Step::Recall {
+        seat: 2,
+        process: 256,
+    })
+}
+
+#[test]
+fn a_tape_is_a_record(rt: HostRuntime) -> Result<(), Fail> {
+    let tape = filled(rt.alloc())?;
+    assert!(rt; !tape.is_short());
+    assert_eq!(rt; tape.steps(), STEPS.as_slice());
+    let bytes = tape.bytes();
+    assert_eq!(rt; bytes.len(), 66);
+    let reel = header(bytes).map_err(|_| "header")?;
+    assert_eq!(rt; &bytes[..24], HEAD.as_slice());
+    assert_eq!(rt; (reel.seats, reel.room, reel.lead), (3, 32, 7_680));
+    assert_eq!(rt; reel.text, b"formula 1;".as_slice());
+    assert_eq!(rt; reel.steps, STEPS.as_slice());
+    Ok(())
+}
+
+#[test]
+fn a_step_is_read_from_the_front(rt: HostRuntime) {
+    assert_eq!(rt; read_step(&STEPS[20..]), Some((GIVE, 14)));
+    assert_eq!(rt; read_step(&STEPS[34..]), Some((Step::Publish, 1)));
+    assert_eq!(rt; read_step(&STEPS[37..41]), None);
+}
+
+/// Bytes, and the place of the first field that cannot stand.
+const HEADS: &[(&[u8], u32)] = &[
+    (b"", 0),
+    (b"FMR", 0),
+    (b"FMR2\x03", 0),
+    (b"FMR1\x12", 4),
+    (b"FMR1\x11\x41", 5),
+    (b"FMR1\x11\x40\0\x0F\x42\x41", 6),
+    (b"FMR1\x11\x40\0\x0F\x42\x40\0\x10\0\x01", 10),
+    (b"FMR1\x01\x01\0\0\0\0\0\0\0\x0Aformula 1", 10),
+];
+
+#[test]
+fn the_first_field_that_cannot_stand_is_told(rt: HostRuntime) {
+    for (bytes, place) in HEADS {
+        if bytes.len() > MAX_RECORD {
+            continue;
+        }
+        let told = header(bytes).map(|reel| reel.room);
+        assert_eq!(rt; told, Err(BadHeader { place: *place }));
+    }
+}
