@@ -17,12 +17,20 @@ def find_program(program: Optional[str] = None) -> Optional[str]:
     return program or os.environ.get("FORMULA") or shutil.which("formula")
 
 
+def _option(name: str, number: int) -> list[str]:
+    word = f"--{name.rstrip('_')}"
+    if isinstance(number, bool):
+        return [word] if number else []
+    return [word, str(number)]
+
+
 def play(text: Union[str, bytes], path: Union[str, os.PathLike[str]], program: Optional[str] = None,
          **options: int) -> None:
-    """Lets the command play a text into the file `path`, with `workers=`, `lead=` or `room=` as options.
+    """Lets the command play a text into the file `path`, with its options: `workers=0`, `parts=True` for one without
+    a number, `from_=480`.
 
     A text that has a fault raises `Refused`, with the place and the meaning; any other end above 0 a `CommandError`.
-    Then the file is what README says of that status: at 1, 2, 3 and 6 as it was.
+    Then the file is what README says of that status: at 1, 2, 3, 6 and 7 as it was.
     """
     command = find_program(program)
     if command is None:
@@ -32,7 +40,7 @@ def play(text: Union[str, bytes], path: Union[str, os.PathLike[str]], program: O
     try:
         with os.fdopen(handle, "wb") as file:
             file.write(data)
-        words = [word for name, number in options.items() for word in (f"--{name}", str(number))]
+        words = [word for name, number in options.items() for word in _option(name, number)]
         words += ["--", source, os.fspath(path)]
         try:
             run = subprocess.run([command, *words], stdin=subprocess.DEVNULL, stdout=subprocess.PIPE,

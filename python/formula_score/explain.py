@@ -15,10 +15,14 @@ import sys
 import unicodedata
 from typing import NamedTuple, Optional, Sequence
 
-from .faults import FAULTS, slip_at
+from .faults import FAULTS, FILE_FAULTS, slip_at
 from .words import USAGE, read
 
 MOST_BYTES = 1_048_576
+#: The tasks of which OUT may be a pipe, since nothing in it is written over.
+PIPED = ("--list", "--parts")
+#: How many bytes of a file are shown before a place, and from it on.
+BYTES_SHOWN = 12
 #: The greatest part of a long line that is shown before the place, and from it on, in characters.
 SHOWN = 60
 
@@ -35,6 +39,39 @@ def place_of(said: str) -> Optional[Place]:
     """The place and the number that the command's line tells of a refused text."""
     found = re.fullmatch(r"formula: score refused: ([0-9]+):([0-9]+) fault ([0-9]+)\n?", said)
     return Place(*map(int, found.groups())) if found else None
+
+
+class FilePlace(NamedTuple):
+    """Where the first fault of a file stands, a byte counted from 0; and its number."""
+
+    byte: int
+    number: int
+
+
+def file_place_of(said: str) -> Optional[FilePlace]:
+    """The place and the number that the command's line tells of a refused file."""
+    found = re.fullmatch(r"formula: file refused: byte ([0-9]+) fault ([0-9]+)\n?", said)
+    return FilePlace(*map(int, found.groups())) if found else None
+
+
+def bytes_round(data: bytes, place: int) -> str:
+    """Some bytes round a place as hexadecimal digits, behind the place of the first one; and a caret under it."""
+    first = max(0, place - BYTES_SHOWN)
+    gutter = f"{first} | "
+    digits = data[first:place + BYTES_SHOWN].hex(" ").upper()
+    return f"{gutter}{digits}".rstrip() + f"\n{' ' * (len(gutter) - 2)}| {' ' * 3 * (place - first)}^^"
+
+
+def file_refusal(name: str, place: FilePlace) -> str:
+    """What a refused file is told: the byte, those round it with a caret, what it means, what to do."""
+    fault = FILE_FAULTS.get(place.number)
+    if fault is None:
+        return f"{name}: byte {place.byte}: fault {place.number}"
+    parts = [f"{name}: byte {place.byte}: {fault.means} (fault {fault.number})"]
+    data = _bytes_of(name, place.byte + BYTES_SHOWN) if fault.number != 35 else None
+    if data:
+        parts.append(bytes_round(data, place.byte))
+    return "\n".join([*parts, fault.do])
 
 
 def excerpt(text: bytes, place: Place) -> str:
@@ -81,14 +118,19 @@ def explanation(status: int, said: str, words: Sequence[str]) -> str:
     if status == 2:
         return f"{source!r} cannot be read: {_why_unread(source)}"
     if status == 3:
-        place = place_of(said)
-        return refusal(source, _text_of(source), place) if place else ""
+        place, file_place = place_of(said), file_place_of(said)
+        if file_place:
+            return file_refusal(source, file_place)
+        return refusal(source, _bytes_of(source, MOST_BYTES + 1), place) if place else ""
     if status == 4:
-        return f"{target!r} cannot be written: {_why_unwritten(target)}"
+        return f"{target!r} cannot be written: {_why_unwritten(target, asked.task in PIPED)}"
     if status == 5:
         return "the line could not be written to standard output" + (f": {said.strip()}" if said else "")
     if status == 6:
         return "there is too little memory; nothing was written"
+    if status == 7:
+        return (f"there is no process {asked.numbers.get('--process', 0)}: 0 is what stands before the first `par`, and "
+                "each branch and what follows a `par` is one more, numbered as they stand in the text")
     return ""
 
 
@@ -102,13 +144,13 @@ def _columns(c: str) -> int:
     return 2 if unicodedata.east_asian_width(c) in "WF" else 1
 
 
-def _text_of(name: str) -> Optional[bytes]:
-    """The text once more: of a plain file alone, since a pipe has given it away."""
+def _bytes_of(name: str, most: int) -> Optional[bytes]:
+    """What was read once more: of a plain file alone, since a pipe has given it away."""
     try:
         if not stat.S_ISREG(os.stat(name).st_mode):
             return None
         with open(name, "rb") as file:
-            return file.read(MOST_BYTES + 1)
+            return file.read(most)
     except (OSError, ValueError):
         return None
 
@@ -124,7 +166,7 @@ def _why_unread(name: str) -> str:
     return "it could not be read to its end, though it can be opened now"
 
 
-def _why_unwritten(name: str) -> str:
+def _why_unwritten(name: str, piped: bool) -> str:
     if not name:
         return "it has no name"
     if os.path.isdir(name):
@@ -136,7 +178,7 @@ def _why_unwritten(name: str) -> str:
             return os.strerror(errno.EACCES)
         if not os.path.exists(name) and not os.access(folder, os.W_OK | os.X_OK):
             return f"{os.strerror(errno.EACCES)}: the folder {folder!r} may not be written to"
-        if os.path.exists(name) and not stat.S_ISREG(os.stat(name).st_mode):
+        if not piped and os.path.exists(name) and not stat.S_ISREG(os.stat(name).st_mode):
             return ("it is no plain file: the length of the track is written last, so OUT must be a file that "
                     "can be sought in, on a device with room")
         room = os.statvfs(folder)

@@ -1,5 +1,5 @@
-"""What the command's refusals mean: the one table behind `scripts/formula`, this library's
-exceptions and the tables of docs/LANGUAGE.md (which `scripts/pages` writes)."""
+"""What the command's refusals mean: the tables behind `scripts/formula`, this library's exceptions
+and those of docs/LANGUAGE.md and docs/MIDI_FILE.md (which `scripts/pages` writes)."""
 
 from __future__ import annotations
 
@@ -8,7 +8,7 @@ from typing import NamedTuple, Optional
 
 
 class Fault(NamedTuple):
-    """A fault of a text, by its number."""
+    """A fault of a text or of a file, by its number."""
 
     number: int
     means: str
@@ -72,6 +72,41 @@ FAULTS = {fault.number: fault for fault in (
     Fault(16, "more than 4,000,000 events", "the same", "repeat less"),
     Fault(17, "more than 16,777,216 steps", "the same", "repeat less"),
     Fault(18, "more than 1,048,576 bytes", "1:1", "shorten the text; use phrases and loops"),
+)}
+
+#: Of a file that is read, with `--list`; places are bytes, counted from 0.
+FILE_FAULTS = {fault.number: fault for fault in (
+    Fault(21, "the bytes begin with `RIFF`: a wrapper (RMID) stands around the file", "0",
+          "take the `data` chunk out of the wrapper; most players save a plain file"),
+    Fault(22, "the bytes begin otherwise than with `MThd`", "0",
+          "check the name: it is another kind of file, an empty one, or a compressed one"),
+    Fault(23, "the bytes end too early: a chunk passes the end of the file, or an event the end of its track", "that end",
+          "copy or download the file again; where the program that wrote it was stopped, write it again"),
+    Fault(24, "the header says a length below 6", "4",
+          "save the file again with another program"),
+    Fault(25, "the format is 2, of tracks that play one after another", "8",
+          "export the patterns as files of format 0 or 1, one each"),
+    Fault(26, "the format is above 2", "8",
+          "look for a damaged header; there is no such format"),
+    Fault(27, "the division counts frames of SMPTE time", "12",
+          "export with ticks (PPQ) as the time base"),
+    Fault(28, "bit 7 is set in the fourth byte of a delta-time or a length", "that byte",
+          "look for a damaged byte shortly before; in a sound file no quantity has five bytes"),
+    Fault(29, "a status byte `F1` to `F6` or `F8` to `FE`, which no file has", "that byte",
+          "it is a stream as it comes from a cable: record it with a program that writes files"),
+    Fault(30, "a data byte or the type of a meta event is above `7F`", "that byte",
+          "look for a message cut short before it"),
+    Fault(31, "a data byte where no status is in force: at the start of a track, or behind a sysex or meta event",
+          "that byte",
+          "let the program that wrote it write all status bytes (no running status)"),
+    Fault(32, "a track ends without End of Track", "the track's end",
+          "save the file again; a track of length 0 is left where a run of `formula` ended with status 4"),
+    Fault(33, "a byte follows End of Track", "that byte",
+          "save the file again: the track's length is too great, or two tracks were joined"),
+    Fault(34, "no chunk is a track", "the file's end",
+          "save the file again with a track"),
+    Fault(35, "more than 33,554,432 bytes came, which is tested before all else", "0",
+          "save the file without what is no music, as samples in sysex events, or some of its tracks at a time"),
 )}
 
 _PITCH = r"[a-g][sb]?[0-9]\b"

@@ -3,20 +3,34 @@
 from __future__ import annotations
 
 import re
-from typing import NamedTuple, Optional, Sequence
+from typing import Mapping, NamedTuple, Optional, Sequence
 
-USAGE = "usage: formula IN OUT [--workers N] [--lead T] [--room K] [--generate N] [--rounds]"
+USAGE = ("usage: formula IN OUT [--workers N] [--lead T] [--room K] [--generate N] [--rounds] [--list] "
+         "[--locate T] [--process P] [--parts] [--from A] [--to B]")
 
 #: The least and the greatest number of each option that has one.
-RANGES = {"--workers": (0, 16), "--lead": (0, 1_000_000), "--room": (1, 64), "--generate": (0, 999_999_999)}
+RANGES = {"--workers": (0, 16), "--lead": (0, 1_000_000), "--room": (1, 64), "--generate": (0, 999_999_999),
+          "--locate": (0, 1_099_511_627_776), "--process": (0, 16_383), "--from": (0, 1_099_511_627_776), "--to": (0, 1_099_511_627_776)}
+
+#: The options without a number.
+FLAGS = ("--rounds", "--list", "--parts")
+
+#: The options that ask for something else than a file of the score, the one that counts first.
+TASKS = ("--list", "--locate", "--parts", "--from", "--to")
 
 
 class Words(NamedTuple):
-    """What a list of words says: the files, the options, and the first thing that is wrong."""
+    """What a list of words says: the files, the options and their numbers, and the first thing that is wrong."""
 
     files: tuple[str, ...]
     options: tuple[str, ...]
     wrong: Optional[str]
+    numbers: Mapping[str, int]
+
+    @property
+    def task(self) -> Optional[str]:
+        """The option of `TASKS` that counts; None where the score is played."""
+        return next((each for each in TASKS if each in self.options), None)
 
 
 def _number_fault(option: str, value: str) -> Optional[str]:
@@ -33,6 +47,7 @@ def read(words: Sequence[str]) -> Words:
     files: list[str] = []
     options: list[str] = []
     wrong: list[str] = []
+    numbers: dict[str, int] = {}
     left = list(words)
     while left:
         word = left.pop(0)
@@ -45,15 +60,15 @@ def read(words: Sequence[str]) -> Words:
             files.append(word)
         else:
             name, equals, value = word.partition("=")
-            if name != "--rounds" and name not in RANGES:
+            if name not in FLAGS and name not in RANGES:
                 wrong.append(f"there is no option '{name}'")
                 continue
             if name in options:
                 wrong.append(f"{name} is given twice")
             options.append(name)
-            if name == "--rounds":
+            if name in FLAGS:
                 if equals:
-                    wrong.append("--rounds takes no value")
+                    wrong.append(f"{name} takes no value")
                 continue
             if not equals:
                 if not left or left[0].startswith("-"):
@@ -63,6 +78,8 @@ def read(words: Sequence[str]) -> Words:
             fault = _number_fault(name, value)
             if fault:
                 wrong.append(fault)
+            else:
+                numbers[name] = int(value)
     if not all(map(_is_text, files)):
         wrong.append("a word is no text in UTF-8")
     if len(files) < 2:
@@ -70,7 +87,7 @@ def read(words: Sequence[str]) -> Words:
                      else "IN and OUT are missing")
     elif len(files) > 2:
         wrong.append(f"'{files[2]}' is a third file, and there are IN and OUT alone")
-    return Words(tuple(files), tuple(options), wrong[0] if wrong else None)
+    return Words(tuple(files), tuple(options), wrong[0] if wrong else None, numbers)
 
 
 def _is_text(word: str) -> bool:

@@ -1,10 +1,14 @@
 """The table of slips, and what is told of words and places."""
 
 import pathlib
+import re
+import tempfile
 import unittest
 
-from formula_score.explain import excerpt, explanation, place_of, refusal, Place
-from formula_score.faults import FAULTS, SLIPS, slip_at
+from formula_score.explain import (
+    FilePlace, Place, bytes_round, excerpt, explanation, file_place_of, file_refusal, place_of, refusal,
+)
+from formula_score.faults import FAULTS, FILE_FAULTS, SLIPS, slip_at
 from formula_score.words import read
 
 from .program import TOP, needs_program, run
@@ -19,7 +23,10 @@ REFUSED = (
     "--help", "a|b|--help", "a|b|-h", "a|b|--version", "a|b|-V", "a|b|--lea|5", "a|b|-w|5", "a|b|--ROUNDS",
     "a|b|-rounds", "a|b|--generate", "a|b|--generate=", "a|b|--generate|--rounds", "a|b|--generate|1000000000",
     "a|b|--generate|-1", "a|b|--generate|5|--generate|5", "a|b|--gen|5", "a|--generate|5", "-5|b", "a|b|--=5",
-    "a|b|---", "--|a|b|--", "a|b|c", "a", "a|\udcff",
+    "a|b|---", "--|a|b|--", "a|b|c", "a", "a|\udcff", "a|b|--list|--list", "a|b|--list=", "a|b|--parts=1",
+    "a|b|--list|1", "a|b|--parts|--parts", "a|b|--LIST", "a|--list", "a|b|--locate", "a|b|--locate|--list",
+    "a|b|--locate|1099511627777", "a|b|--process|16384", "a|b|--process|-1", "a|b|--locate|5|--locate=5",
+    "a|b|--from", "a|b|--from|1099511627777", "a|b|--to|-1", "a|b|--to|5|--to|5", "a|b|--from|--to|5",
 )
 TAKEN = (
     ("a|b", "a", "b"), ("a|b|--rounds", "a", "b"), ("a|b|--lead|+5", "a", "b"), ("a|b|--lead|007", "a", "b"),
@@ -28,6 +35,9 @@ TAKEN = (
     ("--lead=+5|a|--rounds|--workers|007|--|-b", "a", "-b"), ("|b", "", "b"), ("-|b", "-", "b"), ("--|a|b", "a", "b"),
     ("a|b|--", "a", "b"), ("--|--|b", "--", "b"), ("--|a|--", "a", "--"), ("--|--lead|5", "--lead", "5"),
     ("a|--rounds|--generate|124|b|--workers|0", "a", "b"), ("--|--generate|5", "--generate", "5"),
+    ("a|b|--list", "a", "b"), ("--parts|a|--list|b|--generate|0", "a", "b"), ("--|--list|--parts", "--list", "--parts"),
+    ("a|b|--locate=1099511627776|--process|007", "a", "b"), ("--process=16383|a|b", "a", "b"),
+    ("a|b|--from|0|--to=1099511627776", "a", "b"), ("--to|7|a|b", "a", "b"),
 )
 
 
@@ -37,7 +47,15 @@ class Words(unittest.TestCase):
             self.assertIsNotNone(read(line.split("|")).wrong, line)
         self.assertIsNotNone(read([]).wrong)
         for line, source, target in TAKEN:
-            self.assertEqual(read(line.split("|"))[::2], ((source, target), None), line)
+            asked = read(line.split("|"))
+            self.assertEqual((asked.files, asked.wrong), ((source, target), None), line)
+
+    def test_the_task_that_counts(self):
+        for line, task in (("a|b|--rounds", None), ("a|b|--parts|--list", "--list"), ("a|b|--parts", "--parts"),
+                           ("a|b|--process|1", None), ("a|b|--parts|--locate|1", "--locate"),
+                           ("a|b|--to|1|--from|2", "--from"), ("a|b|--to|1", "--to"), ("a|b|--to|1|--parts", "--parts")):
+            self.assertEqual(read(line.split("|")).task, task, line)
+        self.assertEqual(read("a|b|--locate|+60|--process=007".split("|")).numbers, {"--locate": 60, "--process": 7})
 
     def test_the_first_wrong_word_is_told(self):
         self.assertEqual(read("a|b|--lea|5|--room|0".split("|")).wrong, "there is no option '--lea'")
@@ -72,11 +90,36 @@ class Places(unittest.TestCase):
                                       f"(fault {place.number})")
             self.assertEqual(len(told), 4, console)
 
+    def test_each_refused_file_is_explained(self):
+        names = sorted(pathlib.Path(TOP, "examples", "files", "refused").glob("*.console"))
+        places = [file_place_of(name.read_text()) for name in names]
+        self.assertEqual({place.number for place in places}, set(FILE_FAULTS) - {35})
+        with tempfile.NamedTemporaryFile() as file:
+            for name, place in zip(names, places):
+                digits = re.sub(r"#.*", "", name.with_suffix(".hex").read_text())
+                pathlib.Path(file.name).write_bytes(bytes.fromhex(digits))
+                told = file_refusal(file.name, place).split("\n")
+                fault = FILE_FAULTS[place.number]
+                self.assertEqual(told[0], f"{file.name}: byte {place.byte}: {fault.means} (fault {fault.number})")
+                self.assertEqual((told[-1], len(told)), (fault.do, 4 if digits.strip() else 2), name)
+
+    def test_the_caret_stands_under_the_byte(self):
+        rows = (
+            (b"MThd", 0, "0 | 4D 54 68 64\n  | ^^"),
+            (bytes(range(40)), 20, "8 | " + bytes(range(8, 32)).hex(" ").upper() + "\n  | " + 36 * " " + "^^"),
+            (bytes(3), 3, "0 | 00 00 00\n  |          ^^"),
+        )
+        for data, place, lines in rows:
+            self.assertEqual(bytes_round(data, place), lines)
+        self.assertEqual(file_place_of("formula: file refused: byte 0 fault 35\n"), FilePlace(0, 35))
+        self.assertIsNone(file_place_of("formula: score refused: 1:1 fault 18"))
+
     def test_other_statuses(self):
         missing = str(TOP / "examples" / "none.score")
         self.assertEqual(explanation(0, "", ["a", "b"]), "")
         self.assertIn("No such file", explanation(2, "formula: read fault", [missing, "b"]))
         self.assertIn("Is a directory", explanation(4, "formula: write fault", ["a", str(TOP)]))
+        self.assertIn("no process 3", explanation(7, "formula: no such process", "a b --locate 1 --process 3".split()))
 
 
 class Slips(unittest.TestCase):

@@ -50,6 +50,8 @@ class Readme(unittest.TestCase):
             Score(note("c4", "1/4")).play(out, PROGRAM, workers=0)
             self.assertEqual(out.read_bytes().hex(), "4d546864000000060000000101e04d54726b0000001400ff510307a120"
                                                      "00903c40833080" "3c4030ff2f00")
+            Score(note("c4", "1/4")).play(out, PROGRAM, from_=0, to=1, rounds=True)
+            self.assertEqual(out.read_bytes()[29:].hex(), "00903c40" "01803c40" "00ff2f00")
             with self.assertRaises(Refused) as caught:
                 play("formula 1;\nnote c#4 1/4;\n", out, PROGRAM)
             self.assertEqual((caught.exception.line, caught.exception.column, caught.exception.number), (2, 6, 3))

@@ -7,6 +7,7 @@ those that take a count a short text that stands for so much.
 MEBIBYTE = 1_048_576
 MOST_OPERATIONS = 262_144
 MOST_PROCESSES = 4_096
+MOST_FILE = 33_554_432
 
 # What a text ends with so that the command stops behind a part of its work: a brace too many is
 # found by the parser, a total past its limit by the last walk of the checker.
@@ -239,3 +240,23 @@ def steps_before_forks(count):
     """About so many steps of one process, before which 4,000 others wait."""
     start = b"par{branch{repeat %d{repeat 1000000{rest ticks 0;}}}}" % (count // 2_000_000)
     return b"formula 1;" + start + b"repeat 2000{par{branch{}}}"
+
+
+def longest_file(path):
+    """Writes a MIDI file of the greatest size that is read: notes with a status byte each, and in a second track
+    without. Says how many events it has."""
+    whole, running = bytes.fromhex("00903C4030803C40"), bytes.fromhex("003C40003C00")
+    end = bytes.fromhex("00FF2F00")
+    count = MOST_FILE // 2 // len(whole)
+    first = count * whole + end
+    begin = bytes.fromhex("00903C40")
+    left = MOST_FILE - 14 - 2 * 8 - len(first) - len(begin) - len(end) - 4
+    again = left // len(running)
+    # a text takes what is left
+    text = bytes.fromhex("00FF01") + bytes([left % len(running)]) + left % len(running) * b"-"
+    second = begin + again * running + text + end
+    with open(path, "wb") as file:
+        file.write(bytes.fromhex("4D546864000000060001000201E0"))
+        for body in (first, second):
+            file.write(b"MTrk" + len(body).to_bytes(4, "big") + body)
+    return 2 * count + 1 + 2 * again + 1 + 2

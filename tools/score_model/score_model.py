@@ -3,6 +3,7 @@
 
     score_model.py SCORE              the whole file
     score_model.py --events SCORE     a line for each event: tick, process, index, bytes
+    score_model.py --locate T P SCORE where tick T lies in each level that is open where process P starts
 
 It is a program apart from the command: it reads an accepted score by recursive descent, plays each
 statement by its meaning on whole lists, maps the marks of a warp from the inside outwards, and sorts
@@ -16,6 +17,7 @@ KEYWORDS = ("formula seed shape flat by slope to pause breath ticks phrase note 
             "loud key pick min less same").split()
 MOST = 1_000_000
 MASK = (1 << 64) - 1
+LAST = 1 << 40
 
 
 # ---- text
@@ -283,10 +285,13 @@ class Player:
         self.seed, self.shapes, self.phrases = seed, shapes, phrases
         self.born = 0
         self.open = []       # open blocks, the outermost first: ["loop", index] or ["list", kind, entries, cursor]
+        self.levels = []     # open warps, the outermost first: where each begins in the level round it, and its parts
+        self.starts = []     # of each process the warps that are open where it starts, and its position there
         self.channel = 0
 
     def start(self, position):
         self.now = Process(self, self.born, position)
+        self.starts.append((list(self.levels), position))
         self.born += 1
         self.open = [b if b[0] == "loop" else b[:3] + [0] for b in map(list, self.open)]
 
@@ -391,7 +396,9 @@ class Player:
         if kind == "warp":
             parts, begun = self.shapes[s[1]], now.position
             now.position = 0
+            self.levels.append((begun, parts))
             marks = self.passage(s[2])
+            self.levels.pop()
             for m in marks:
                 m[3], m[4] = begun + mapped(parts, m[3], True), begun + mapped(parts, m[4], False)
             self.now.position = begun + mapped(parts, self.now.position, True)
@@ -406,17 +413,49 @@ class Player:
         return self.block(["list", s[1], s[2], 0], s[3])
 
 
-def played(data):
+def performed(data):
+    """Who played it, and the marks."""
     seed, shapes, phrases, body = Text(data).score()
     player = Player(seed, shapes, phrases)
     player.start(0)
-    marks = player.passage(body)
+    return player, player.passage(body)
+
+
+def played(data):
+    player, marks = performed(data)
     events = []
     for process, index, message, onset, ending in marks:
         if message is not None:
             time = max(onset, ending) if message[0] >> 4 == 8 else onset
             events.append((time, process, index, message))
     return sorted(events), player.now.position
+
+
+# ---- positions
+
+def located(data, tick, process):
+    """The line of `--locate`, or None where there is no such process."""
+    starts = performed(data)[0].starts
+    if process >= len(starts):
+        return None
+    levels, start = starts[process]
+    for begun, parts in reversed(levels):
+        start = begun + mapped(parts, start, True)
+    line = f"process {process} levels {len(levels)} start {start} "
+    positions = []
+    for number, (begun, parts) in enumerate(levels):
+        if begun + mapped(parts, LAST, True) < tick:
+            return line + f"never {number + 1}"
+        low, high = 0, LAST
+        while low < high:
+            middle = (low + high) // 2
+            if begun + mapped(parts, middle, True) < tick:
+                low = middle + 1
+            else:
+                high = middle
+        positions.append(low)
+        tick = low
+    return line + " ".join(["positions", *map(str, positions)])
 
 
 # ---- the file
@@ -449,6 +488,9 @@ def main(words):
     show = words[:1] == ["--events"]
     data = open(words[-1], "rb").read()
     sys.setrecursionlimit(10000)
+    if words[:1] == ["--locate"]:
+        print(located(data, int(words[1]), int(words[2])) or "no such process")
+        return
     events, end = played(data)
     if show:
         for time, process, index, message in events:

@@ -10,9 +10,9 @@ use Rattle.fm_read.specs.Decoded.{decoded, message_from}
 use Rattle.fm_read.specs.Written.{time_after}
 use Rattle.fm_read.specs.declared.limits.TheConstants.{MAX_FILE}
 use Rattle.fm_parts.specs.Format1.{channel_of, on_channel, track_behind, track_of, track_chunk, channel_tracks}
-use Rattle.fm_parts.specs.Gathered.{Passes}
+use Rattle.fm_pieces.specs.Gathered.{Passes}
 use Rattle.fm_parts.proofs.Channels.{skip_other, skip_channel, own_channel, Left, chunks_left, chunks_more}
-use Rattle.fm_parts.proofs.Passing.{pass_none, pass_after, pass_breaks, breaks_all}
+use Rattle.fm_pieces.proofs.Passing.{pass_none, pass_after, pass_breaks, breaks_all}
 
 module _ {K : Type 0} (content : K → Option (List ℕ)) (sure : K → Option ℕ) (faults : K → ℕ) where
   -- a channel's messages so far came to the gatherer; with what is left of the track they make the whole

@@ -1,3 +1,4 @@
+pub use Rattle.fm_pieces.specs.Gathered
 pub use Rattle.fm_edge.specs.Causes
 pub use Rattle.fm_edge.specs.Content
 pub use Rattle.fm_edge.specs.Runs
@@ -5,5 +6,4 @@ pub use Rattle.fm_msg.specs.Event
 pub use Rattle.fm_msg.specs.Message
 pub use Rattle.fm_read.specs.WrittenFile
 pub mod Format1
-pub mod Gathered
 pub mod Tally

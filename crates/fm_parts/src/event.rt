@@ -3,12 +3,12 @@ ghost use Rattle.std.specs.Prelude.{◌≡◌, ◌*◌, ◌^◌, ◌≤◌, ◌+
 ghost use Rattle.fm_edge.specs.Runs.{Breaks};
 ghost use Rattle.fm_msg.specs.Message.{is_in_range, message_bytes};
 ghost use Rattle.fm_smf.specs.Track.{fillers, delta, end_bytes};
-ghost use Rattle.fm_parts.specs.Gathered.{Passes};
+ghost use Rattle.fm_pieces.specs.Gathered.{Passes};
 ghost use Rattle.fm_parts.specs.Format1.{channel_of};
 
-use crate::gatherer::Gatherer;
 use fm_edge::{Failed, Sink};
 use fm_msg::Msg;
+use fm_pieces::Gatherer;
 use fm_smf::{FILLER, MAX_QUANTITY, fillers_before, piece_of};
 
 /// End of Track.

@@ -6,7 +6,6 @@
 #![tactic(auto)]
 
 mod event;
-mod gatherer;
 mod laws;
 mod parts;
 mod tally;

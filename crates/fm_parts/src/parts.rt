@@ -6,16 +6,16 @@ ghost use Rattle.fm_read.specs.Decoded.{decoded};
 ghost use Rattle.fm_read.specs.Files.{tracks};
 ghost use Rattle.fm_read.specs.Written.{time_after};
 ghost use Rattle.fm_read.specs.WrittenFile.{track_head};
-ghost use Rattle.fm_parts.specs.Gathered.{Passes};
+ghost use Rattle.fm_pieces.specs.Gathered.{Passes};
 ghost use Rattle.fm_parts.specs.Format1.{format1_header, on_channel, track_behind, track_of};
 ghost use Rattle.fm_parts.specs.Format1.{tempo_track, track_chunk, channel_tracks};
 ghost use Rattle.fm_parts.specs.Tally.{IsTally, first_track};
 
 use crate::event::{channel_of, end_length, push_end, push_message};
-use crate::gatherer::Gatherer;
 use crate::tally::Tally;
 use fm_edge::{Failed, Sink};
 use fm_msg::CHANNELS;
+use fm_pieces::Gatherer;
 use fm_read::{File, MAX_FILE, Track, message_from};
 use fm_smf::MAX_TRACK;
 

@@ -4,7 +4,6 @@ ghost use Rattle.std.specs.Prelude.{◌≡◌, ◌≤◌, length, Ok};
 ghost use Rattle.fm_read.specs.Files.{Contents, contents};
 ghost use Rattle.fm_read.specs.WrittenFile.{IsWritten};
 
-use crate::gatherer::{Gatherer, PIECE_LENGTH};
 use crate::split;
 use fm_edge::{MemorySink, Sink};
 use fm_read::{MAX_FILE, read};
@@ -96,17 +95,5 @@ fn a_sink_that_fails_has_a_front(rt: HostRuntime) -> Result<(), Fail> {
     let mut sink = MemorySink::new(rt.alloc(), 100, vec![in rt.alloc(); (1, 30)]?)?;
     assert_eq!(rt; parts_of(&TWO, &mut sink), None);
     assert_eq!(rt; sink.content(), &TWO_PARTS[..30]);
-    Ok(())
-}
-
-// The second put is the one that fails, so the first one had a whole piece.
-#[test]
-fn bytes_are_put_in_whole_pieces(rt: HostRuntime) -> Result<(), Fail> {
-    let mut sink = MemorySink::new(rt.alloc(), 10_000, vec![in rt.alloc(); (2, 10)]?)?;
-    let mut out = Gatherer::new();
-    assert!(rt; out.push_all(&[7; 5_000], &mut sink).is_ok());
-    assert_eq!(rt; sink.content().len(), PIECE_LENGTH);
-    assert!(rt; out.finish(&mut sink).is_err());
-    assert_eq!(rt; sink.content().len(), PIECE_LENGTH + 10);
     Ok(())
 }

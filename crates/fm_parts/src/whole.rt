@@ -9,10 +9,10 @@ ghost use Rattle.fm_read.specs.WrittenFile.{IsFileOf, IsWritten};
 ghost use Rattle.fm_parts.specs.Format1.{format1};
 ghost use Rattle.fm_parts.specs.Tally.{first_split};
 
-use crate::gatherer::Gatherer;
 use crate::parts::{HEADER_LENGTH, first_track, header, push_channels, push_tempo};
 use crate::tally::tally_of;
 use fm_edge::{Failed, Sink};
+use fm_pieces::Gatherer;
 use fm_read::File;
 use fm_smf::SinkFault;
 

@@ -1,155 +1,220 @@
--- What follows from how a run ends: which status comes of a text that the source tells.
-use Rattle.std.proofs.Common.{◌≡◌, ◌⊎◌, ℕ, List, length, Option, Some, None, ap, sym, ◌∙◌, subst, inl, inr}
+-- What follows from how a run ends: the cause of each status, the file of a run that plays, and which status comes of an
+-- input that is told.
+use Rattle.std.proofs.Common.{◌≡◌, ◌⊎◌, ◌<◌, ℕ, List, [], length, Option, Some, None, IfSome, ap, sym, ◌∙◌, subst, inl, inr}
 use Rattle.fm_edge.specs.Causes.{Rose}
 use Rattle.fm_edge.specs.Content.{HasRoom}
 use Rattle.fm_edge.specs.Runs.{Puts}
-use Rattle.fm_words.specs.Settings.{Settings}
-use Rattle.fm_gen.specs.declared.summary.Summary.{Summary}
-use Rattle.fm_grammar.specs.Score as tree
-use Rattle.fm_meaning.specs.Verdict.{HasFault, Means, Accepted}
-use Rattle.fm_top.specs.declared.status.TheConstants.{DONE, WORDS_REFUSED, SCORE_REFUSED, OUT_OF_MEMORY}
+use Rattle.fm_top.specs.declared.status.TheConstants.{DONE, WORDS_REFUSED, OUT_OF_MEMORY}
 use Rattle.fm_top.specs.declared.run_fault.RunFault.{RunFault}
-use Rattle.fm_top.specs.declared.run_fault.RunFault.TheVariants.{Words, Read, Score, Write, Memory}
-use Rattle.fm_top.specs.Taking.{offered}
-use Rattle.fm_top.specs.Telling.{TellsEnd, fault_status, place_text, fault_text, told, untold}
-use Rattle.fm_top.specs.Outcome.{AreAccepted, number_asked, score_file, summary_asked, WritesScore, BreaksScore, WritesWith, Holds, RunEnds, plays, stops, Completes}
-use Rattle.fm_top.proofs.Judged.{fault_told, means_told}
+use Rattle.fm_top.specs.declared.run_fault.RunFault.TheVariants as run
+use Rattle.fm_top.specs.declared.task.Task.{Task}
+use Rattle.fm_top.specs.declared.task.Task.TheVariants as task
+use Rattle.fm_top.specs.Products.{Product, Work, writes, puts, leaves, IsDone, IsCutOff, Makes, Refuses, size_of}
+use Rattle.fm_top.specs.Taking.{TakesAll, TakesRefused, offered}
+use Rattle.fm_top.specs.Tasks.{most_of, number_of}
+use Rattle.fm_top.specs.Telling.{TellsEnd, fault_status, fault_text, told, untold}
+use Rattle.fm_top.specs.Outcome.{WritesScore, Does, Stops, Holds, RunEnds, does, stops, Completes}
+use Rattle.fm_top.proofs.Judged.{told_is, told_longer}
+use Rattle.fm_top.proofs.Verdicts.{OneVerdict}
 
--- what is known of the verdict of a text: it is one
-pub record OneVerdict : Type 0 where
-  pub fault : (text : List ℕ) (line column number k c n : ℕ) → HasFault text line column number → HasFault text k c n
-      → (line ≡ k) × (column ≡ c) × (number ≡ n)
-  pub apart : (text : List ℕ) (line column number : ℕ) → Accepted text → HasFault text line column number → ⊥
-  pub score : (text : List ℕ) (s t : tree.Score) → Means text s → Means text t → s ≡ t
+-- ---- what is told
 
--- an accepted text has no fault
-no_fault : OneVerdict → (text : List ℕ) (s : tree.Score) (line column number : ℕ) → Means text s → HasFault text line column number → ⊥
-no_fault one text s line column number means fault = one.apart text line column number (record { score = s; means = means }) fault
+-- the input that was taken to its end is the one that was told
+input_told : (most : ℕ) (o n : Option (List ℕ)) (input given : List ℕ) → TakesAll most o n input → o ≡ Some given → given ≡ input
+input_told most o n input given all tells = told_is o n input given all.taken all.ended tells
 
--- a file that is written, and what is told of it
-pub ends_with : {S K C : Type 0} (left : S → Option (List ℕ)) (source_faults : S → ℕ)
-    (content : K → Option (List ℕ)) (sure : K → Option ℕ) (faults : K → ℕ)
-    (asked : Option Settings) (source source' : S) (sink sink' : K)
-    (said : C → Option (List ℕ)) (room : C → Option ℕ) (console_faults : C → ℕ) (console console' : C)
-    (status : ℕ) (summary telling : Option Summary) → summary ≡ telling
-    → WritesWith left source_faults content sure faults asked source source' sink sink' summary
-    → TellsEnd said room console_faults console console' telling status
-    → RunEnds left source_faults content sure faults asked source source' sink sink' said room console_faults console console' status
-ends_with left source_faults content sure faults asked source source' sink sink' said room console_faults console console'
-    status summary telling is w end =
-    plays w.written (subst (λ s. TellsEnd said room console_faults console console' s status) (sym is ∙ w.sums) end)
+-- and the fault of what was taken is a fault of what was told
+fault_told : OneVerdict → (t : Task) (o n : Option (List ℕ)) (given : List ℕ) (f : RunFault)
+    → TakesRefused (most_of t) o n (λ input. Refuses t input f) → o ≡ Some given → Refuses t given f
+fault_told one t o n given f taken tells = by_whole taken.whole
+  where
+    by_whole : (most_of t < length taken.input) ⊎ IfSome n (λ l. l ≡ []) → Refuses t given f
+    by_whole (inl long) = one.longer t taken.input given f long (told_longer o n taken.input given taken.taken tells) taken.holds
+    by_whole (inr ended) =
+        subst (λ z. Refuses t z f) (sym (told_is o n taken.input given taken.taken ended tells)) taken.holds
+
+-- the sink counts no fault where it is sure of the size of what is done
+done_quiet : {K : Type 0} (content : K → Option (List ℕ)) (sure : K → Option ℕ) (faults : K → ℕ) (sink sink' : K) (w : Work)
+    → IsDone content sure faults sink sink' w → HasRoom (content sink) (sure sink) (size_of w) → faults sink' ≡ faults sink
+done_quiet content sure faults sink sink' (writes profile events end) done room = done.quiet room
+done_quiet content sure faults sink sink' (puts bytes) done room = done.quiet room
+done_quiet content sure faults sink sink' leaves done room = ap faults done
+
+cut_quiet : {K : Type 0} (content : K → Option (List ℕ)) (sure : K → Option ℕ) (faults : K → ℕ) (sink sink' : K) (w : Work)
+    → IsCutOff content sure faults sink sink' w → HasRoom (content sink) (sure sink) (size_of w) → faults sink' ≡ faults sink
+cut_quiet content sure faults sink sink' (writes profile events end) cut room = cut.quiet room
+cut_quiet content sure faults sink sink' (puts bytes) cut room = cut.quiet room
+cut_quiet content sure faults sink sink' leaves cut room = absurd cut
+
+cut_rose : {K : Type 0} (content : K → Option (List ℕ)) (sure : K → Option ℕ) (faults : K → ℕ) (sink sink' : K) (w : Work)
+    → IsCutOff content sure faults sink sink' w → Rose (faults sink) (faults sink')
+cut_rose content sure faults sink sink' (writes profile events end) cut = cut.rose
+cut_rose content sure faults sink sink' (puts bytes) cut = cut.rose
+cut_rose content sure faults sink sink' leaves cut = absurd cut
 
 module _ {S K : Type 0} (left : S → Option (List ℕ)) (source_faults : S → ℕ)
     (content : K → Option (List ℕ)) (sure : K → Option ℕ) (faults : K → ℕ)
-    (asked : Option Settings) (source source' : S) (sink sink' : K) (one : OneVerdict) where
-  -- the sink counts no fault where it is sure of the file's length
-  sure_written : (text : List ℕ) (score : tree.Score)
-      → WritesScore left source_faults content sure faults asked source source' sink sink'
-      → offered (number_asked asked) (left source) ≡ Some text → Means text score
-      → HasRoom (content sink) (sure sink) (length (score_file score)) → faults sink' ≡ faults sink
-  unfolding score_file
-  sure_written text score w tells plain room =
-      w.file.quiet (rw (one.score text w.score score (means_told _ _ text w.score w.taken tells) plain) room)
+    (source source' : S) (sink sink' : K) where
+  -- a score that is played is written
+  pub score_written : (number : Option ℕ) (line : Option (List ℕ))
+      → Does left source_faults content sure faults source source' sink sink' (task.Play number) line
+      → WritesScore left source_faults content sure faults source source' sink sink' number
+  score_written number line d = record {
+    score = d.makes.score;
+    taken = record { text = d.input; all = d.all; means = d.makes.means };
+    file = subst (λ (m : Product). IsDone content sure faults sink sink' m.work) d.makes.is d.done;
+  }
 
-  sure_broken : (text : List ℕ) (score : tree.Score)
-      → BreaksScore left source_faults content sure faults asked source source' sink sink'
-      → offered (number_asked asked) (left source) ≡ Some text → Means text score
-      → HasRoom (content sink) (sure sink) (length (score_file score)) → faults sink' ≡ faults sink
-  unfolding score_file
-  sure_broken text score b tells plain room =
-      b.broken.quiet (rw (one.score text b.score score (means_told _ _ text b.score b.taken tells) plain) room)
+  -- ---- the sink that is sure
 
-  sure_stopped : (fault : RunFault) → Holds left source_faults content sure faults asked source source' sink sink' fault
-      → (text : List ℕ) (score : tree.Score) → offered (number_asked asked) (left source) ≡ Some text → Means text score
-      → HasRoom (content sink) (sure sink) (length (score_file score)) → faults sink' ≡ faults sink
-  sure_stopped Words h text score tells plain room = ap faults h.2
-  sure_stopped Read h text score tells plain room = ap faults h.3
-  sure_stopped (Score spot number) h text score tells plain room = ap faults h.2
-  sure_stopped Write h text score tells plain room = sure_broken text score h tells plain room
-  sure_stopped Memory h text score tells plain room = ap faults h
+  stops_quiet : OneVerdict → (t : Task) (input : List ℕ) (m : Product) (f : RunFault)
+      → Stops left source_faults content sure faults source source' sink sink' t f
+      → offered (number_of t) (left source) ≡ Some input → Makes t input m
+      → HasRoom (content sink) (sure sink) (size_of m.work) → faults sink' ≡ faults sink
+  stops_quiet one t input m run.Words h tells makes room = absurd h
+  stops_quiet one t input m run.Read h tells makes room = ap faults h.2
+  stops_quiet one t input m (run.Score spot n) h tells makes room = ap faults h.1
+  stops_quiet one t input m (run.File p n) h tells makes room = ap faults h.1
+  stops_quiet one t input m run.NoProcess h tells makes room = ap faults h.1
+  stops_quiet one t input m run.Memory h tells makes room = ap faults h
+  stops_quiet one t input m run.Write h tells makes room =
+      let given : input ≡ h.input = input_told _ _ _ h.input input h.all tells in
+      let same : m ≡ h.made = one.made t h.input m h.made (subst (λ z. Makes t z m) given makes) h.makes in
+      cut_quiet content sure faults sink sink' h.made.work h.cut
+      (subst (λ (z : Product). HasRoom (content sink) (sure sink) (size_of z.work)) same room)
 
-  module _ {C : Type 0} (said : C → Option (List ℕ)) (room : C → Option ℕ) (console_faults : C → ℕ)
-      (console console' : C) where
-    -- of refused words
-    words_end : (status : ℕ) (fault : RunFault) → Holds left source_faults content sure faults asked source source' sink sink' fault
-        → (AreAccepted asked → ⊥) → status ≡ fault_status fault → (status ≡ WORDS_REFUSED) ⊎ (status ≡ OUT_OF_MEMORY)
-    words_end status Words h none is = inl is
-    words_end status Read h none is = absurd (none h.0)
-    words_end status (Score spot number) h none is = absurd (none h.0)
-    words_end status Write h none is = absurd (none h.words)
-    words_end status Memory h none is = inr is
+  does_quiet : OneVerdict → (t : Task) (input : List ℕ) (m : Product) (line : Option (List ℕ))
+      → Does left source_faults content sure faults source source' sink sink' t line
+      → offered (number_of t) (left source) ≡ Some input → Makes t input m
+      → HasRoom (content sink) (sure sink) (size_of m.work) → faults sink' ≡ faults sink
+  does_quiet one t input m line d tells makes room =
+      let given : input ≡ d.input = input_told _ _ _ d.input input d.all tells in
+      let same : m ≡ d.made = one.made t d.input m d.made (subst (λ z. Makes t z m) given makes) d.makes in
+      done_quiet content sure faults sink sink' d.made.work d.done
+      (subst (λ (z : Product). HasRoom (content sink) (sure sink) (size_of z.work)) same room)
 
-    -- of an accepted text
-    played_end : (status : ℕ) (fault : RunFault) → Holds left source_faults content sure faults asked source source' sink sink' fault
-        → (text : List ℕ) (score : tree.Score) → AreAccepted asked → offered (number_asked asked) (left source) ≡ Some text
-        → Means text score
-        → (Rose (source_faults source) (source_faults source') → ⊥) → (Rose (faults sink) (faults sink') → ⊥)
-        → status ≡ fault_status fault → status ≡ OUT_OF_MEMORY
-    played_end status Words h text score given tells means still quiet is = absurd (h.0 given)
-    played_end status Read h text score given tells means still quiet is = absurd (still h.2)
-    played_end status (Score spot number) h text score given tells means still quiet is =
-        absurd (no_fault one text score _ _ _ means (fault_told _ _ text spot number h.1 tells))
-    played_end status Write h text score given tells means still quiet is = absurd (quiet h.broken.rose)
-    played_end status Memory h text score given tells means still quiet is = is
+  -- ---- an input of which something is made
 
-    -- the text for a fault at a place, which is that of a text
-    same_text : (text : List ℕ) (line column number k c n : ℕ) → HasFault text k c n → HasFault text line column number
-        → Puts said room console_faults console console' (place_text k c n)
-        → Puts said room console_faults console console' (place_text line column number)
-    same_text text line column number k c n found wanted puts =
-        let same = one.fault text k c n line column number found wanted in
-        subst (λ z. Puts said room console_faults console console' (place_text line column z)) same.2
-        (subst (λ z. Puts said room console_faults console console' (place_text line z n)) same.1
-        (subst (λ z. Puts said room console_faults console console' (place_text z c n)) same.0 puts))
+  made_stops : OneVerdict → (t : Task) (input : List ℕ) (m : Product) (f : RunFault) (status : ℕ)
+      → Stops left source_faults content sure faults source source' sink sink' t f
+      → offered (number_of t) (left source) ≡ Some input → Makes t input m
+      → (Rose (source_faults source) (source_faults source') → ⊥) → (Rose (faults sink) (faults sink') → ⊥)
+      → status ≡ fault_status f → status ≡ OUT_OF_MEMORY
+  made_stops one t input m run.Words status h tells makes still quiet is = absurd h
+  made_stops one t input m run.Read status h tells makes still quiet is = absurd (still h.1)
+  made_stops one t input m (run.Score spot n) status h tells makes still quiet is =
+      absurd (one.apart t input m _ makes (fault_told one t _ _ input _ h.0 tells))
+  made_stops one t input m (run.File p n) status h tells makes still quiet is =
+      absurd (one.apart t input m _ makes (fault_told one t _ _ input _ h.0 tells))
+  made_stops one t input m run.NoProcess status h tells makes still quiet is =
+      absurd (one.apart t input m _ makes (fault_told one t _ _ input _ h.0 tells))
+  made_stops one t input m run.Write status h tells makes still quiet is =
+      absurd (quiet (cut_rose content sure faults sink sink' h.made.work h.cut))
+  made_stops one t input m run.Memory status h tells makes still quiet is = is
 
-    -- of a text that is refused
-    refused_end : (status : ℕ) (fault : RunFault) → Holds left source_faults content sure faults asked source source' sink sink' fault
-        → (text : List ℕ) (line column number : ℕ) → AreAccepted asked → offered (number_asked asked) (left source) ≡ Some text
-        → HasFault text line column number
+  module _ {C : Type 0} (said : C → Option (List ℕ)) (room : C → Option ℕ) (console_faults : C → ℕ) (console console' : C) where
+    -- ---- an input that is refused
+
+    refused_same : (f g : RunFault) (status : ℕ) → f ≡ g → status ≡ fault_status f
+        → Puts said room console_faults console console' (fault_text f)
+        → (status ≡ fault_status g) × Puts said room console_faults console console' (fault_text g)
+    refused_same f g status same is all =
+        (is ∙ ap fault_status same, subst (λ z. Puts said room console_faults console console' (fault_text z)) same all)
+
+    refused_stops : OneVerdict → (t : Task) (input : List ℕ) (f g : RunFault) (status : ℕ)
+        → Stops left source_faults content sure faults source source' sink sink' t f
+        → offered (number_of t) (left source) ≡ Some input → Refuses t input g
         → (Rose (source_faults source) (source_faults source') → ⊥)
-        → status ≡ fault_status fault → Puts said room console_faults console console' (fault_text fault)
-        → ((status ≡ SCORE_REFUSED) × Puts said room console_faults console console' (place_text line column number))
-        ⊎ (status ≡ OUT_OF_MEMORY)
-    unfolding fault_text
-    refused_end status Words h text line column number given tells fault still is puts = absurd (h.0 given)
-    refused_end status Read h text line column number given tells fault still is puts = absurd (still h.2)
-    refused_end status (Score spot n) h text line column number given tells fault still is puts =
-        inl (is, same_text text line column number spot.line spot.column n (fault_told _ _ text spot n h.1 tells) fault puts)
-    refused_end status Write h text line column number given tells fault still is puts =
-        absurd (no_fault one text h.score line column number (means_told _ _ text h.score h.taken tells) fault)
-    refused_end status Memory h text line column number given tells fault still is puts = inr is
+        → status ≡ fault_status f → Puts said room console_faults console console' (fault_text f)
+        → ((status ≡ fault_status g) × Puts said room console_faults console console' (fault_text g)) ⊎ (status ≡ OUT_OF_MEMORY)
+    refused_stops one t input run.Words g status h tells refuses still is all = absurd h
+    refused_stops one t input run.Read g status h tells refuses still is all = absurd (still h.1)
+    refused_stops one t input (run.Score spot n) g status h tells refuses still is all =
+        inl (refused_same _ g status (one.fault t input _ g (fault_told one t _ _ input _ h.0 tells) refuses) is all)
+    refused_stops one t input (run.File p n) g status h tells refuses still is all =
+        inl (refused_same _ g status (one.fault t input _ g (fault_told one t _ _ input _ h.0 tells) refuses) is all)
+    refused_stops one t input run.NoProcess g status h tells refuses still is all =
+        inl (refused_same _ g status (one.fault t input _ g (fault_told one t _ _ input _ h.0 tells) refuses) is all)
+    refused_stops one t input run.Write g status h tells refuses still is all =
+        let given : input ≡ h.input = input_told _ _ _ h.input input h.all tells in
+        absurd (one.apart t h.input h.made g h.makes (subst (λ z. Refuses t z g) given refuses))
+    refused_stops one t input run.Memory g status h tells refuses still is all = inr is
 
-    -- of a file that is written
-    done_end : (status : ℕ) (summary : Option Summary) → TellsEnd said room console_faults console console' summary status
+    -- ---- all of it
+
+    done_end : (status : ℕ) (line : Option (List ℕ)) → TellsEnd said room console_faults console console' line status
         → (Rose (console_faults console) (console_faults console') → ⊥) → status ≡ DONE
     done_end status None end silent = end.0
-    done_end status (Some summary) (told is puts) silent = is
-    done_end status (Some summary) (untold five breaks) silent = absurd (silent breaks.rose)
+    done_end status (Some text) (told is all) silent = is
+    done_end status (Some text) (untold five breaks) silent = absurd (silent breaks.rose)
 
-    -- of every text
-    pub completes_of : (status : ℕ)
-        → RunEnds left source_faults content sure faults asked source source' sink sink' said room console_faults console console' status
-        → Completes left source_faults content sure faults asked source source' sink sink' said room console_faults
+    abbrev End : Option Task → ℕ → Type 0
+    End asked status = RunEnds left source_faults content sure faults said room console_faults asked source source' sink sink'
         console console' status
-    completes_of status (plays w end) = record {
-      unaccepted = λ none quiet. absurd (none w.words);
-      played = λ text score given tells means still quiet silent.
-          inl (done_end status (summary_asked (number_asked asked) w.score) end silent);
-      refused = λ text line column number given tells fault still silent.
-          absurd (no_fault one text w.score line column number (means_told _ _ text w.score w.taken tells) fault);
-      quiet = λ text score tells means room. sure_written text score w tells means room;
+
+    words_end : (status : ℕ) (f : RunFault) → Holds left source_faults content sure faults source source' sink sink' None f
+        → status ≡ fault_status f → (status ≡ WORDS_REFUSED) ⊎ (status ≡ OUT_OF_MEMORY)
+    words_end status run.Words h is = inl is
+    words_end status run.Memory h is = inr is
+    words_end status run.Read h is = absurd h
+    words_end status (run.Score spot n) h is = absurd h
+    words_end status (run.File p n) h is = absurd h
+    words_end status run.NoProcess h is = absurd h
+    words_end status run.Write h is = absurd h
+
+    no_words : (asked : Option Task) (t : Task) → asked ≡ Some t → asked ≡ None → ⊥
+    no_words asked t some none = cc
+
+    pub completes_of : OneVerdict → (asked : Option Task) (status : ℕ) → End asked status
+        → Completes left source_faults content sure faults said room console_faults asked source source' sink sink'
+        console console' status
+    completes_of one asked status (does t line is d end) = record {
+      unaccepted = λ none silent. absurd (no_words asked t is none);
+      made = λ u input m given tells makes still quiet silent. inl (done_end status line end silent);
+      refused = λ u input f given tells refuses still silent.
+          let same : u ≡ t = cc in
+          let known : offered (number_of t) (left source) ≡ Some input = subst (λ z. offered (number_of z) (left source) ≡ Some input) same tells in
+          let wrong : Refuses t input f = subst (λ z. Refuses z input f) same refuses in
+          let has : input ≡ d.input = input_told _ _ _ d.input input d.all known in
+          absurd (one.apart t d.input d.made f d.makes (subst (λ z. Refuses t z f) has wrong));
+      quiet = λ u input m given tells makes space.
+          let same : u ≡ t = cc in
+          does_quiet one t input m line d (subst (λ z. offered (number_of z) (left source) ≡ Some input) same tells)
+          (subst (λ z. Makes z input m) same makes) space;
     }
-    completes_of status (stops fault h (told is puts)) = record {
-      unaccepted = λ none quiet. words_end status fault h none is;
-      played = λ text score given tells means still quiet silent.
-          inr (played_end status fault h text score given tells means still quiet is);
-      refused = λ text line column number given tells found still silent.
-          refused_end status fault h text line column number given tells found still is puts;
-      quiet = λ text score tells means room. sure_stopped fault h text score tells means room;
+    completes_of one None status (stops f h (told is all)) = record {
+      unaccepted = λ none silent. words_end status f h is;
+      made = λ u input m given tells makes still quiet silent. cc;
+      refused = λ u input g given tells refuses still silent. cc;
+      quiet = λ u input m given tells makes space. cc;
     }
-    completes_of status (stops fault h (untold five breaks)) = record {
-      unaccepted = λ none quiet. absurd (quiet breaks.rose);
-      played = λ text score given tells means still quiet silent. absurd (silent breaks.rose);
-      refused = λ text line column number given tells found still silent. absurd (silent breaks.rose);
-      quiet = λ text score tells means room. sure_stopped fault h text score tells means room;
+    completes_of one None status (stops f h (untold five breaks)) = record {
+      unaccepted = λ none silent. absurd (silent breaks.rose);
+      made = λ u input m given tells makes still quiet silent. cc;
+      refused = λ u input g given tells refuses still silent. cc;
+      quiet = λ u input m given tells makes space. cc;
+    }
+    completes_of one (Some t) status (stops f h (told is all)) = record {
+      unaccepted = λ none silent. cc;
+      made = λ u input m given tells makes still quiet silent.
+          let same : u ≡ t = cc in
+          inr (made_stops one t input m f status h (subst (λ z. offered (number_of z) (left source) ≡ Some input) same tells)
+          (subst (λ z. Makes z input m) same makes) still quiet is);
+      refused = λ u input g given tells refuses still silent.
+          let same : u ≡ t = cc in
+          refused_stops one t input f g status h (subst (λ z. offered (number_of z) (left source) ≡ Some input) same tells)
+          (subst (λ z. Refuses z input g) same refuses) still is all;
+      quiet = λ u input m given tells makes space.
+          let same : u ≡ t = cc in
+          stops_quiet one t input m f h (subst (λ z. offered (number_of z) (left source) ≡ Some input) same tells)
+          (subst (λ z. Makes z input m) same makes) space;
+    }
+    completes_of one (Some t) status (stops f h (untold five breaks)) = record {
+      unaccepted = λ none silent. absurd (silent breaks.rose);
+      made = λ u input m given tells makes still quiet silent. absurd (silent breaks.rose);
+      refused = λ u input g given tells refuses still silent. absurd (silent breaks.rose);
+      quiet = λ u input m given tells makes space.
+          let same : u ≡ t = cc in
+          stops_quiet one t input m f h (subst (λ z. offered (number_of z) (left source) ≡ Some input) same tells)
+          (subst (λ z. Makes z input m) same makes) space;
     }

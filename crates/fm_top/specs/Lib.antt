@@ -1,4 +1,6 @@
+pub mod Tasks
 pub mod Judging
+pub mod Products
 pub mod Taking
 pub mod Telling
 pub mod Outcome

@@ -1,9 +1,19 @@
--- What is summed up of a performance.
-use Rattle.std.specs.Prelude.{ℕ}
+-- What is summed up of a performance, and told of a task that is done.
+use Rattle.std.specs.Prelude.{ℕ, List, Option, Some, None}
 use Rattle.fm_play.specs.declared.played.Played.{Played}
+use Rattle.fm_gen.specs.SummaryLine.{summary_line}
 use Rattle.fm_gen.specs.declared.summary.Summary.{Summary}
+use Rattle.fm_position.specs.PositionLine.{position_text}
+use Rattle.fm_top.specs.declared.told.Told.{Told}
+use Rattle.fm_top.specs.declared.told.Told.TheVariants.{Nothing, Totals, Place}
 
 -- so many processes, and what was played
 abbrev pub totals : ℕ → Played → Summary
 totals processes played =
     record { processes = processes; events = played.events; last = played.last; bytes = played.bytes }
+
+-- the line for the console, where there is one
+abbrev pub told_text : Told → Option (List ℕ)
+told_text Nothing = None
+told_text (Totals summary) = Some (summary_line summary)
+told_text (Place position) = Some (position_text position)

@@ -1,15 +1,15 @@
 -- What a run takes: from its source, or of a large score. Where the source tells its bytes, each text here that is
--- taken from it is a front of them.
+-- taken from it is a front of them. An input has a greatest length: that of a text, or of a file.
 use Rattle.std.specs.Prelude.{◌≡◌, ◌⊎◌, ℕ, ◌+◌, ◌<◌, ◌≤◌, List, [], length, Option, Some, None, IfSome}
 use Rattle.std.specs.Io.KnownBytes.{prepend_known}
 use Rattle.fm_edge.specs.Causes.{Rose}
 use Rattle.fm_lex.specs.declared.lexer.TheConstants.{MAX_TEXT}
-use Rattle.fm_lex.specs.declared.spot.Spot.{Spot}
 use Rattle.fm_gen.specs.LargeScore.{large_score}
 use Rattle.fm_grammar.specs.Score.{Score}
 use Rattle.fm_meaning.specs.Verdict.{HasFault, Means}
 use Rattle.fm_program.specs.Parts.{PlanParts}
 use Rattle.fm_top.specs.Judging.{IsPlanned}
+use Rattle.fm_top.specs.Products.{LacksProcess, MakesPosition, Product}
 use Rattle.fm_top.specs.declared.run_fault.RunFault.{RunFault}
 use Rattle.fm_top.specs.declared.run_fault.RunFault.TheVariants as run
 
@@ -28,43 +28,43 @@ remaining (Some number) left = Some []
 abbrev pub IsLeftAlone : {S : Type 0} → Option ℕ → S → S → Type 0
 IsLeftAlone asked old new = (number : ℕ) → asked ≡ Some number → new ≡ old
 
--- a text was taken that passes the limit by one byte at most, and the count of faults didn't fall
-pub record Takes {S : Type 0} (left : S → Option (List ℕ)) (faults : S → ℕ) (old new : S) : Type 0 where
+-- bytes were taken that pass the limit by one at most, and the count of faults didn't fall
+pub record Takes {S : Type 0} (left : S → Option (List ℕ)) (faults : S → ℕ) (most : ℕ) (old new : S) : Type 0 where
   pub text : List ℕ
   pub taken : left old ≡ prepend_known text (left new)
-  pub few : length text ≤ MAX_TEXT + 1
+  pub few : length text ≤ most + 1
   pub later : faults old ≤ faults new
 
--- the text was taken to its end, which is within the limit
-pub record TakesAll (old new : Option (List ℕ)) (text : List ℕ) : Type 0 where
+-- an input was taken to its end, which is within the limit
+pub record TakesAll (most : ℕ) (old new : Option (List ℕ)) (text : List ℕ) : Type 0 where
   pub taken : old ≡ prepend_known text new
   pub ended : IfSome new (λ l. l ≡ [])
-  pub short : length text ≤ MAX_TEXT
+  pub short : length text ≤ most
 
--- a text was taken that passes the limit
-pub record TakesLong (old new : Option (List ℕ)) : Type 0 where
+-- bytes were taken that pass the limit
+pub record TakesLong (most : ℕ) (old new : Option (List ℕ)) : Type 0 where
   pub text : List ℕ
   pub taken : old ≡ prepend_known text new
-  pub long : MAX_TEXT < length text
+  pub long : most < length text
+
+-- an input was taken, to its end or past the limit, of which this holds
+pub record TakesRefused (most : ℕ) (old new : Option (List ℕ)) (Holds : List ℕ → Type 0) : Type 0 where
+  pub input : List ℕ
+  pub taken : old ≡ prepend_known input new
+  pub whole : (most < length input) ⊎ IfSome new (λ l. l ≡ [])
+  pub holds : Holds input
 
 -- a text was taken to its end, and means this score
 pub record TakesScore (old new : Option (List ℕ)) (score : Score) : Type 0 where
   pub text : List ℕ
-  pub all : TakesAll old new text
+  pub all : TakesAll MAX_TEXT old new text
   pub means : Means text score
 
 -- a text was taken to its end, and this is the plan of what it means
 pub record TakesPlan (old new : Option (List ℕ)) (plan : PlanParts) : Type 0 where
   pub text : List ℕ
-  pub all : TakesAll old new text
+  pub all : TakesAll MAX_TEXT old new text
   pub planned : IsPlanned text plan
-
--- a text was taken, to its end or past the limit, and has this fault
-pub record TakesFault (old new : Option (List ℕ)) (spot : Spot) (number : ℕ) : Type 0 where
-  pub text : List ℕ
-  pub taken : old ≡ prepend_known text new
-  pub whole : (MAX_TEXT < length text) ⊎ IfSome new (λ l. l ≡ [])
-  pub fault : HasFault text spot.line spot.column number
 
 -- the fault of taking a score: a read failed, where no large score was asked for; or the text was taken and has a
 -- fault; or want of memory
@@ -72,6 +72,22 @@ abbrev pub IsTaken : {S : Type 0} → (left : S → Option (List ℕ)) → (faul
     → RunFault → Type 0
 IsTaken left faults asked old new run.Read = (asked ≡ None) × Rose (faults old) (faults new)
 IsTaken left faults asked old new (run.Score spot number) =
-    TakesFault (offered asked (left old)) (remaining asked (left new)) spot number
+    TakesRefused MAX_TEXT (offered asked (left old)) (remaining asked (left new))
+    (λ text. HasFault text spot.line spot.column number)
 IsTaken left faults asked old new run.Memory = Unit {0}
 IsTaken left faults asked old new fault = ⊥
+
+-- a text was taken to its end; it means a score that has the process, and this is the line for the tick
+pub record TakesPosition (old new : Option (List ℕ)) (tick process : ℕ) (line : Option (List ℕ)) : Type 0 where
+  pub text : List ℕ
+  pub all : TakesAll MAX_TEXT old new text
+  pub made : Product
+  pub makes : MakesPosition tick process text made
+  pub told : line ≡ made.told
+
+-- the fault of taking a score for a position: that of taking a score, or that the score has no such process
+abbrev pub IsUnlocated : {S : Type 0} → (left : S → Option (List ℕ)) → (faults : S → ℕ) → (asked : Option ℕ)
+    → (process : ℕ) → (old new : S) → RunFault → Type 0
+IsUnlocated left faults asked process old new run.NoProcess =
+    TakesRefused MAX_TEXT (offered asked (left old)) (remaining asked (left new)) (λ text. LacksProcess process text)
+IsUnlocated left faults asked process old new fault = IsTaken left faults asked old new fault

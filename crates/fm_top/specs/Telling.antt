@@ -1,17 +1,17 @@
 -- What is told of a run: its exit status and its text on the console.
 use Rattle.std.specs.Prelude.{◌≡◌, ℕ, List, ◌++◌, codes, decimal, Option, Some, None}
 use Rattle.fm_edge.specs.Runs.{Puts, Breaks}
-use Rattle.fm_gen.specs.SummaryLine.{summary_line}
-use Rattle.fm_gen.specs.declared.summary.Summary.{Summary}
-use Rattle.fm_top.specs.declared.status.TheConstants.{DONE, WORDS_REFUSED, READ_FAULT, SCORE_REFUSED, WRITE_FAULT, CONSOLE_FAULT, OUT_OF_MEMORY}
+use Rattle.fm_top.specs.declared.status.TheConstants.{DONE, WORDS_REFUSED, READ_FAULT, SCORE_REFUSED, WRITE_FAULT, CONSOLE_FAULT, OUT_OF_MEMORY, NO_PROCESS}
 use Rattle.fm_top.specs.declared.run_fault.RunFault.{RunFault}
-use Rattle.fm_top.specs.declared.run_fault.RunFault.TheVariants.{Words, Read, Score, Write, Memory}
+use Rattle.fm_top.specs.declared.run_fault.RunFault.TheVariants.{Words, Read, Score, File, NoProcess, Write, Memory}
 
 -- the status of a fault
 abbrev pub fault_status : RunFault → ℕ
 fault_status Words = WORDS_REFUSED
 fault_status Read = READ_FAULT
 fault_status (Score spot number) = SCORE_REFUSED
+fault_status (File at number) = SCORE_REFUSED
+fault_status NoProcess = NO_PROCESS
 fault_status Write = WRITE_FAULT
 fault_status Memory = OUT_OF_MEMORY
 
@@ -21,11 +21,18 @@ place_text line column number =
     codes "formula: score refused: " ++ decimal line ++ codes ":" ++ decimal column
     ++ codes " fault " ++ decimal number ++ codes "\n"
 
+-- the text for a refused file: the byte, from 0, and the number of its fault
+abbrev pub byte_text : (at number : ℕ) → List ℕ
+byte_text at number =
+    codes "formula: file refused: byte " ++ decimal at ++ codes " fault " ++ decimal number ++ codes "\n"
+
 -- the text for a fault
 unfoldable pub fault_text : RunFault → List ℕ
 fault_text Words = codes "formula: words refused\n"
 fault_text Read = codes "formula: read fault\n"
 fault_text (Score spot number) = place_text spot.line spot.column number
+fault_text (File at number) = byte_text at number
+fault_text NoProcess = codes "formula: no such process\n"
 fault_text Write = codes "formula: write fault\n"
 fault_text Memory = codes "formula: out of memory\n"
 
@@ -37,7 +44,7 @@ module _ {C : Type 0} (content : C → Option (List ℕ)) (sure : C → Option �
     told : status ≡ verdict → Puts content sure faults console console' text → Tells text verdict status
     untold : status ≡ CONSOLE_FAULT → Breaks content sure faults console console' text → Tells text verdict status
 
-  -- of a file that is written nothing is told, or its summary where there is one
-  abbrev pub TellsEnd : Option Summary → ℕ → Type 0
+  -- of a task that is done nothing is told, or its line where there is one
+  abbrev pub TellsEnd : Option (List ℕ) → ℕ → Type 0
   TellsEnd None status = (status ≡ DONE) × (console' ≡ console)
-  TellsEnd (Some summary) status = Tells (summary_line summary) DONE status
+  TellsEnd (Some text) status = Tells text DONE status

@@ -1,7 +1,7 @@
 -- Worked examples of the texts on the console.
 use Rattle.std.specs.Prelude.{◌≡◌, ℕ, codes, refl}
 use Rattle.fm_top.specs.declared.run_fault.RunFault.{RunFault}
-use Rattle.fm_top.specs.declared.run_fault.RunFault.TheVariants.{Words, Read, Score, Write, Memory}
+use Rattle.fm_top.specs.declared.run_fault.RunFault.TheVariants.{Words, Read, Score, File, NoProcess, Write, Memory}
 use Rattle.fm_top.specs.Telling.{fault_status, fault_text}
 
 abbrev at : ℕ → ℕ → ℕ → RunFault
@@ -14,6 +14,10 @@ text-of_words = refl
 text-of_read : fault_text Read ≡ codes "formula: read fault\n"
 unfolding fault_text
 text-of_read = refl
+
+text-of_no_process : fault_text NoProcess ≡ codes "formula: no such process\n"
+unfolding fault_text
+text-of_no_process = refl
 
 text-of_write : fault_text Write ≡ codes "formula: write fault\n"
 unfolding fault_text
@@ -31,6 +35,12 @@ status-of_read = refl
 
 status-of_score : fault_status (at 1 1 18) ≡ 3
 status-of_score = refl
+
+status-of_file : fault_status (File 41 23) ≡ 3
+status-of_file = refl
+
+status-of_no_process : fault_status NoProcess ≡ 7
+status-of_no_process = refl
 
 status-of_write : fault_status Write ≡ 4
 status-of_write = refl

@@ -1,24 +1,33 @@
 //! The whole command over whatever source, sink, console and gate it is handed.
 //!
-//! `formula` reads the words and the text, or makes the large score that they ask for, plays it
-//! into the sink, tells the console of each run that stops before, and answers with an exit status.
-//! Its clause `done` is the main theorem: after status 0 the sink holds exactly the Standard MIDI
-//! File of what the text means. Its clause `ends` says each end (`specs/Outcome.antt`). What files
-//! hold is left out.
+//! `formula` reads the words and does what they ask for: it plays a text or a large score, whole,
+//! with a track for each channel or in part, lists a file, or locates a tick. It tells the console
+//! of each run that stops before, and answers with an exit status. Its clause `done` is the main
+//! theorem: after status 0 of a run that plays, the sink holds exactly the Standard MIDI File of
+//! what the text means. Its clause `ends` says each end (`specs/Outcome.antt`). What files hold is
+//! left out.
 #![tactic(auto)]
 
+mod excerpt;
+mod input;
 mod judge;
 mod laws;
+mod listing;
+mod memory;
+mod parts;
+mod perform;
 mod play;
+mod positions;
 mod read_fault;
 mod run;
 mod run_fault;
 mod score;
 mod status;
+mod task;
 mod tell;
 #[cfg(test)]
 mod tests;
-mod text;
+mod told;
 mod top;
 
 pub use fm_words::{WordsFault, names};

@@ -1,4 +1,4 @@
-//! Why a text is not read to its end.
+//! Why an input is not read to its end.
 ghost use Rattle.std.specs.Prelude.{◌≡◌};
 ghost use Rattle.fm_top.specs.declared.read_fault.ReadFault.TheVariants.{Failed, Memory};
 
@@ -6,13 +6,13 @@ use fm_edge::Failed as SourceFailed;
 use std::alloc::AllocError;
 use thiserror::Error;
 
-/// Why `read_text` gives no text.
+/// Why `read_input` gives no input.
 #[derive(Clone, Copy, Debug, PartialEq, Eq, Error)]
 pub enum ReadFault {
     #[error("a read failed")]
     Failed,
-    /// The source has more bytes than a text may have.
-    #[error("the text is too long")]
+    /// The source has more bytes than there may be.
+    #[error("the input is too long")]
     TooLong,
     #[error("out of memory")]
     Memory,

@@ -1,26 +1,32 @@
-//! A run, from the words to the file.
-ghost use Rattle.std.specs.Prelude.{◌≡◌, map, option_map, string_bytes, IfOk, IfErr};
+//! A run, from the words to what they ask for.
+ghost use Rattle.std.specs.Prelude.{◌≡◌, ◌≤◌, Some, map, string_bytes, IfOk, IfErr, IfSome};
 ghost use Rattle.fm_edge.specs.Content.{IsNew};
+ghost use Rattle.fm_gen.specs.declared.score.TheConstants.{MAX_NUMBER};
+ghost use Rattle.fm_tick.specs.declared.tick.TheConstants.{MAX_TICK};
 ghost use Rattle.fm_words.specs.Settings.{settings_of};
+ghost use Rattle.fm_words.specs.View.{HasRanges, options_view};
 ghost use Rattle.fm_top.specs.Taking.{Takes, IsLeftAlone};
-ghost use Rattle.fm_top.specs.Outcome.{number_asked, WritesWith, Holds};
-ghost use Rattle.fm_top.specs.Summing.{totals};
+ghost use Rattle.fm_top.specs.Tasks.{most_asked, most_of, number_asked, number_of, task_asked, tick_of};
+ghost use Rattle.fm_top.specs.Outcome.{Does, Stops, Holds};
+ghost use Rattle.fm_top.specs.Summing.{told_text};
+ghost use Rattle.fm_top.specs.declared.task.Task.{Task as What};
 
-use crate::play::play;
+use crate::excerpt::excerpt_score;
+use crate::listing::list_file;
+use crate::parts::split_score;
+use crate::perform::perform;
+use crate::positions::locate_tick;
 use crate::run_fault::RunFault;
-use crate::score::read_score;
+use crate::task::{Task, task_of};
+use crate::told::Told;
 use fm_edge::{Gate, Sink, Source};
-use fm_expansion::plans_play_the_score;
-use fm_gen::Summary;
-use fm_play::Played;
-use fm_promise::scores_end_with_their_last_line;
-use fm_words::{WordsFault, read_options};
+use fm_words::{Options, WordsFault, read_options};
 use std::alloc::Global;
 use std::sync::Wait;
 use std::thread::Threads;
 
-/// Reads the words and the score of the source, or makes the large score that the words ask for,
-/// and writes its file into the new sink. It gives what there is to tell of a large score.
+/// Reads the words, and does what they ask for with the source and the new sink. It gives what
+/// there is to tell of it.
 pub fn run<R: Threads + Wait + Sync, S: Source, K: Sink, G: Gate + Sync>(
     rt: &R,
     alloc: Global,
@@ -28,46 +34,71 @@ pub fn run<R: Threads + Wait + Sync, S: Source, K: Sink, G: Gate + Sync>(
     source: &mut S,
     sink: &mut K,
     gate: &G,
-) -> Result<Option<Summary>, RunFault>
+) -> Result<Told, RunFault>
     requires new { IsNew (K.content sink.old) }
-    ensures takes { Takes S.left S.faults source.old source.new }
-    ensures unread { IsLeftAlone (number_asked (settings_of (map string_bytes words.now)))
+    ensures takes { Takes S.left S.faults
+        (most_asked (task_asked (settings_of (map string_bytes words.now))))
         source.old source.new }
-    ensures ok { IfOk result
-        (WritesWith S.left S.faults K.content K.sure K.faults
-        (settings_of (map string_bytes words.now))
-        source.old source.new sink.old sink.new) }
+    ensures unread { IsLeftAlone
+        (number_asked (task_asked (settings_of (map string_bytes words.now))))
+        source.old source.new }
+    ensures ok { IfOk result (λ told. (t : What)
+        × (task_asked (settings_of (map string_bytes words.now)) ≡ Some t)
+        × Does S.left S.faults K.content K.sure K.faults
+        source.old source.new sink.old sink.new t (told_text told)) }
     ensures err { IfErr result
         (Holds S.left S.faults K.content K.sure K.faults
-        (settings_of (map string_bytes words.now))
-        source.old source.new sink.old sink.new) }
+        source.old source.new sink.old sink.new
+        (task_asked (settings_of (map string_bytes words.now)))) }
 {
     let options = match read_options(alloc, words) {
         Ok(options) => options,
         Err(WordsFault::Words) => return Err(RunFault::Words),
         Err(WordsFault::Memory) => return Err(RunFault::Memory),
     };
-    let plan = read_score(alloc, options.generate, source)?;
-    plans_play_the_score();
-    scores_end_with_their_last_line();
-    let processes = plan.processes();
-    match play(rt, alloc, plan, &options, gate, sink) {
-        Ok(played) => Ok(summary_of(options.generate, processes, played)),
-        Err(fault) => Err(fault),
-    }
+    let task = task_of(&options);
+    run_task(rt, alloc, task, &options, source, sink, gate)
 }
 
-// What there is to tell of a performance: its totals, where a large score was asked for.
-fn summary_of(asked: Option<u32>, processes: u32, played: Played) -> Option<Summary>
-    ensures { result ≡ option_map (λ _. totals processes played) asked }
+// Does a task.
+fn run_task<R: Threads + Wait + Sync, S: Source, K: Sink, G: Gate + Sync>(
+    rt: &R,
+    alloc: Global,
+    task: Task,
+    options: &Options,
+    source: &mut S,
+    sink: &mut K,
+    gate: &G,
+) -> Result<Told, RunFault>
+    requires ranges { HasRanges (options_view options.now) }
+    requires number { IfSome (number_of task) (λ n. n ≤ MAX_NUMBER) }
+    requires tick { IfSome (tick_of task) (λ n. n ≤ MAX_TICK) }
+    requires new { IsNew (K.content sink.old) }
+    ensures takes { Takes S.left S.faults (most_of task) source.old source.new }
+    ensures unread { IsLeftAlone (number_of task) source.old source.new }
+    ensures ok { IfOk result (λ told. Does S.left S.faults K.content K.sure K.faults
+        source.old source.new sink.old sink.new task (told_text told)) }
+    ensures err { IfErr result (Stops S.left S.faults K.content K.sure K.faults
+        source.old source.new sink.old sink.new task) }
 {
-    match asked {
-        Some(_) => Some(Summary {
-            processes,
-            events: played.events,
-            last: played.last,
-            bytes: played.bytes,
-        }),
-        None => None,
+    match task {
+        Task::Play { generate } => perform(rt, alloc, generate, options, source, sink, gate),
+        Task::Split { generate } => split_score(rt, alloc, generate, options, source, sink, gate),
+        Task::Excerpt {
+            generate,
+            begin,
+            until,
+        } => excerpt_score(
+            rt, alloc, generate, begin, until, options, source, sink, gate,
+        ),
+        Task::List => {
+            list_file(alloc, source, sink)?;
+            Ok(Told::Nothing)
+        }
+        Task::Locate {
+            generate,
+            tick,
+            process,
+        } => locate_tick(alloc, generate, tick, process, source),
     }
 }

@@ -1,4 +1,4 @@
-//! Why a run has no file to show.
+//! Why a run does not do what it was asked to.
 ghost use Rattle.std.specs.Prelude.{◌≡◌};
 ghost use Rattle.fm_top.specs.declared.run_fault.RunFault.TheVariants.{Memory, Write};
 
@@ -7,7 +7,7 @@ use fm_smf::SinkFault;
 use std::alloc::AllocError;
 use thiserror::Error;
 
-/// Why a run does not end with the file of its score.
+/// Why a run does not end with what it was asked to do.
 #[derive(Clone, Copy, Debug, PartialEq, Eq, Drop, Error)]
 pub enum RunFault {
     #[error("words refused")]
@@ -17,6 +17,13 @@ pub enum RunFault {
     /// The text has its first fault at the spot, with a number from 1 to 18.
     #[error("score refused: {spot} fault {number}")]
     Score { spot: Spot, number: u8 },
+    /// The bytes are no Standard MIDI File: their first fault at this byte, counted from 0, with a
+    /// number from 21 to 35.
+    #[error("file refused: byte {place} fault {number}")]
+    File { place: u32, number: u8 },
+    /// The accepted score has no process of the number.
+    #[error("no such process")]
+    NoProcess,
     #[error("write fault")]
     Write,
     #[error("out of memory")]

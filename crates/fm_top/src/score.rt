@@ -1,16 +1,17 @@
 //! The score that is played: that of the source, or a large score.
 ghost use Rattle.std.specs.Prelude.{◌≡◌, ◌≤◌, None, IfOk, IfErr, IfSome, IsErrOf};
 ghost use Rattle.fm_edge.specs.Causes.{Rose};
+ghost use Rattle.fm_lex.specs.declared.lexer.TheConstants.{MAX_TEXT};
 ghost use Rattle.fm_top.specs.Taking.{Takes, TakesAll, TakesLong, TakesPlan, IsTaken};
 ghost use Rattle.fm_top.specs.Taking.{IsLeftAlone, offered, remaining};
 
+use crate::input::read_input;
 use crate::judge::judge;
 use crate::read_fault::ReadFault;
 use crate::run_fault::RunFault;
-use crate::text::read_text;
 use fm_edge::Source;
 use fm_gen::{MAX_NUMBER, generate};
-use fm_lex::Spot;
+use fm_lex::{MAX_TEXT, Spot};
 use fm_program::Plan;
 use std::alloc::Global;
 
@@ -28,7 +29,7 @@ pub fn read_score<S: Source>(
     source: &mut S,
 ) -> Result<Plan, RunFault>
     requires { IfSome asked (λ number. number ≤ MAX_NUMBER) }
-    ensures takes { Takes S.left S.faults source.old source.new }
+    ensures takes { Takes S.left S.faults MAX_TEXT source.old source.new }
     ensures unread { IsLeftAlone asked source.old source.new }
     ensures planned { IfOk result (λ p. TakesPlan
         (offered asked (S.left source.old)) (remaining asked (S.left source.new)) p) }
@@ -56,17 +57,18 @@ fn take_text<S: Source>(
     source: &mut S,
 ) -> Result<Vec<u8>, ReadFault>
     requires { IfSome asked (λ number. number ≤ MAX_NUMBER) }
-    ensures takes { Takes S.left S.faults source.old source.new }
+    ensures takes { Takes S.left S.faults MAX_TEXT source.old source.new }
     ensures unread { IsLeftAlone asked source.old source.new }
-    ensures text { IfOk result (λ t. TakesAll
+    ensures text { IfOk result (λ t. TakesAll MAX_TEXT
         (offered asked (S.left source.old)) (remaining asked (S.left source.new)) t.items) }
     ensures long { IsErrOf result ReadFault.TooLong
-        → TakesLong (offered asked (S.left source.old)) (remaining asked (S.left source.new)) }
+        → TakesLong MAX_TEXT
+        (offered asked (S.left source.old)) (remaining asked (S.left source.new)) }
     ensures failed { IsErrOf result ReadFault.Failed
         → (asked ≡ None) × Rose (S.faults source.old) (S.faults source.new) }
 {
     match asked {
         Some(number) => Ok(generate(alloc, number)?),
-        None => read_text(alloc, source),
+        None => read_input(alloc, source, MAX_TEXT),
     }
 }

@@ -20,3 +20,6 @@ pub const CONSOLE_FAULT: u8 = 5;
 
 /// Want of memory, before anything is written.
 pub const OUT_OF_MEMORY: u8 = 6;
+
+/// The text is accepted, and its score has no process of the number.
+pub const NO_PROCESS: u8 = 7;

@@ -1,16 +1,18 @@
 //! What the console is told of a run, and the exit status.
 ghost use Rattle.std.specs.Prelude.{◌≡◌, ◌+◌, ◌≤◌, ◌++◌, length, decimal};
 ghost use Rattle.arrayvec.specs.ArrayVec.{array_vec_len};
-ghost use Rattle.fm_gen.specs.SummaryLine.{summary_line};
-ghost use Rattle.fm_top.specs.Telling.{fault_status, place_text, fault_text, Tells};
+ghost use Rattle.fm_top.specs.Telling.{fault_status, place_text, byte_text, fault_text, Tells};
+ghost use Rattle.fm_top.specs.Telling.{TellsEnd};
+ghost use Rattle.fm_top.specs.Summing.{told_text};
 
 use crate::run_fault::RunFault;
 use crate::status::{
-    CONSOLE_FAULT, DONE, OUT_OF_MEMORY, READ_FAULT, SCORE_REFUSED, WORDS_REFUSED, WRITE_FAULT,
+    CONSOLE_FAULT, DONE, NO_PROCESS, OUT_OF_MEMORY, READ_FAULT, SCORE_REFUSED, WORDS_REFUSED,
+    WRITE_FAULT,
 };
+use crate::told::Told;
 use arrayvec::ArrayVec;
 use fm_edge::Console;
-use fm_gen::Summary;
 
 /// The most bytes of a text.
 const MOST: usize = 56;
@@ -55,6 +57,19 @@ fn text_at(line: u32, column: u32, number: u8) -> Text
     text
 }
 
+// The line of a refused file, with the byte and the number of its fault.
+fn text_at_byte(place: u32, number: u8) -> Text
+    ensures { result.items ≡ byte_text place number }
+{
+    let mut text = Text::new();
+    push_bytes(&mut text, b"formula: file refused: byte ");
+    push_decimal(&mut text, place);
+    push_bytes(&mut text, b" fault ");
+    push_decimal(&mut text, u32::from(number));
+    push_bytes(&mut text, b"\n");
+    text
+}
+
 // A text that is fixed.
 fn fixed_text(bytes: &[u8]) -> Text
     requires { length bytes.now ≤ MOST }
@@ -74,6 +89,8 @@ fn text_of(fault: RunFault) -> Text
         RunFault::Words => fixed_text(b"formula: words refused\n"),
         RunFault::Read => fixed_text(b"formula: read fault\n"),
         RunFault::Score { spot, number } => text_at(spot.line, spot.column, number),
+        RunFault::File { place, number } => text_at_byte(place, number),
+        RunFault::NoProcess => fixed_text(b"formula: no such process\n"),
         RunFault::Write => fixed_text(b"formula: write fault\n"),
         RunFault::Memory => fixed_text(b"formula: out of memory\n"),
     }
@@ -86,7 +103,8 @@ fn status_of(fault: RunFault) -> u8
     match fault {
         RunFault::Words => WORDS_REFUSED,
         RunFault::Read => READ_FAULT,
-        RunFault::Score { .. } => SCORE_REFUSED,
+        RunFault::Score { .. } | RunFault::File { .. } => SCORE_REFUSED,
+        RunFault::NoProcess => NO_PROCESS,
         RunFault::Write => WRITE_FAULT,
         RunFault::Memory => OUT_OF_MEMORY,
     }
@@ -111,11 +129,14 @@ pub fn tell<C: Console>(fault: RunFault, console: &mut C) -> u8
     say(&text_of(fault), status_of(fault), console)
 }
 
-/// Tells the console the summary of a written file, in one put, and gives the exit status. It takes
-/// no memory.
-pub fn tell_summary<C: Console>(summary: Summary, console: &mut C) -> u8
-    ensures { Tells C.content C.sure C.faults console.old console.new
-        (summary_line summary) DONE result }
+/// Tells the console what there is to tell of a task that is done, in one put, and gives the exit
+/// status. It takes no memory.
+pub fn tell_end<C: Console>(told: Told, console: &mut C) -> u8
+    ensures { TellsEnd C.content C.sure C.faults console.old console.new (told_text told) result }
 {
-    say(summary.line().as_bytes(), DONE, console)
+    match told {
+        Told::Nothing => DONE,
+        Told::Totals(summary) => say(summary.line().as_bytes(), DONE, console),
+        Told::Place(position) => say(position.line().as_bytes(), DONE, console),
+    }
 }

@@ -2,6 +2,7 @@ mod large;
 mod lines;
 mod rows;
 mod scripted;
+mod tasks;
 mod ways;
 
 use super::*;

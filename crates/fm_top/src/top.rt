@@ -1,23 +1,29 @@
-//! The whole command.
-ghost use Rattle.std.specs.Prelude.{◌≡◌, map, string_bytes};
+//! The top call.
+ghost use Rattle.std.specs.Prelude.{◌≡◌, ℕ, Option, Some, map, string_bytes};
 ghost use Rattle.fm_edge.specs.Content.{IsNew};
-ghost use Rattle.fm_top.specs.Taking.{Takes, IsLeftAlone};
 ghost use Rattle.fm_words.specs.Settings.{settings_of};
-ghost use Rattle.fm_top.specs.Outcome.{WritesScore, RunEnds, StatusCause, Completes, number_asked};
+ghost use Rattle.fm_top.specs.declared.status.TheConstants.{DONE};
+ghost use Rattle.fm_top.specs.declared.task.Task.TheVariants.{Play};
+ghost use Rattle.fm_top.specs.Taking.{Takes, IsLeftAlone};
+ghost use Rattle.fm_top.specs.Tasks.{most_asked, number_asked, task_asked};
+ghost use Rattle.fm_top.specs.Outcome.{WritesScore, RunEnds, StatusCause, Completes};
 
 use crate::run::run;
-use crate::status::DONE;
-use crate::tell::{tell, tell_summary};
+use crate::tell::{tell, tell_end};
 use fm_edge::{Console, Gate, Sink, Source};
 use fm_meaning::each_text_has_one_verdict;
+use fm_position::ticks_are_told_once;
 use std::alloc::Global;
 use std::sync::Wait;
 use std::thread::Threads;
 
-/// Reads the words and the text of the source, or makes the large score that the words ask for,
-/// writes the text's file into the new sink, and answers with an exit status from 0 to 6. The
-/// console is told in one line of each run that does not end with the file, and of each large score
-/// that is written. Threads pass the gate round each time slice; a run with 0 workers has none.
+/// Reads the words, does what they ask for with the source and the new sink, and answers with an
+/// exit status from 0 to 7. Without the later options the text of the source, or the large score
+/// that the words ask for, is played, and its file written. With `--parts` that file has a track
+/// for each channel, and with `--from` or `--to` it is an excerpt. With `--list` a Standard MIDI
+/// File is listed; with `--locate` a tick is located. The console is told in one line of each run
+/// that does not end with that, of each large score that is played, and of a tick. Threads pass
+/// the gate round each time slice; a run with 0 workers has none.
 pub fn formula<R: Threads + Wait + Sync, S: Source, K: Sink, C: Console, G: Gate + Sync>(
     rt: &R,
     alloc: Global,
@@ -29,33 +35,38 @@ pub fn formula<R: Threads + Wait + Sync, S: Source, K: Sink, C: Console, G: Gate
 ) -> u8
     requires new { IsNew (K.content sink.old) }
 
-    // After status 0 the sink holds the file of the text.
-    ensures done { result ≡ DONE
+    // After status 0 of a run that plays, the sink holds the file of the text.
+    ensures done { (number : Option ℕ)
+        → task_asked (settings_of (map string_bytes words.now)) ≡ Some (Play number)
+        → result ≡ DONE
         → WritesScore S.left S.faults K.content K.sure K.faults
-        (settings_of (map string_bytes words.now)) source.old source.new sink.old sink.new }
+        source.old source.new sink.old sink.new number }
 
     // The answers, the cause of each but want of memory, and what the console is told.
     ensures cause { StatusCause S.left S.faults K.content K.sure K.faults
-        (settings_of (map string_bytes words.now)) source.old source.new sink.old sink.new
-        C.content C.sure C.faults console.old console.new result }
+        C.content C.sure C.faults (task_asked (settings_of (map string_bytes words.now)))
+        source.old source.new sink.old sink.new console.old console.new result }
     ensures ends { RunEnds S.left S.faults K.content K.sure K.faults
-        (settings_of (map string_bytes words.now)) source.old source.new sink.old sink.new
-        C.content C.sure C.faults console.old console.new result }
+        C.content C.sure C.faults (task_asked (settings_of (map string_bytes words.now)))
+        source.old source.new sink.old sink.new console.old console.new result }
 
-    // What is read of the source, which is left alone where a large score is asked for.
-    ensures takes { Takes S.left S.faults source.old source.new }
-    ensures unread { IsLeftAlone (number_asked (settings_of (map string_bytes words.now)))
+    // What is read of the source, which is left alone where a large score is played.
+    ensures takes { Takes S.left S.faults
+        (most_asked (task_asked (settings_of (map string_bytes words.now))))
+        source.old source.new }
+    ensures unread { IsLeftAlone
+        (number_asked (task_asked (settings_of (map string_bytes words.now))))
         source.old source.new }
 
     // What comes where no fault is counted.
     ensures complete { Completes S.left S.faults K.content K.sure K.faults
-        (settings_of (map string_bytes words.now)) source.old source.new sink.old sink.new
-        C.content C.sure C.faults console.old console.new result }
+        C.content C.sure C.faults (task_asked (settings_of (map string_bytes words.now)))
+        source.old source.new sink.old sink.new console.old console.new result }
 {
     each_text_has_one_verdict();
+    ticks_are_told_once();
     match run(rt, alloc, words, source, sink, gate) {
-        Ok(None) => DONE,
-        Ok(Some(summary)) => tell_summary(summary, console),
+        Ok(told) => tell_end(told, console),
         Err(fault) => tell(fault, console),
     }
 }

@@ -14,5 +14,6 @@ pub mod CommandRules
 pub mod RuleNumbers
 pub mod SettingsRules
 mod Rows
+mod WorkRows
 mod RuleRows
 mod Numerals

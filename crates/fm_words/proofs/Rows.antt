@@ -15,7 +15,7 @@ abbrev pub words_in : List ℕ → List Text
 words_in [] = [] ∷ []
 words_in (byte ∷ bytes) = if byte == 124 then [] ∷ words_in bytes else with_byte byte (words_in bytes)
 
--- settings that are written out, without a large score
+-- settings that are written out, for a performance of a text
 abbrev pub asked : List ℕ → List ℕ → ℕ → ℕ → ℕ → Bool → Option Settings
 asked source target workers lead room rounds = Some (record {
   source = source;
@@ -25,6 +25,12 @@ asked source target workers lead room rounds = Some (record {
   room = room;
   generate = None;
   rounds = rounds;
+  list = false;
+  parts = false;
+  locate = None;
+  process = 0;
+  from = None;
+  to = None;
 })
 
 -- no word at all

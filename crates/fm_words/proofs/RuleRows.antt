@@ -1,14 +1,13 @@
 -- The rules at work: with a larger table, what some lines are cut into, and whether they keep them.
 -- A `|` stands between two words.
 use Rattle.std.proofs.Common.{◌≡◌, List, [], ◌∷◌, Some, None, true, false, refl, codes, map, replicate}
-use Rattle.fm_words.specs.Asked.{numbered, options, settings_by_rules}
-use Rattle.fm_words.specs.Rules.{Choice, file, flag, is_table, keeps_rules, nothing, number_within, parts_after, parts_of, stray, unvalued, valued}
+use Rattle.fm_words.specs.Asked.{flagged, numbered, options, settings_by_rules}
+use Rattle.fm_words.specs.Rules.{Choice, file, flag, is_table, keeps_rules, number_within, parts_after, parts_of, stray, unvalued, valued}
 use Rattle.fm_words.proofs.Rows.{asked, words_in}
 
--- options with flags and numbers up to 2^40
+-- options with a flag more
 abbrev larger : List Choice
-larger = record { name = codes "list"; takes = nothing } ∷ record { name = codes "record"; takes = nothing }
-    ∷ numbered (codes "from") 0 1099511627776 ∷ numbered (codes "to") 0 1099511627776 ∷ numbered (codes "process") 0 16383 ∷ options
+larger = flagged (codes "record") ∷ options
 
 larger_is_a_table : is_table larger ≡ true
 larger_is_a_table = refl
@@ -16,7 +15,7 @@ larger_is_a_table = refl
 -- two options of one name, and an option with the name of a file
 no_tables : map is_table (
     (numbered (codes "from") 0 1 ∷ numbered (codes "from") 0 2 ∷ []) ∷
-    (record { name = codes "IN"; takes = nothing } ∷ []) ∷ [])
+    (flagged (codes "IN") ∷ []) ∷ [])
     ≡ replicate 2 false
 no_tables = refl
 
@@ -66,7 +65,7 @@ some_numbers = refl
 some_settings : map (λ line. settings_by_rules (words_in line)) (
     codes "a|--lead=+5|b|--rounds" ∷
     codes "--room|64|a|--|--" ∷
-    codes "a|b|--list" ∷ [])
+    codes "a|b|--record" ∷ [])
     ≡ asked (codes "a") (codes "b") 4 5 32 true ∷ asked (codes "a") (codes "--") 4 7680 64 false ∷ None ∷ []
 unfolding parts_after settings_by_rules
 some_settings = refl

@@ -12,7 +12,7 @@ use Rattle.fm_words.specs.Command.{command, command_of}
 use Rattle.fm_words.specs.Follows.{FindsParts, FollowsRules}
 use Rattle.fm_words.specs.Rules.{Part, Word, files_in, has_flag_named, is_in_form, is_in_range, is_table, keeps_rules, number_of_text, number_within, parts_of, text_for}
 use Rattle.fm_words.specs.Settings.{Settings, has_fault, number_if_any, number_or, settings_in, settings_of}
-use Rattle.fm_words.specs.declared.limits.TheConstants.{DEFAULT_LEAD, DEFAULT_ROOM, DEFAULT_WORKERS, MAX_GENERATE, MAX_LEAD, MAX_ROOM, MAX_WORKERS, MIN_ROOM}
+use Rattle.fm_words.specs.declared.limits.TheConstants.{DEFAULT_LEAD, DEFAULT_PROCESS, DEFAULT_ROOM, DEFAULT_WORKERS, MAX_GENERATE, MAX_LEAD, MAX_PROCESS, MAX_ROOM, MAX_TICK_ASKED, MAX_WORKERS, MIN_ROOM}
 use Rattle.fm_words.proofs.CommandRules.{follows}
 use Rattle.fm_words.proofs.RuleNumbers.{number_same}
 
@@ -77,28 +77,42 @@ if_any low high (Some text) fits =
 
 -- ---- the settings
 
-abbrev made : Word → Word → Bool → ℕ → ℕ → ℕ → Option ℕ → Settings
-made source target rounds workers lead room generate = record {
-  source = source;
-  target = target;
+-- the settings of parts, but for their numbers
+abbrev made : List Part → ℕ → ℕ → ℕ → Option ℕ → Option ℕ → ℕ → Option ℕ → Option ℕ → Settings
+made parts workers lead room generate locate process first last = record {
+  source = slice_index_or (files_in parts) 0 [];
+  target = slice_index_or (files_in parts) 1 [];
   workers = workers;
   lead = lead;
   room = room;
   generate = generate;
-  rounds = rounds;
+  rounds = has_flag_named (codes "rounds") parts;
+  list = has_flag_named (codes "list") parts;
+  parts = has_flag_named (codes "parts") parts;
+  locate = locate;
+  process = process;
+  from = first;
+  to = last;
 }
 
--- four numbers one after the other, each none where its test fails
-in_turn : (a b c d : Bool) (source target : Word) (rounds : Bool) (workers lead room : ℕ) (generate : Option ℕ)
-    → option_and_then (λ w. option_and_then (λ l. option_and_then (λ r. option_map (λ g. made source target rounds w l r g)
-    (if d then Some generate else None)) (if c then Some room else None)) (if b then Some lead else None))
-    (if a then Some workers else None)
-    ≡ (if a && (b && (c && (d && true))) then Some (made source target rounds workers lead room generate) else None)
-in_turn true true true true source target rounds workers lead room generate = refl
-in_turn true true true false source target rounds workers lead room generate = refl
-in_turn true true false d source target rounds workers lead room generate = refl
-in_turn true false c d source target rounds workers lead room generate = refl
-in_turn false b c d source target rounds workers lead room generate = refl
+-- eight numbers one after the other, each none where its test fails
+in_turn : (a b c d e f g h : Bool) (parts : List Part) (workers lead room process : ℕ) (generate locate first last : Option ℕ)
+    → option_and_then (λ w. option_and_then (λ l. option_and_then (λ r. option_and_then (λ n. option_and_then (λ t. option_and_then
+    (λ p. option_and_then (λ x. option_map (λ y. made parts w l r n t p x y)
+    (if h then Some last else None)) (if g then Some first else None))
+    (if f then Some process else None)) (if e then Some locate else None)) (if d then Some generate else None))
+    (if c then Some room else None)) (if b then Some lead else None)) (if a then Some workers else None)
+    ≡ (if a && (b && (c && (d && (e && (f && (g && (h && true)))))))
+    then Some (made parts workers lead room generate locate process first last) else None)
+in_turn true true true true true true true true parts workers lead room process generate locate first last = refl
+in_turn true true true true true true true false parts workers lead room process generate locate first last = refl
+in_turn true true true true true true false h parts workers lead room process generate locate first last = refl
+in_turn true true true true true false g h parts workers lead room process generate locate first last = refl
+in_turn true true true true false f g h parts workers lead room process generate locate first last = refl
+in_turn true true true false e f g h parts workers lead room process generate locate first last = refl
+in_turn true true false d e f g h parts workers lead room process generate locate first last = refl
+in_turn true false c d e f g h parts workers lead room process generate locate first last = refl
+in_turn false b c d e f g h parts workers lead room process generate locate first last = refl
 
 module _ (words : List Word) where
   abbrev parts : List Part
@@ -115,17 +129,30 @@ module _ (words : List Word) where
         finds.numbers (codes "lead") 0 MAX_LEAD refl,
         finds.numbers (codes "room") MIN_ROOM MAX_ROOM refl,
         finds.numbers (codes "generate") 0 MAX_GENERATE refl,
+        finds.numbers (codes "locate") 0 MAX_TICK_ASKED refl,
+        finds.numbers (codes "process") 0 MAX_PROCESS refl,
+        finds.numbers (codes "from") 0 MAX_TICK_ASKED refl,
+        finds.numbers (codes "to") 0 MAX_TICK_ASKED refl,
         finds.flags (codes "rounds") refl,
+        finds.flags (codes "list") refl,
+        finds.flags (codes "parts") refl,
         or_default 0 MAX_WORKERS DEFAULT_WORKERS (text_for (codes "workers") parts) (omega arith),
         or_default 0 MAX_LEAD DEFAULT_LEAD (text_for (codes "lead") parts) (omega arith),
         or_default MIN_ROOM MAX_ROOM DEFAULT_ROOM (text_for (codes "room") parts) (omega arith),
         if_any 0 MAX_GENERATE (text_for (codes "generate") parts) (omega arith),
+        if_any 0 MAX_TICK_ASKED (text_for (codes "locate") parts) (omega arith),
+        or_default 0 MAX_PROCESS DEFAULT_PROCESS (text_for (codes "process") parts) (omega arith),
+        if_any 0 MAX_TICK_ASKED (text_for (codes "from") parts) (omega arith),
+        if_any 0 MAX_TICK_ASKED (text_for (codes "to") parts) (omega arith),
       )
       (in_turn (given_in 0 MAX_WORKERS (text_for (codes "workers") parts)) (given_in 0 MAX_LEAD (text_for (codes "lead") parts))
       (given_in MIN_ROOM MAX_ROOM (text_for (codes "room") parts)) (given_in 0 MAX_GENERATE (text_for (codes "generate") parts))
-      (slice_index_or (files_in parts) 0 []) (slice_index_or (files_in parts) 1 []) (has_flag_named (codes "rounds") parts)
+      (given_in 0 MAX_TICK_ASKED (text_for (codes "locate") parts)) (given_in 0 MAX_PROCESS (text_for (codes "process") parts))
+      (given_in 0 MAX_TICK_ASKED (text_for (codes "from") parts)) (given_in 0 MAX_TICK_ASKED (text_for (codes "to") parts)) parts
       (unwrap_or (number_for (codes "workers") parts) DEFAULT_WORKERS) (unwrap_or (number_for (codes "lead") parts) DEFAULT_LEAD)
-      (unwrap_or (number_for (codes "room") parts) DEFAULT_ROOM) (number_for (codes "generate") parts))
+      (unwrap_or (number_for (codes "room") parts) DEFAULT_ROOM) (unwrap_or (number_for (codes "process") parts) DEFAULT_PROCESS)
+      (number_for (codes "generate") parts) (number_for (codes "locate") parts) (number_for (codes "from") parts)
+      (number_for (codes "to") parts))
 
   of_table : FollowsRules options words → (if has_fault (fault_of (command_of options) words) then None else settings_in
       (matches_of (command_of options) words)) ≡ settings_by_rules words

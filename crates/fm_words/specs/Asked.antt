@@ -4,11 +4,15 @@ use Rattle.std.specs.Prelude.{option_and_then, slice_index_or, unwrap_or}
 use Rattle.fm_words.specs.Rules.{Choice, Part, Word, files_in, has_flag_named, keeps_rules, nothing}
 use Rattle.fm_words.specs.Rules.{number, number_of_text, parts_of, text_for}
 use Rattle.fm_words.specs.Settings.{Settings}
-use Rattle.fm_words.specs.declared.limits.TheConstants.{DEFAULT_LEAD, DEFAULT_ROOM, DEFAULT_WORKERS, MAX_GENERATE, MAX_LEAD, MAX_ROOM, MAX_WORKERS, MIN_ROOM}
+use Rattle.fm_words.specs.declared.limits.TheConstants.{DEFAULT_LEAD, DEFAULT_PROCESS, DEFAULT_ROOM, DEFAULT_WORKERS, MAX_GENERATE, MAX_LEAD, MAX_PROCESS, MAX_ROOM, MAX_TICK_ASKED, MAX_WORKERS, MIN_ROOM}
 
 -- an option with a number
 abbrev pub numbered : Word → ℕ → ℕ → Choice
 numbered name low high = record { name = name; takes = number low high }
+
+-- an option that takes nothing
+abbrev pub flagged : Word → Choice
+flagged name = record { name = name; takes = nothing }
 
 -- the options of the command
 abbrev pub options : List Choice
@@ -16,7 +20,13 @@ options = numbered (codes "workers") 0 MAX_WORKERS
     ∷ numbered (codes "lead") 0 MAX_LEAD
     ∷ numbered (codes "room") MIN_ROOM MAX_ROOM
     ∷ numbered (codes "generate") 0 MAX_GENERATE
-    ∷ record { name = codes "rounds"; takes = nothing }
+    ∷ flagged (codes "rounds")
+    ∷ flagged (codes "list")
+    ∷ flagged (codes "parts")
+    ∷ numbered (codes "locate") 0 MAX_TICK_ASKED
+    ∷ numbered (codes "process") 0 MAX_PROCESS
+    ∷ numbered (codes "from") 0 MAX_TICK_ASKED
+    ∷ numbered (codes "to") 0 MAX_TICK_ASKED
     ∷ []
 
 -- the number that is given for an option
@@ -33,6 +43,12 @@ settings_in_parts parts = record {
   room = unwrap_or (number_for (codes "room") parts) DEFAULT_ROOM;
   generate = number_for (codes "generate") parts;
   rounds = has_flag_named (codes "rounds") parts;
+  list = has_flag_named (codes "list") parts;
+  parts = has_flag_named (codes "parts") parts;
+  locate = number_for (codes "locate") parts;
+  process = unwrap_or (number_for (codes "process") parts) DEFAULT_PROCESS;
+  from = number_for (codes "from") parts;
+  to = number_for (codes "to") parts;
 }
 
 -- what words ask for; none where they break a rule

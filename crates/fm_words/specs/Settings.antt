@@ -8,9 +8,11 @@ use Rattle.clap.specs.Faults.{fault_of}
 use Rattle.clap.specs.Kinds.{Kinds}
 use Rattle.clap.specs.ValueTests.{is_unsigned_in}
 use Rattle.fm_words.specs.Command.{command}
-use Rattle.fm_words.specs.declared.limits.TheConstants.{DEFAULT_LEAD, DEFAULT_ROOM, DEFAULT_WORKERS, MAX_GENERATE, MAX_LEAD, MAX_ROOM, MAX_WORKERS, MIN_ROOM}
+use Rattle.fm_words.specs.declared.limits.TheConstants.{DEFAULT_LEAD, DEFAULT_PROCESS, DEFAULT_ROOM, DEFAULT_WORKERS, MAX_GENERATE, MAX_LEAD, MAX_PROCESS, MAX_ROOM, MAX_TICK_ASKED, MAX_WORKERS, MIN_ROOM}
 
--- what the words ask for: two names of files, three numbers, the number of a large score or none, and a flag
+-- what the words ask for: two names of files, three numbers, the number of a large score or none,
+-- three flags, a tick to locate or none, the number of a process, and the ticks where an excerpt begins
+-- and ends, each a tick or none
 pub record Settings : Type 0 where
   pub source : Text
   pub target : Text
@@ -19,6 +21,12 @@ pub record Settings : Type 0 where
   pub room : ℕ
   pub generate : Option ℕ
   pub rounds : Bool
+  pub list : Bool
+  pub parts : Bool
+  pub locate : Option ℕ
+  pub process : ℕ
+  pub from : Option ℕ
+  pub to : Option ℕ
 
 -- the number that a text spells, digits with at most one `+` before them, where it lies in the range
 abbrev pub number_in : ℕ → ℕ → Text → Option ℕ
@@ -44,7 +52,9 @@ has_flag None = false
 unfoldable pub settings_in : List Row → Option Settings
 settings_in rows =
     option_and_then (λ source. option_and_then (λ target.
-    option_and_then (λ workers. option_and_then (λ lead. option_and_then (λ room. option_map (λ generate. record {
+    option_and_then (λ workers. option_and_then (λ lead. option_and_then (λ room.
+    option_and_then (λ generate. option_and_then (λ locate. option_and_then (λ process.
+    option_and_then (λ from. option_map (λ to. record {
       source = source;
       target = target;
       workers = workers;
@@ -52,7 +62,17 @@ settings_in rows =
       room = room;
       generate = generate;
       rounds = has_flag (first_of (codes "rounds") rows);
+      list = has_flag (first_of (codes "list") rows);
+      parts = has_flag (first_of (codes "parts") rows);
+      locate = locate;
+      process = process;
+      from = from;
+      to = to;
     })
+    (number_if_any 0 MAX_TICK_ASKED (first_of (codes "to") rows)))
+    (number_if_any 0 MAX_TICK_ASKED (first_of (codes "from") rows)))
+    (number_or 0 MAX_PROCESS DEFAULT_PROCESS (first_of (codes "process") rows)))
+    (number_if_any 0 MAX_TICK_ASKED (first_of (codes "locate") rows)))
     (number_if_any 0 MAX_GENERATE (first_of (codes "generate") rows)))
     (number_or MIN_ROOM MAX_ROOM DEFAULT_ROOM (first_of (codes "room") rows)))
     (number_or 0 MAX_LEAD DEFAULT_LEAD (first_of (codes "lead") rows)))

@@ -1,5 +1,5 @@
 //! What the matches of the command choose, lent from the words.
-ghost use Rattle.std.specs.Prelude.{◌≡◌, ◌≤◌, IfSome, Some, None, [], IfOk, IfErr, map, option_map, string_bytes};
+ghost use Rattle.std.specs.Prelude.{◌≡◌, ◌≤◌, ◌<◌, ◌^◌, IfSome, Some, None, [], IfOk, IfErr, map, option_map, string_bytes};
 ghost use Rattle.clap.specs.Words.{first_of, found_of, matches_of, rows_of};
 ghost use Rattle.clap.specs.Faults.{fault_of};
 ghost use Rattle.fm_words.specs.Command.{command};
@@ -8,8 +8,8 @@ ghost use Rattle.fm_words.specs.View.{HasRanges, IsRefusedBy, chosen_view};
 
 use crate::command::formula_command;
 use crate::limits::{
-    DEFAULT_LEAD, DEFAULT_ROOM, DEFAULT_WORKERS, MAX_GENERATE, MAX_LEAD, MAX_ROOM, MAX_WORKERS,
-    MIN_ROOM,
+    DEFAULT_LEAD, DEFAULT_PROCESS, DEFAULT_ROOM, DEFAULT_WORKERS, MAX_GENERATE, MAX_LEAD,
+    MAX_PROCESS, MAX_ROOM, MAX_TICK_ASKED, MAX_WORKERS, MIN_ROOM,
 };
 use crate::words_fault::WordsFault;
 use clap::ArgMatches;
@@ -26,6 +26,12 @@ pub struct Chosen<'a> {
     pub room: u32,
     pub generate: Option<u32>,
     pub rounds: bool,
+    pub list: bool,
+    pub parts: bool,
+    pub locate: Option<u64>,
+    pub process: u32,
+    pub from: Option<u64>,
+    pub to: Option<u64>,
 }
 
 /// What the command finds in the words.
@@ -65,16 +71,28 @@ pub fn chosen_in<'a>(matches: &ArgMatches<'a>) -> Option<Chosen<'a>>
     let workers = number_of(matches, "workers", 0, MAX_WORKERS, DEFAULT_WORKERS)?;
     let lead = number_of(matches, "lead", 0, MAX_LEAD, DEFAULT_LEAD)?;
     let room = number_of(matches, "room", MIN_ROOM, MAX_ROOM, DEFAULT_ROOM)?;
-    let generate = number_if_given(matches, "generate", MAX_GENERATE)?;
+    let generate = number_if_given(matches, "generate", u64::from(MAX_GENERATE))?;
     let rounds = flag_of(matches, "rounds");
+    let list = flag_of(matches, "list");
+    let parts = flag_of(matches, "parts");
+    let locate = number_if_given(matches, "locate", MAX_TICK_ASKED)?;
+    let process = number_of(matches, "process", 0, MAX_PROCESS, DEFAULT_PROCESS)?;
+    let from = number_if_given(matches, "from", MAX_TICK_ASKED)?;
+    let to = number_if_given(matches, "to", MAX_TICK_ASKED)?;
     Some(Chosen {
         source,
         target,
         workers: workers as u32,
         lead,
         room: room as u32,
-        generate,
+        generate: in_32_bits(generate),
         rounds,
+        list,
+        parts,
+        locate,
+        process: process as u32,
+        from,
+        to,
     })
 }
 
@@ -109,7 +127,7 @@ fn number_of(matches: &ArgMatches<'_>, id: &str, low: u64, high: u64, default: u
 }
 
 // The number of an option that has no default, from 0 on; `Some(None)` where it was not given.
-fn number_if_given(matches: &ArgMatches<'_>, id: &str, high: u32) -> Option<Option<u32>>
+fn number_if_given(matches: &ArgMatches<'_>, id: &str, high: u64) -> Option<Option<u64>>
     ensures is { result
         ≡ number_if_any 0 high (first_of id.now (rows_of (found_of matches.now))) }
     ensures range { IfSome result (λ given. IfSome given (λ n. n ≤ high)) }
@@ -117,8 +135,19 @@ fn number_if_given(matches: &ArgMatches<'_>, id: &str, high: u32) -> Option<Opti
     let Some(text) = text_of(matches, id) else {
         return Some(None);
     };
-    let n = number(text, 0, u64::from(high))?;
-    Some(Some(n as u32))
+    let n = number(text, 0, high)?;
+    Some(Some(n))
+}
+
+// A small number, or none, in 32 bits.
+fn in_32_bits(given: Option<u64>) -> Option<u32>
+    requires { IfSome given (λ n. n < 2 ^ 32) }
+    ensures { result ≡ given }
+{
+    match given {
+        Some(n) => Some(n as u32),
+        None => None,
+    }
 }
 
 // The number that a text spells, where it lies in the range.

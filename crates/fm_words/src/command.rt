@@ -6,7 +6,7 @@ ghost use Rattle.fm_words.specs.Command.{bare_command, command, flag_named, opti
 use clap::{Arg, ArgAction, Command};
 use std::alloc::{AllocError, Global};
 
-/// The command: two texts, four options with a value, and a flag; no help and no version.
+/// The command: two texts, eight options with a value, and three flags; no help and no version.
 pub fn formula_command<'a>(alloc: Global) -> Result<Command<'a>, AllocError>
     ensures { IfOk result (λ c. app_of c ≡ command) }
 {
@@ -17,7 +17,13 @@ pub fn formula_command<'a>(alloc: Global) -> Result<Command<'a>, AllocError>
         .arg(option(alloc, "lead"))?
         .arg(option(alloc, "room"))?
         .arg(option(alloc, "generate"))?
-        .arg(flag(alloc, "rounds"))
+        .arg(flag(alloc, "rounds"))?
+        .arg(flag(alloc, "list"))?
+        .arg(flag(alloc, "parts"))?
+        .arg(option(alloc, "locate"))?
+        .arg(option(alloc, "process"))?
+        .arg(option(alloc, "from"))?
+        .arg(option(alloc, "to"))
 }
 
 // The command without words, whose list of words begins after the program's name.

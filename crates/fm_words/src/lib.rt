@@ -1,5 +1,5 @@
 //! The words of the command line: `IN OUT [--workers N] [--lead T] [--room K] [--generate N]
-//! [--rounds]`.
+//! [--rounds] [--list] [--parts] [--locate T] [--process P] [--from A] [--to B]`.
 //!
 //! `read_options` reads the words after the program's name, and gives [`Options`] whose numbers lie
 //! in their ranges; `names` gives the two file names alone. Both refuse the same words, which are
@@ -18,8 +18,8 @@ mod words_fault;
 
 pub use laws::{tables_obey_rules, words_obey_rules};
 pub use limits::{
-    DEFAULT_LEAD, DEFAULT_ROOM, DEFAULT_WORKERS, MAX_GENERATE, MAX_LEAD, MAX_ROOM, MAX_WORKERS,
-    MIN_ROOM,
+    DEFAULT_LEAD, DEFAULT_PROCESS, DEFAULT_ROOM, DEFAULT_WORKERS, MAX_GENERATE, MAX_LEAD,
+    MAX_PROCESS, MAX_ROOM, MAX_TICK_ASKED, MAX_WORKERS, MIN_ROOM,
 };
 pub use options::{Options, names, read_options};
 pub use words_fault::WordsFault;

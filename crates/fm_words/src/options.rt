@@ -25,6 +25,19 @@ pub struct Options {
     pub generate: Option<u32>,
     /// Whether the threads play in rounds.
     pub rounds: bool,
+    /// Whether a MIDI file is read and listed in place of a performance.
+    pub list: bool,
+    /// Whether the file has a track of its own for each channel.
+    pub parts: bool,
+    /// The tick that is located in place of a performance, 0 to 2^40; else none.
+    pub locate: Option<u64>,
+    /// The process in whose levels the tick is located, 0 to 16,383; else 0. It has no effect
+    /// where no tick is located.
+    pub process: u32,
+    /// The tick at which an excerpt begins, 0 to 2^40; else none.
+    pub from: Option<u64>,
+    /// The tick before which an excerpt ends, 0 to 2^40; else none.
+    pub to: Option<u64>,
 }
 
 /// Reads the words after the program's name. The first text is the file that is read and the second
@@ -50,6 +63,12 @@ pub fn read_options(alloc: Global, words: &[String]) -> Result<Options, WordsFau
         room: chosen.room,
         generate: chosen.generate,
         rounds: chosen.rounds,
+        list: chosen.list,
+        parts: chosen.parts,
+        locate: chosen.locate,
+        process: chosen.process,
+        from: chosen.from,
+        to: chosen.to,
     })
 }
 

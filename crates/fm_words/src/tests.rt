@@ -51,6 +51,33 @@ const REFUSED: &[&str] = &[
     "-5|b",
     "a|b|--=5",
     "a|b|---",
+    "a|b|--list=",
+    "a|b|--list=1",
+    "a|b|--list|--list",
+    "a|b|--lists",
+    "a|b|--parts=1",
+    "a|b|--parts|--list|--parts",
+    "a|b|--part",
+    "a|b|--locate",
+    "a|b|--locate=",
+    "a|b|--locate|--list",
+    "a|b|--locate|1099511627777",
+    "a|b|--locate|-1",
+    "a|b|--locate|5|--locate=5",
+    "a|b|--process",
+    "a|b|--process|16384",
+    "a|b|--process|1_0",
+    "a|b|--process|1|--locate|5|--process|1",
+    "a|--locate|5|--process|b",
+    "a|b|--from",
+    "a|b|--from|--to",
+    "a|b|--from|1099511627777",
+    "a|b|--from|5|--to|6|--from|5",
+    "a|b|--to=",
+    "a|b|--to|1099511627777",
+    "a|b|--to|-5",
+    "a|b|--to=5|--to=6",
+    "a|b|--from-to|5",
     "--|a|b|--",
     "a|b|c",
     "a",
@@ -110,6 +137,42 @@ const LARGE: &[(&str, Option<u32>)] = &[
     ("--|--generate|5", None),
 ];
 
+/// What is asked for besides: a listing, parts, a tick to locate and the process.
+type Work = (bool, bool, Option<u64>, u32);
+
+/// Lines of words, and what they ask for besides.
+const WORKS: &[(&str, Work)] = &[
+    ("a|b", (false, false, None, 0)),
+    ("a|b|--list", (true, false, None, 0)),
+    ("--parts|a|b", (false, true, None, 0)),
+    ("a|--list|b|--rounds|--parts", (true, true, None, 0)),
+    ("a|b|--locate|0", (false, false, Some(0), 0)),
+    (
+        "a|b|--locate=1099511627776",
+        (false, false, Some(1_099_511_627_776), 0),
+    ),
+    (
+        "a|b|--locate|+060|--process|007",
+        (false, false, Some(60), 7),
+    ),
+    ("--process=16383|a|b", (false, false, None, 16_383)),
+    ("--|--list|--process", (false, false, None, 0)),
+];
+
+/// Lines of words, and the ticks round an excerpt that they ask for.
+const EXCERPTS: &[(&str, Option<u64>, Option<u64>)] = &[
+    ("a|b", None, None),
+    ("a|b|--from|0", Some(0), None),
+    ("--to=1099511627776|a|b", None, Some(1_099_511_627_776)),
+    (
+        "a|--to|+7|b|--from|1099511627776",
+        Some(1_099_511_627_776),
+        Some(7),
+    ),
+    ("a|b|--from|480|--to|480", Some(480), Some(480)),
+    ("--|--from|--to", None, None),
+];
+
 fn words_of(alloc: Global, line: &str) -> Result<Vec<String>, AllocError> {
     let mut words = Vec::new(alloc);
     for word in line.split('|') {
@@ -149,6 +212,26 @@ fn words_ask_for_the_number_of_a_large_score(rt: HostRuntime) -> Result<(), Fail
     for (line, number) in LARGE {
         let options = read_options(alloc, &words_of(alloc, line)?)?;
         assert_eq!(rt; options.generate, *number, "{line}");
+    }
+    Ok(())
+}
+
+#[test]
+fn words_ask_for_a_listing_parts_and_a_place(rt: HostRuntime) -> Result<(), Fail> {
+    let alloc = rt.alloc();
+    for (line, work) in WORKS {
+        let o = read_options(alloc, &words_of(alloc, line)?)?;
+        assert_eq!(rt; (o.list, o.parts, o.locate, o.process), *work, "{line}");
+    }
+    Ok(())
+}
+
+#[test]
+fn words_ask_for_the_ticks_round_an_excerpt(rt: HostRuntime) -> Result<(), Fail> {
+    let alloc = rt.alloc();
+    for (line, first, last) in EXCERPTS {
+        let o = read_options(alloc, &words_of(alloc, line)?)?;
+        assert_eq!(rt; (o.from, o.to), (*first, *last), "{line}");
     }
     Ok(())
 }

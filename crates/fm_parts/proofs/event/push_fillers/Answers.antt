@@ -1,6 +1,7 @@
 use Rattle.fm_edge.proofs.Chains.{on_err}
 use Rattle.fm_smf.proofs.Fillers.{fillers-zero}
-use Rattle.fm_parts.proofs.Passing.{pass_none, pass_filler, filler_breaks}
+use Rattle.fm_parts.proofs.Passing.{pass_filler, filler_breaks}
+use Rattle.fm_pieces.proofs.Passing.{pass_none}
 use Rattle.fm_parts.proofs.event.push_fillers.Goals as goal
 
 pub loop-done-init : goal.loop-done-init

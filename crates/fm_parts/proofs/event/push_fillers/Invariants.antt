@@ -1,5 +1,5 @@
 use Rattle.fm_smf.specs.Track.{fillers}
-use Rattle.fm_parts.specs.Gathered.{Passes}
+use Rattle.fm_pieces.specs.Gathered.{Passes}
 use Rattle.fm_parts.proofs.event.push_fillers.Given as goal
 
 abbrev pub invariant-loop-done : goal.invariant-loop-done

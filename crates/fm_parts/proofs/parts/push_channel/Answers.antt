@@ -5,7 +5,7 @@ use Rattle.fm_read.specs.Decoded.{decoded}
 use Rattle.fm_read.specs.WrittenFile.{track_head}
 use Rattle.fm_parts.specs.Format1.{on_channel, track_behind}
 use Rattle.fm_parts.specs.Tally.{bytes_of, last_of}
-use Rattle.fm_parts.proofs.Passing.{pass_parts, parts_break, breaks_all}
+use Rattle.fm_pieces.proofs.Passing.{pass_parts, parts_break, breaks_all}
 use Rattle.fm_parts.proofs.TallyLemmas.{chunk_is}
 use Rattle.fm_parts.proofs.parts.push_channel.Goals as goal
 

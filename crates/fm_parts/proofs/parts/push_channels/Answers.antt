@@ -5,7 +5,7 @@ use Rattle.fm_read.specs.Decoded.{decoded}
 use Rattle.fm_parts.specs.Format1.{on_channel, track_of, track_chunk, channel_tracks}
 use Rattle.fm_parts.specs.Tally.{first_track}
 use Rattle.fm_parts.proofs.Channels.{tracks_none, chunks_more}
-use Rattle.fm_parts.proofs.Passing.{pass_none, pass_after}
+use Rattle.fm_pieces.proofs.Passing.{pass_none, pass_after}
 use Rattle.fm_parts.proofs.PushLemmas.{channel_breaks}
 use Rattle.fm_parts.proofs.parts.push_channels.Goals as goal
 

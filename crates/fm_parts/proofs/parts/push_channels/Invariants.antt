@@ -2,7 +2,7 @@ use Rattle.std.proofs.Common.{◌≡◌, ◌≤◌, ◌*◌, ◌+◌, length}
 use Rattle.std.specs.List.{flat_map}
 use Rattle.fm_smf.specs.declared.limits.TheConstants.{MAX_TRACK}
 use Rattle.fm_read.specs.Decoded.{decoded}
-use Rattle.fm_parts.specs.Gathered.{Passes}
+use Rattle.fm_pieces.specs.Gathered.{Passes}
 use Rattle.fm_parts.specs.Format1.{channel_tracks, track_chunk}
 use Rattle.fm_parts.specs.Tally.{first_track}
 use Rattle.fm_parts.specs.declared.parts.TheConstants.{HEAD_LENGTH}

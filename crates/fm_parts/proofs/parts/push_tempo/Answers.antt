@@ -2,7 +2,7 @@ use Rattle.std.proofs.Common.{◌+◌, ◌∙◌, ◌++◌, sym, append_assoc}
 use Rattle.fm_edge.proofs.Chains.{on_err}
 use Rattle.fm_smf.specs.Track.{tempo, end_bytes}
 use Rattle.fm_read.specs.WrittenFile.{track_head}
-use Rattle.fm_parts.proofs.Passing.{pass_after, pass_breaks, pass_parts, parts_break, breaks_all}
+use Rattle.fm_pieces.proofs.Passing.{pass_after, pass_breaks, pass_parts, parts_break, breaks_all}
 use Rattle.fm_parts.proofs.SplitLemmas.{tempo_parts}
 use Rattle.fm_parts.proofs.parts.push_tempo.Goals as goal
 

@@ -1,13 +1,9 @@
-use Rattle.fm_top.proofs.Completing.{OneVerdict}
 use Rattle.fm_top.proofs.Schedules.{same_file}
 use Rattle.fm_top.proofs.laws.same_file_for_every_schedule.Goals as goal
 
 pub returns : goal.returns
-returns g c =
-    let law = c.each_text_has_one_verdict.ensures in
-    let one : OneVerdict = record { fault = law.fault; apart = law.apart; score = law.score } in
-    record {
-      same =
-          same_file {S = g.row.S.Denot} {K = g.row.K.Denot} g.S.Source.left g.S.Source.faults
-          g.K.Sink.content g.K.Sink.sure g.K.Sink.faults one;
-    }
+returns g c = record {
+  same =
+      same_file {S = g.row.S.Denot} {K = g.row.K.Denot} g.S.Source.left g.S.Source.faults
+      g.K.Sink.content g.K.Sink.sure g.K.Sink.faults c.each_text_has_one_verdict.ensures.score;
+}

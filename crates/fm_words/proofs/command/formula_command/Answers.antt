@@ -15,5 +15,11 @@ returns c =
     let four = c.in_ok-arg-4.ensures.shape (search rules) ∙ ap₂ with_rule three c.option-2.ensures.rule in
     let five = c.in_ok-arg-5.ensures.shape (search rules) ∙ ap₂ with_rule four c.option-3.ensures.rule in
     let six = c.in_ok-arg-6.ensures.shape (search rules) ∙ ap₂ with_rule five c.option-4.ensures.rule in
-    IfOk-weaker c.arg-7.result _ (λ (m : Command). app_of m ≡ command)
-    (λ m h. h.shape (search rules) ∙ ap₂ with_rule six c.flag.ensures.rule) c.arg-7.ensures
+    let seven = c.in_ok-arg-7.ensures.shape (search rules) ∙ ap₂ with_rule six c.flag.ensures.rule in
+    let eight = c.in_ok-arg-8.ensures.shape (search rules) ∙ ap₂ with_rule seven c.flag-2.ensures.rule in
+    let nine = c.in_ok-arg-9.ensures.shape (search rules) ∙ ap₂ with_rule eight c.flag-3.ensures.rule in
+    let ten = c.in_ok-arg-10.ensures.shape (search rules) ∙ ap₂ with_rule nine c.option-5.ensures.rule in
+    let eleven = c.in_ok-arg-11.ensures.shape (search rules) ∙ ap₂ with_rule ten c.option-6.ensures.rule in
+    let twelve = c.in_ok-arg-12.ensures.shape (search rules) ∙ ap₂ with_rule eleven c.option-7.ensures.rule in
+    IfOk-weaker c.arg-13.result _ (λ (m : Command). app_of m ≡ command)
+    (λ m h. h.shape (search rules) ∙ ap₂ with_rule twelve c.option-8.ensures.rule) c.arg-13.ensures

@@ -1,0 +1,4 @@
+pub mod Replaying
+pub mod OneVerdict
+pub mod Released
+mod Rows

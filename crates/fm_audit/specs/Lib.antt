@@ -1,0 +1,2 @@
+pub use Rattle.fm_play.specs.Ends
+pub mod Verdict

@@ -1,0 +1,8 @@
+use Rattle.fm_excerpt.proofs.NoteLemmas.{excerpt_begun, excerpt_ended}
+use Rattle.fm_excerpt.proofs.laws.no_note_sounds_on.Goals as goal
+
+pub returns-clause-begun : goal.returns-clause-begun
+returns-clause-begun c = excerpt_begun
+
+pub returns-clause-ended : goal.returns-clause-ended
+returns-clause-ended c = excerpt_ended

@@ -1,0 +1,14 @@
+pub use Rattle.fm_edge.specs.Causes
+pub use Rattle.fm_edge.specs.Content
+pub use Rattle.fm_edge.specs.Runs
+pub use Rattle.fm_msg.specs.Event
+pub use Rattle.fm_msg.specs.Message
+pub use Rattle.fm_smf.specs.Track
+pub use Rattle.fm_smf.specs.File
+pub use Rattle.fm_smf.specs.Writing
+pub use Rattle.fm_read.specs.WrittenFile
+pub mod Last
+pub mod Excerpt
+pub mod Notes
+pub mod Table
+pub mod Written

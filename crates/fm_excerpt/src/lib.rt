@@ -1,0 +1,18 @@
+//! An excerpt of a Standard MIDI File, from a tick to a tick. `excerpt` writes a file of the same
+//! profile that begins with the programs, controllers and bends that were set before, has the
+//! events of the window without the note-offs of notes from before it, and ends what still sounds.
+//! After an Ok the sink holds exactly `file` of `excerpt_events`; after a fault what the writer of
+//! fm_smf leaves. No memory is taken. Files of other writers are left out.
+#![tactic(auto)]
+
+mod counts;
+mod laws;
+mod output;
+mod state;
+#[cfg(test)]
+mod tests;
+mod whole;
+mod window;
+
+pub use laws::{excerpts_that_meet, no_note_sounds_on, whole_range};
+pub use whole::excerpt;

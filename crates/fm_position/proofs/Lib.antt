@@ -1,0 +1,4 @@
+pub mod LevelLemmas
+pub mod ToldLemmas
+pub mod StartLemmas
+pub mod Rows

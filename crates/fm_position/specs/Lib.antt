@@ -1,0 +1,4 @@
+pub mod Levels
+pub mod PositionLine
+pub mod Told
+pub mod Worked

@@ -1,0 +1,2 @@
+pub use Rattle.fm_read.specs.WrittenFile
+pub mod ReadBack

@@ -1,0 +1,46 @@
+use Rattle.std.proofs.Common.{◌≤◌, length, subst, sym, ◌∙◌}
+use Rattle.fm_read.specs.declared.limits.TheConstants.{MAX_FILE}
+use Rattle.fm_top.proofs.Splitting.{file_read, is_written, plan_read, plan_small, split_cut, split_done}
+use Rattle.fm_top.proofs.parts.split_score.Goals as goal
+
+pub play_in_memory-requires-clause-fits : goal.play_in_memory-requires-clause-fits
+play_in_memory-requires-clause-fits g c κs within =
+    plan_small c.plans_play_the_score.ensures c.scores_end_with_their_last_line.ensures c.accepted_files_are_read.ensures
+    _ _ c.in_ok-plan.plan c.in_ok-plan.ensures.planned
+
+pub open_written-file-requires-clause-small : goal.open_written-file-requires-clause-small
+open_written-file-requires-clause-small g c =
+    subst (λ z. length z ≤ MAX_FILE) (sym (c.content.ensures ∙ c.in_ok-memory.ensures.file))
+    (plan_small c.plans_play_the_score.ensures c.scores_end_with_their_last_line.ensures c.accepted_files_are_read.ensures
+    _ _ c.in_ok-plan.plan c.in_ok-plan.ensures.planned)
+
+pub open_written-file-requires-clause-read : goal.open_written-file-requires-clause-read
+open_written-file-requires-clause-read g c =
+    plan_read c.plans_play_the_score.ensures c.scores_end_with_their_last_line.ensures c.accepted_files_are_read.ensures
+    _ _ c.in_ok-plan.plan c.in_ok-plan.ensures.planned _ (c.content.ensures ∙ c.in_ok-memory.ensures.file)
+
+pub split-requires : goal.split-requires
+split-requires g c = record {
+  written = is_written c.plans_play_the_score.ensures c.scores_end_with_their_last_line.ensures c.accepted_files_are_read.ensures
+      _ _ c.in_ok-plan.plan c.in_ok-plan.ensures.planned _ _ (c.content.ensures ∙ c.in_ok-memory.ensures.file)
+      c.open_written-file.ensures;
+}
+
+pub returns-in-Ok-clause-ok : goal.returns-in-Ok-clause-ok
+returns-in-Ok-clause-ok g c =
+    let known = file_read c.plans_play_the_score.ensures c.scores_end_with_their_last_line.ensures c.accepted_files_are_read.ensures
+    _ _ c.in_ok-plan.plan c.in_ok-plan.ensures.planned _ _ (c.content.ensures ∙ c.in_ok-memory.ensures.file)
+    c.open_written-file.ensures in
+    split_done {S = g.row.S.Denot} {K = g.row.K.Denot} g.S.Source.left g.S.Source.faults g.K.Sink.content g.K.Sink.sure g.K.Sink.faults
+    _ _ _ _ _ c.plans_play_the_score.ensures c.scores_end_with_their_last_line.ensures _ c.in_ok-plan.ensures.planned _ _ _ _
+    c.processes-processes.ensures.value c.in_ok-memory.ensures.played (c.in-Ok.ensures.count _ _ _ known) c.totals_of.ensures
+    (c.in-Ok.ensures.ok _ _ _ known)
+
+pub returns-clause-err : goal.returns-clause-err
+returns-clause-err g c =
+    let known = file_read c.plans_play_the_score.ensures c.scores_end_with_their_last_line.ensures c.accepted_files_are_read.ensures
+    _ _ c.in_ok-plan.plan c.in_ok-plan.ensures.planned _ _ (c.content.ensures ∙ c.in_ok-memory.ensures.file)
+    c.open_written-file.ensures in
+    split_cut {S = g.row.S.Denot} {K = g.row.K.Denot} g.S.Source.left g.S.Source.faults g.K.Sink.content g.K.Sink.sure g.K.Sink.faults
+    _ _ _ _ _ c.plans_play_the_score.ensures c.scores_end_with_their_last_line.ensures _ c.in_ok-plan.ensures.planned
+    (c.in-Err.ensures.err _ _ _ known)

@@ -1,0 +1,60 @@
+-- What a run is asked to do, and what it may take for it.
+use Rattle.std.specs.Prelude.{ℕ, if◌then◌else◌, Option, Some, None, option_map}
+use Rattle.fm_lex.specs.declared.lexer.TheConstants.{MAX_TEXT}
+use Rattle.fm_read.specs.declared.limits.TheConstants.{MAX_FILE}
+use Rattle.fm_words.specs.Settings.{Settings}
+use Rattle.fm_top.specs.declared.task.Task.{Task}
+use Rattle.fm_top.specs.declared.task.Task.TheVariants as task
+
+-- to play, or an excerpt where a begin or an end is given: without a begin from the tick 0 on
+abbrev pub window_task : Option ℕ → Option ℕ → Option ℕ → Task
+window_task number None None = task.Play number
+window_task number None (Some until) = task.Excerpt number 0 (Some until)
+window_task number (Some begin) until = task.Excerpt number begin until
+
+-- to locate, where a tick is given, and else another task
+abbrev pub or_locate : Option ℕ → Option ℕ → ℕ → Task → Task
+or_locate number None process other = other
+or_locate number (Some tick) process other = task.Locate number tick process
+
+-- the task that settings ask for: that of the first of the later options that stands, and else to play
+abbrev pub task_of : Settings → Task
+task_of settings =
+    if settings.list then task.List
+    else or_locate settings.generate settings.locate settings.process
+    (if settings.parts then task.Split settings.generate else window_task settings.generate settings.from settings.to)
+
+-- the task that is asked for, where the words are not refused
+abbrev pub task_asked : Option Settings → Option Task
+task_asked asked = option_map task_of asked
+
+-- the number of the large score that is played in place of a text, where one is asked for; who lists has none
+abbrev pub number_of : Task → Option ℕ
+number_of (task.Play number) = number
+number_of (task.Split number) = number
+number_of (task.Excerpt number begin until) = number
+number_of task.List = None
+number_of (task.Locate number tick process) = number
+
+-- the tick that is located, where one is
+abbrev pub tick_of : Task → Option ℕ
+tick_of (task.Locate number tick process) = Some tick
+tick_of t = None
+
+-- the most bytes of an input: of a text, or of a file
+abbrev pub most_of : Task → ℕ
+most_of (task.Play number) = MAX_TEXT
+most_of (task.Split number) = MAX_TEXT
+most_of (task.Excerpt number begin until) = MAX_TEXT
+most_of task.List = MAX_FILE
+most_of (task.Locate number tick process) = MAX_TEXT
+
+-- the number of what is asked for, where one is
+abbrev pub number_asked : Option Task → Option ℕ
+number_asked None = None
+number_asked (Some t) = number_of t
+
+-- the most bytes of its input; of refused words nothing is taken
+abbrev pub most_asked : Option Task → ℕ
+most_asked None = 0
+most_asked (Some t) = most_of t

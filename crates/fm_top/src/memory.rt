@@ -1,0 +1,59 @@
+//! A performance that is written into memory, and read from there.
+ghost use Rattle.std.specs.Prelude.{◌≡◌, ◌≤◌, length, Ok, IfOk, IfErr};
+ghost use Rattle.fm_line.specs.Piece.{piece};
+ghost use Rattle.fm_play.specs.Ends.{piece_end};
+ghost use Rattle.fm_play.specs.Performance.{played_of};
+ghost use Rattle.fm_program.specs.Process.{plan_lines};
+ghost use Rattle.fm_read.specs.Files.{Contents, contents};
+ghost use Rattle.fm_read.specs.declared.limits.TheConstants.{MAX_FILE};
+ghost use Rattle.fm_smf.specs.File.{file};
+ghost use Rattle.fm_words.specs.View.{HasRanges, options_view};
+ghost use Rattle.fm_top.specs.declared.run_fault.RunFault.TheVariants.{Memory};
+
+use crate::play::play;
+use crate::run_fault::RunFault;
+use fm_edge::{Gate, MemorySink};
+use fm_play::Played;
+use fm_program::Plan;
+use fm_read::{File, MAX_FILE, read};
+use fm_words::Options;
+use std::alloc::Global;
+use std::sync::Wait;
+use std::thread::Threads;
+
+/// The file of the plan's piece in memory, played in the way that the options ask for, and its
+/// size. A file of that size is within the sink's capacity, so that no call fails.
+pub fn play_in_memory<R: Threads + Wait + Sync, G: Gate + Sync>(
+    rt: &R,
+    alloc: Global,
+    plan: Plan,
+    options: &Options,
+    gate: &G,
+) -> Result<(MemorySink, Played), RunFault>
+    requires ranges { HasRanges (options_view options.now) }
+    requires fits { length (file plan.profile (piece (plan_lines plan))
+        (piece_end (plan_lines plan))) ≤ MAX_FILE }
+    ensures file { IfOk result (λ r. r.0.content
+        ≡ file plan.profile (piece (plan_lines plan)) (piece_end (plan_lines plan))) }
+    ensures played { IfOk result (λ r. r.1 ≡ played_of plan) }
+    ensures err { IfErr result (λ fault. fault ≡ Memory) }
+{
+    let mut memory = MemorySink::new(alloc, MAX_FILE, Vec::new(alloc))?;
+    match play(rt, alloc, plan, options, gate, &mut memory) {
+        Ok(played) => Ok((memory, played)),
+        Err(RunFault::Memory) => Err(RunFault::Memory),
+        Err(_) => unreachable!(),
+    }
+}
+
+/// The file that the bytes are, which is known to be one.
+pub fn open_written(bytes: &[u8]) -> File<'_>
+    requires small { length bytes.now ≤ MAX_FILE }
+    requires read { (c : Contents) × (contents bytes.now ≡ Ok c) }
+    ensures { contents bytes.now ≡ Ok result }
+{
+    match read(bytes) {
+        Ok(file) => file,
+        Err(_) => unreachable!(),
+    }
+}

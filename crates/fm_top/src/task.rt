@@ -1,0 +1,67 @@
+//! What a run is asked to do.
+ghost use Rattle.std.specs.Prelude.{◌≡◌};
+ghost use Rattle.fm_words.specs.View.{options_view};
+ghost use Rattle.fm_top.specs.Tasks.{task_of};
+
+use fm_words::Options;
+
+/// What a run is asked to do. Where several of the later options stand, the first counts of
+/// `--list`, `--locate`, `--parts`, and `--from` with `--to`; where none does, a score is played.
+#[derive(Clone, Copy, Debug, PartialEq, Eq)]
+pub enum Task {
+    /// A score is played: that of the source, or the large score of a number.
+    Play {
+        generate: Option<u32>,
+    },
+    /// The same as a file of format 1, with a track for each channel.
+    Split {
+        generate: Option<u32>,
+    },
+    /// The part of it from the tick `begin` to the tick `until`, or to its end.
+    Excerpt {
+        generate: Option<u32>,
+        begin: u64,
+        until: Option<u64>,
+    },
+    /// A Standard MIDI File is listed.
+    List,
+    /// A tick is located in the levels that are open where a process starts.
+    Locate {
+        generate: Option<u32>,
+        tick: u64,
+        process: u32,
+    },
+}
+
+/// The task that options ask for.
+pub fn task_of(options: &Options) -> Task
+    ensures { result ≡ task_of (options_view options.now) }
+{
+    let generate = options.generate;
+    if options.list {
+        return Task::List;
+    }
+    if let Some(tick) = options.locate {
+        return Task::Locate {
+            generate,
+            tick,
+            process: options.process,
+        };
+    }
+    if options.parts {
+        return Task::Split { generate };
+    }
+    match (options.from, options.to) {
+        (None, None) => Task::Play { generate },
+        (None, until) => Task::Excerpt {
+            generate,
+            begin: 0,
+            until,
+        },
+        (Some(begin), until) => Task::Excerpt {
+            generate,
+            begin,
+            until,
+        },
+    }
+}

@@ -1,0 +1,2 @@
+pub use Rattle.fm_strand.specs.Course
+pub mod Ends

@@ -1,0 +1,16 @@
+//! The processes of a plan walked one after the other, from their starts to their ends.
+//!
+//! [`lines`] gives the lines of a plan: its clause says that they are exactly those that
+//! `fm_program` defines. [`start_of`] gives where one process starts. Both run each process by the
+//! same function, on one thread and without a sink.
+#![tactic(auto)]
+
+mod ends;
+mod process;
+#[cfg(test)]
+mod tests;
+mod walk;
+
+pub use fm_line::Line;
+pub use fm_strand::{Place, Plan};
+pub use walk::{lines, start_of};
