@@ -7,6 +7,7 @@ from typing import NamedTuple, Optional
 from .music import Block, Message, Music, Note, Par, Part, Phrase, Repeat, Rest, Warp, deformed
 
 DEFAULT_GATE, DEFAULT_VELOCITY, RELEASE_VELOCITY = 90, 64, 64
+LAST_TICK, MOST_WAITING = 2 ** 40, 16
 
 
 class Event(NamedTuple):
@@ -34,13 +35,13 @@ class _Process:
 
     def __init__(self, number: int, position: int, channel: int, lists: tuple[tuple[str, _List], ...],
                  levels: tuple[tuple[int, tuple[Part, ...]], ...]):
-        self.number, self.position, self.channel, self.made = number, position, channel, 0
+        self.number, self.position, self.channel = number, position, channel
         self.lists = tuple((kind, _List(each.values)) for kind, each in lists)
         self.levels = levels  # of each open warp, from the outside, where it begins and its parts
 
     def outside(self, position: int, onset: bool) -> int:
         for begun, parts in reversed(self.levels):
-            position = begun + deformed(parts, position, onset)
+            position = begun + deformed(parts, position if onset else min(position, LAST_TICK), onset)
         return position
 
     def entry(self, kind: str, otherwise: int) -> int:
@@ -49,18 +50,24 @@ class _Process:
 
 class _Player:
     def __init__(self) -> None:
-        self.events: list[Event] = []
+        self.made: list[list[tuple[int, bytes]]] = []  # what each process makes, note-offs behind their note-ons
+        self.ends: dict[int, int] = {}
         self.born = 0
 
     def start(self, position: int, like: Optional[_Process]) -> _Process:
         self.born += 1
+        self.made.append([])
         if like is None:
             return _Process(0, position, 0, (), ())
         return _Process(self.born - 1, position, like.channel, like.lists, like.levels)
 
     def add(self, now: _Process, tick: int, status: int, *data: int) -> None:
-        self.events.append(Event(tick, now.number, now.made, bytes([status | now.channel, *data])))
-        now.made += 1
+        self.made[now.number].append((tick, bytes([status | now.channel, *data])))
+
+    def end(self, now: _Process) -> int:
+        """Ends the process where it is, and gives its position."""
+        self.ends[now.number] = now.outside(now.position, True)
+        return now.position
 
     def play(self, items: tuple[Music, ...], now: _Process) -> _Process:
         """Plays them; what follows goes on in the process that is given back."""
@@ -88,9 +95,9 @@ class _Player:
             now = self.play(item.body, now)
             now.position, now.levels = begun + deformed(item.parts, now.position, True), outer
         elif isinstance(item, Par):
-            forked, last = now, now.position
+            forked, last = now, self.end(now)
             for branch in item.branches:
-                last = max(last, self.play(branch, self.start(forked.position, forked)).position)
+                last = max(last, self.end(self.play(branch, self.start(forked.position, forked))))
             return self.start(last, forked)
         return now
 
@@ -127,8 +134,31 @@ class _Player:
         return after
 
 
+def _come_out(made: list[tuple[int, bytes]], end: int) -> list[tuple[int, bytes]]:
+    """What one process plays to its end. Its note-offs wait for their ticks: before each other message comes what is
+    due, before the note-ons of a note the longest waiting where there is no room, and the rest at the end."""
+    out: list[tuple[int, bytes]] = []
+    waiting: list[tuple[int, bytes]] = []
+    for place, (tick, message) in enumerate([*made, (end, b"")]):
+        kind = message[0] >> 4 if message else 0
+        if kind == 8:
+            waiting.append((tick, message))
+            continue
+        out += sorted((each for each in waiting if each[0] <= tick), key=lambda each: each[0])
+        waiting = [each for each in waiting if each[0] > tick]
+        room = MOST_WAITING if message else 0
+        if kind == 9:
+            room -= next((k for k, (_, m) in enumerate(made[place:]) if m[0] >> 4 != 9), len(made) - place)
+        while len(waiting) > room:
+            out.append((tick, waiting.pop(0)[1]))
+        if message:
+            out.append((tick, message))
+    return out
+
+
 def events_of(items: tuple[Music, ...]) -> list[Event]:
     """All events of the items, in the order of the file."""
     player = _Player()
-    player.play(items, player.start(0, None))
-    return sorted(player.events)
+    player.end(player.play(items, player.start(0, None)))
+    return sorted(Event(tick, process, number, message) for process, made in enumerate(player.made)
+                  for number, (tick, message) in enumerate(_come_out(made, player.ends[process])))

@@ -15,12 +15,14 @@ import sys
 import unicodedata
 from typing import NamedTuple, Optional, Sequence
 
-from .faults import FAULTS, FILE_FAULTS, slip_at
+from . import records
+from .faults import FAULTS, FILE_FAULTS, RECORD_FAULTS, slip_at
 from .words import USAGE, read
 
 MOST_BYTES = 1_048_576
+MOST_RECORD = 67_108_864
 #: The tasks of which OUT may be a pipe, since nothing in it is written over.
-PIPED = ("--list", "--parts")
+PIPED = ("--list", "--parts", "--record")
 #: How many bytes of a file are shown before a place, and from it on.
 BYTES_SHOWN = 12
 #: The greatest part of a long line that is shown before the place, and from it on, in characters.
@@ -74,6 +76,39 @@ def file_refusal(name: str, place: FilePlace) -> str:
     return "\n".join([*parts, fault.do])
 
 
+class RecordPlace(NamedTuple):
+    """Where a record is refused, in bytes or in steps as its fault says; and the fault's number."""
+
+    place: int
+    number: int
+
+
+def record_place_of(said: str) -> Optional[RecordPlace]:
+    """The place and the number that the command's line tells of a refused record."""
+    found = re.fullmatch(r"formula: record refused: ([0-9]+) fault ([0-9]+)\n?", said)
+    return RecordPlace(*map(int, found.groups())) if found else None
+
+
+def record_refusal(name: str, data: Optional[bytes], place: RecordPlace) -> str:
+    """What a refused record is told: where, the bytes or the step there, what it means, what to do."""
+    fault = RECORD_FAULTS.get(place.number)
+    if fault is None:
+        return f"{name}: {place.place}: fault {place.number}"
+    where = {44: f"{name}: step {place.place}", 45: f"{name}: behind {place.place} steps", 46: name}.get(
+        place.number, f"{name}: byte {place.place}" + (" of the steps" if place.number == 43 else ""))
+    said = [f"{where}: {fault.means} (fault {fault.number})"]
+    record = records.parts(data) if data else None
+    if data and place.number == 41:
+        said.append(bytes_round(data, place.place))
+    elif record and place.number == 43:
+        said.append(bytes_round(record.steps, place.place))
+    elif record and place.number == 44:
+        step = next((each for each in records.steps(record.steps) if each.number == place.place), None)
+        if step:
+            said.append(f"{step.number} {step.place} {step}")
+    return "\n".join([*said, fault.do])
+
+
 def excerpt(text: bytes, place: Place) -> str:
     """The line of the place, and a caret under it: two lines, the ends of a long one left out."""
     lines = text.split(b"\n")
@@ -119,9 +154,16 @@ def explanation(status: int, said: str, words: Sequence[str]) -> str:
         return f"{source!r} cannot be read: {_why_unread(source)}"
     if status == 3:
         place, file_place = place_of(said), file_place_of(said)
+        record_place = record_place_of(said)
         if file_place:
             return file_refusal(source, file_place)
-        return refusal(source, _bytes_of(source, MOST_BYTES + 1), place) if place else ""
+        if asked.task != "--audit":
+            return refusal(source, _bytes_of(source, MOST_BYTES + 1), place) if place else ""
+        data = _bytes_of(source, MOST_RECORD + 1)
+        if record_place:
+            return record_refusal(source, data, record_place)
+        record = records.parts(data) if data else None
+        return refusal(f"{source}, its score", record.text if record else None, place) if place else ""
     if status == 4:
         return f"{target!r} cannot be written: {_why_unwritten(target, asked.task in PIPED)}"
     if status == 5:
@@ -129,8 +171,8 @@ def explanation(status: int, said: str, words: Sequence[str]) -> str:
     if status == 6:
         return "there is too little memory; nothing was written"
     if status == 7:
-        return (f"there is no process {asked.numbers.get('--process', 0)}: 0 is what stands before the first `par`, and "
-                "each branch and what follows a `par` is one more, numbered as they stand in the text")
+        return (f"there is no process {asked.numbers.get('--process', 0)}: 0 is what stands before the first `par`, "
+                "and each branch and what follows a `par` is one more, numbered as they stand in the text")
     return ""
 
 

@@ -1,5 +1,5 @@
 """What the command's refusals mean: the tables behind `scripts/formula`, this library's exceptions
-and those of docs/LANGUAGE.md and docs/MIDI_FILE.md (which `scripts/pages` writes)."""
+and those of docs/LANGUAGE.md, docs/MIDI_FILE.md and docs/SCHEDULER.md (which `scripts/pages` writes)."""
 
 from __future__ import annotations
 
@@ -8,7 +8,7 @@ from typing import NamedTuple, Optional
 
 
 class Fault(NamedTuple):
-    """A fault of a text or of a file, by its number."""
+    """A fault of a text, of a file or of a record, by its number."""
 
     number: int
     means: str
@@ -50,11 +50,12 @@ FAULTS = {fault.number: fault for fault in (
           "write its `phrase` or `shape` above; a phrase cannot bring in itself"),
     Fault(7, "a number out of its range, a 257th part or entry, a 17th pitch",
           "the number or its `-`, of `a/b` the a; of a 257th entry or part its number; the 17th pitch",
-          "velocities go from 1 to 127, channels from 0 to 15, gates from 0 to 100, keys, controllers, values and "
-          "programs from 0 to 127, stretches from 1 to 1,000,000, lengths, counts and what follows `max` from 0 "
-          "to 1,000,000 (ticks, of lengths)"),
+          "velocities go from 1 to 127, channels from 0 to 15, gates from 0 to 400, keys, controllers, values and "
+          "programs from 0 to 127, stretches from 1 to 1,000,000, divisions from 24 to 960, lengths, counts and what "
+          "follows `max` from 0 to 1,000,000 (ticks, of lengths); the version is 1 or 2"),
     Fault(8, "a length `a/b` that is no whole number of ticks, as `1/7`", "the a",
-          "let b divide 1,920 times a, as in `1/6`, `1/64` or `1/5`, or write `ticks N`"),
+          "let b divide the ticks of a whole note, 1,920 or four times the division, times a, as in `1/6`, `1/64` "
+          "or `1/5`, or write `ticks N`"),
     Fault(9, "a `par` inside an `if` or a loop of a computed count", "the `par`; in a phrase the `do`",
           "write the count as a number; put the `if` into the branches"),
     Fault(10, "a `play` or `skip` outside every `rhythm`", "the word; in a phrase the `do`",
@@ -65,7 +66,8 @@ FAULTS = {fault.number: fault for fault in (
     Fault(12, "a ninth open warp, a 17th open loop or list, both counted together, or a 65th block (a `do` "
               "counts as one)",
           "the word of the block or `do`", "nest less deeply"),
-    Fault(13, "more than 4,096 processes", "the statement with which the limit is passed", "fork less often"),
+    Fault(13, "more than 4,096 processes, in version 2 more than 16,384",
+          "the statement with which the limit is passed", "fork less often, or begin with `formula 2;`"),
     Fault(14, "more than 262,144 operations, once phrases and forking loops are written out", "the same",
           "repeat phrases in loops that do not fork"),
     Fault(15, "an end past 2^40 ticks", "the same", "shorten the score"),
@@ -80,7 +82,8 @@ FILE_FAULTS = {fault.number: fault for fault in (
           "take the `data` chunk out of the wrapper; most players save a plain file"),
     Fault(22, "the bytes begin otherwise than with `MThd`", "0",
           "check the name: it is another kind of file, an empty one, or a compressed one"),
-    Fault(23, "the bytes end too early: a chunk passes the end of the file, or an event the end of its track", "that end",
+    Fault(23, "the bytes end too early: a chunk passes the end of the file, or an event the end of its track",
+          "that end",
           "copy or download the file again; where the program that wrote it was stopped, write it again"),
     Fault(24, "the header says a length below 6", "4",
           "save the file again with another program"),
@@ -107,6 +110,24 @@ FILE_FAULTS = {fault.number: fault for fault in (
           "save the file again with a track"),
     Fault(35, "more than 33,554,432 bytes came, which is tested before all else", "0",
           "save the file without what is no music, as samples in sysex events, or some of its tracks at a time"),
+)}
+
+#: Of a record that is audited.
+RECORD_FAULTS = {fault.number: fault for fault in (
+    Fault(41, "the head is not whole, or one of its numbers out of its range",
+          "the byte at which that field begins: 0 `FMR1`, 4 the seats, 5 the room, 6 the lead, 10 the length of the "
+          "text",
+          "check the name: it is another kind of file, or a record that was cut within its text"),
+    Fault(43, "no step begins here: the kind is unknown, the step is cut, or `ended` is above 1",
+          "the byte, counted from the first step",
+          "copy the record again, or make it anew: it was cut or damaged at this step or before it"),
+    Fault(44, "this step is not allowed there: the steps are not those of a run over this score",
+          "the number of the step, counted from 0",
+          "make the record anew; `scripts/record` prints its steps, and docs/SCHEDULER.md says where each is allowed"),
+    Fault(45, "the steps end before every event is out and every process at its end", "how many steps there are",
+          "copy the record again, or make it anew: its end is missing"),
+    Fault(46, "more than 67,108,864 bytes came, which is tested before all else", "0",
+          "record a shorter score, or with more room and fewer workers: a longer record is written, and not audited"),
 )}
 
 _PITCH = r"[a-g][sb]?[0-9]\b"

@@ -308,13 +308,13 @@ def accents(velocities: Sequence[Union[str, int]], *items: Music) -> Block:
 
 
 def gate(percent: int, *items: Music) -> Block:
-    """The items with each note sounding for so many percent of its length, 0 to 100."""
-    return Block("gate", (_in("a gate", percent, 0, 100),), body_of(items))
+    """The items with each note sounding for so many percent of its length, 0 to 400; above 100 into the next ones."""
+    return Block("gate", (_in("a gate", percent, 0, 400),), body_of(items))
 
 
 def articulations(percents: Sequence[int], *items: Music) -> Block:
     """The items with a gate for each note or chord in turn, from a list that goes round."""
-    return Block("artic", _list(tuple(_in("a gate", each, 0, 100) for each in percents)), body_of(items))
+    return Block("artic", _list(tuple(_in("a gate", each, 0, 400) for each in percents)), body_of(items))
 
 
 def crescendo(first: Union[str, int], last: Union[str, int], *items: Music) -> Block:

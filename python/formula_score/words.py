@@ -6,17 +6,18 @@ import re
 from typing import Mapping, NamedTuple, Optional, Sequence
 
 USAGE = ("usage: formula IN OUT [--workers N] [--lead T] [--room K] [--generate N] [--rounds] [--list] "
-         "[--locate T] [--process P] [--parts] [--from A] [--to B]")
+         "[--locate T] [--process P] [--parts] [--from A] [--to B] [--record] [--audit]")
 
 #: The least and the greatest number of each option that has one.
 RANGES = {"--workers": (0, 16), "--lead": (0, 1_000_000), "--room": (1, 64), "--generate": (0, 999_999_999),
-          "--locate": (0, 1_099_511_627_776), "--process": (0, 16_383), "--from": (0, 1_099_511_627_776), "--to": (0, 1_099_511_627_776)}
+          "--locate": (0, 1_099_511_627_776), "--process": (0, 16_383),
+          "--from": (0, 1_099_511_627_776), "--to": (0, 1_099_511_627_776)}
 
 #: The options without a number.
-FLAGS = ("--rounds", "--list", "--parts")
+FLAGS = ("--rounds", "--list", "--parts", "--record", "--audit")
 
 #: The options that ask for something else than a file of the score, the one that counts first.
-TASKS = ("--list", "--locate", "--parts", "--from", "--to")
+TASKS = ("--audit", "--list", "--record", "--locate", "--parts", "--from", "--to")
 
 
 class Words(NamedTuple):

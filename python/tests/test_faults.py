@@ -6,9 +6,10 @@ import tempfile
 import unittest
 
 from formula_score.explain import (
-    FilePlace, Place, bytes_round, excerpt, explanation, file_place_of, file_refusal, place_of, refusal,
+    FilePlace, Place, bytes_round, excerpt, explanation, file_place_of, file_refusal, place_of, record_place_of,
+    refusal,
 )
-from formula_score.faults import FAULTS, FILE_FAULTS, SLIPS, slip_at
+from formula_score.faults import FAULTS, FILE_FAULTS, RECORD_FAULTS, SLIPS, slip_at
 from formula_score.words import read
 
 from .program import TOP, needs_program, run
@@ -27,6 +28,7 @@ REFUSED = (
     "a|b|--list|1", "a|b|--parts|--parts", "a|b|--LIST", "a|--list", "a|b|--locate", "a|b|--locate|--list",
     "a|b|--locate|1099511627777", "a|b|--process|16384", "a|b|--process|-1", "a|b|--locate|5|--locate=5",
     "a|b|--from", "a|b|--from|1099511627777", "a|b|--to|-1", "a|b|--to|5|--to|5", "a|b|--from|--to|5",
+    "a|b|--record=1", "a|b|--audit|--audit", "a|b|--record|--record", "a|b|--audit=",
 )
 TAKEN = (
     ("a|b", "a", "b"), ("a|b|--rounds", "a", "b"), ("a|b|--lead|+5", "a", "b"), ("a|b|--lead|007", "a", "b"),
@@ -38,6 +40,7 @@ TAKEN = (
     ("a|b|--list", "a", "b"), ("--parts|a|--list|b|--generate|0", "a", "b"), ("--|--list|--parts", "--list", "--parts"),
     ("a|b|--locate=1099511627776|--process|007", "a", "b"), ("--process=16383|a|b", "a", "b"),
     ("a|b|--from|0|--to=1099511627776", "a", "b"), ("--to|7|a|b", "a", "b"),
+    ("a|b|--record|--audit", "a", "b"),
 )
 
 
@@ -53,7 +56,9 @@ class Words(unittest.TestCase):
     def test_the_task_that_counts(self):
         for line, task in (("a|b|--rounds", None), ("a|b|--parts|--list", "--list"), ("a|b|--parts", "--parts"),
                            ("a|b|--process|1", None), ("a|b|--parts|--locate|1", "--locate"),
-                           ("a|b|--to|1|--from|2", "--from"), ("a|b|--to|1", "--to"), ("a|b|--to|1|--parts", "--parts")):
+                           ("a|b|--to|1|--from|2", "--from"), ("a|b|--to|1", "--to"), ("a|b|--to|1|--parts", "--parts"),
+                           ("a|b|--locate|1|--record", "--record"), ("a|b|--list|--audit", "--audit"),
+                           ("a|b|--record|--list", "--list")):
             self.assertEqual(read(line.split("|")).task, task, line)
         self.assertEqual(read("a|b|--locate|+60|--process=007".split("|")).numbers, {"--locate": 60, "--process": 7})
 
@@ -102,6 +107,26 @@ class Places(unittest.TestCase):
                 fault = FILE_FAULTS[place.number]
                 self.assertEqual(told[0], f"{file.name}: byte {place.byte}: {fault.means} (fault {fault.number})")
                 self.assertEqual((told[-1], len(told)), (fault.do, 4 if digits.strip() else 2), name)
+
+    def test_each_refused_record_is_explained(self):
+        numbers = set()
+        with tempfile.NamedTemporaryFile() as file:
+            for name in sorted(pathlib.Path(TOP, "examples", "records", "refused").glob("*.console")):
+                data = bytes.fromhex(re.sub(r"#.*", "", name.with_suffix(".hex").read_text()))
+                pathlib.Path(file.name).write_bytes(data)
+                told = explanation(3, name.read_text(), [file.name, "out", "--audit"]).split("\n")
+                place = record_place_of(name.read_text())
+                if place is None:
+                    self.assertTrue(told[0].startswith(f"{file.name}, its score:1:11: "), told)
+                    continue
+                fault = RECORD_FAULTS[place.number]
+                numbers.add(place.number)
+                self.assertTrue(told[0].startswith(f"{file.name}: "), told)
+                self.assertTrue(told[0].endswith(f"{fault.means} (fault {fault.number})"), told)
+                self.assertEqual((told[-1], len(told)), (fault.do, {44: 3, 45: 2}.get(place.number, 4)), name)
+                if name.stem == "end_that_is_not_recorded":
+                    self.assertEqual(told[1], "1 4 Give seat 0 process 0 taken 0 computed 0 clock 0 ended")
+        self.assertEqual(numbers, set(RECORD_FAULTS) - {46})
 
     def test_the_caret_stands_under_the_byte(self):
         rows = (

@@ -72,9 +72,9 @@ class Maker:
         return r.choice([
             lambda: seq(*inner), lambda: repeat(r.randrange(4), *inner), lambda: par(*inner),
             lambda: channel(r.randrange(16), *inner), lambda: drums(*inner),
-            lambda: dynamics(r.choice(["pp", "ff", 1, 127]), *inner), lambda: gate(r.randrange(101), *inner),
+            lambda: dynamics(r.choice(["pp", "ff", 1, 127]), *inner), lambda: gate(r.randrange(401), *inner),
             lambda: accents(["f", "p", 17][:r.randrange(1, 4)], *inner),
-            lambda: articulations([r.randrange(101) for _ in range(r.randrange(1, 5))], *inner),
+            lambda: articulations([r.randrange(401) for _ in range(r.randrange(1, 5))], *inner),
             lambda: warp([self.part() for _ in range(r.randrange(1, 5))], *inner),
             lambda: tempo(r.randrange(30, 300), *inner),
             lambda: tempo_change(r.randrange(30, 300), r.randrange(30, 300), *inner),

@@ -85,6 +85,26 @@ class Time(unittest.TestCase):
                          ["x..x..x.", "xxxx", "..", "x..x.x.."])
 
 
+class Overlaps(unittest.TestCase):
+    def heard(self, *items):
+        return [(e.tick, e.message[0] >> 4, e.message[1]) for e in Score(*items).events()]
+
+    def test_notes_sound_on_over_the_next_ones(self):
+        self.assertEqual(self.heard(gate(200, melody("c4 d4", "1/4"))),
+                         [(0, 9, 60), (480, 9, 62), (960, 8, 60), (960, 8, 62)])
+
+    def test_a_seventeenth_pitch_cuts_the_one_that_has_waited_longest(self):
+        keys = range(48, 64)
+        self.assertEqual(self.heard(gate(400, note(list(keys), ticks(10)), note("e5", ticks(10)))),
+                         [(0, 9, key) for key in keys] + [(10, 8, 48), (10, 9, 76)]
+                         + [(20, 8, key) for key in [*keys[1:], 76]])
+
+    def test_an_end_behind_a_level_is_deformed_by_it(self):
+        half = flat(ticks(10), 500)
+        self.assertEqual(self.heard(gate(400, warp([half], note("c4", ticks(10))), rest(ticks(100)))),
+                         [(0, 9, 60), (35, 8, 60)])
+
+
 class Texts(unittest.TestCase):
     def test_a_whole_text(self):
         tune = phrase("tune", melody("c4 e4 g4~ g4", "1/4"))
@@ -132,7 +152,7 @@ par {
         Score(deep)
         rows = (
             lambda: note([], "1/4"), lambda: note(["c4"] * 17, "1/4"), lambda: channel(16, quarter),
-            lambda: dynamics(0, quarter), lambda: gate(101, quarter), lambda: repeat(1_000_001, quarter),
+            lambda: dynamics(0, quarter), lambda: gate(401, quarter), lambda: repeat(1_000_001, quarter),
             lambda: phrase("repeat", quarter), lambda: phrase("a1", quarter), lambda: phrase("r7", quarter),
             lambda: warp([], quarter), lambda: instrument("kazoo"), lambda: drum("kazoo"), lambda: par(),
             lambda: Score(phrase("a", quarter), phrase("a", rest("1/4"))), lambda: Score(quarter, seed=10**9),

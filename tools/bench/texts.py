@@ -7,7 +7,9 @@ those that take a count a short text that stands for so much.
 MEBIBYTE = 1_048_576
 MOST_OPERATIONS = 262_144
 MOST_PROCESSES = 4_096
+MOST_PROCESSES_OF_2 = 16_384
 MOST_FILE = 33_554_432
+MOST_RECORD = 67_108_864
 
 # What a text ends with so that the command stops behind a part of its work: a brace too many is
 # found by the parser, a total past its limit by the last walk of the checker.
@@ -195,6 +197,16 @@ def forks_in_turn(count):
     return b"formula 1;repeat %d{par{branch{}}}" % ((count - 1) // 2)
 
 
+def sounding_branches(count):
+    """So many processes of version 2, all of one fork, with a note each."""
+    return b"formula 2;par{" + b"branch{note c4 ticks 9;}" * (count - 2) + b"}"
+
+
+def sounding_in_turn(count):
+    """So many processes of version 2, or one less, one after another, with a note in each second one."""
+    return b"formula 2;repeat %d{par{branch{note c4 ticks 9;}}}" % ((count - 1) // 2)
+
+
 def forks_in_branches(count):
     """So many processes, 3 * 2^depth - 2 for some depth, in branches that fork in two."""
     depth = ((count + 2) // 3).bit_length() - 1
@@ -208,6 +220,17 @@ def forks_in_branches(count):
 def notes(count):
     """So many events of one process."""
     return b"formula 1;repeat 2{repeat %d{note c4 ticks 1;}}" % (count // 4)
+
+
+def overlapping_chords(count):
+    """So many events of one process: chords of sixteen pitches, each of which cuts the one before it."""
+    pitches = b"c3,d3,e3,f3,g3,a3,b3,c4,d4,e4,f4,g4,a4,b4,c5,d5"
+    return b"formula 1;gate 400{repeat %d{note %b ticks 1;}}" % (count // 32, pitches)
+
+
+def overlapping_in_parts(count):
+    """So many events of one process, whose notes sound on over those behind them through 256 parts."""
+    return b"formula 1;" + LONG_PARTS + b"warp a{gate 400{repeat %d{note c4 ticks 1;}}}" % (count // 2)
 
 
 def long_rests():

@@ -3,7 +3,7 @@
 
     file_model.py list FILE          the listing, or 'byte P fault N'
     file_model.py parts FILE         the file of format 1 of a file that the command wrote, in hexadecimal
-    file_model.py excerpt FILE A B   an excerpt of such a file from tick A to before tick B, in hexadecimal; '-' for no B
+    file_model.py excerpt FILE A B   its excerpt from tick A to before tick B ('-' for no B), in hexadecimal
 
 It is a program apart from the command: it goes over the bytes once and judges each where it stands.
 """

@@ -51,6 +51,7 @@ def key_of(word):
 class Text:
     def __init__(self, data):
         self.left, self.at = tokens(data), 0
+        self.running, self.division = False, 480
 
     def peek(self):
         return self.left[self.at]
@@ -85,7 +86,7 @@ class Text:
             return self.number()
         over = self.number()
         self.need("/")
-        return 1920 * over // self.number()
+        return 4 * self.division * over // self.number()
 
     def part(self):
         kind = self.next()
@@ -227,8 +228,11 @@ class Text:
 
     def score(self):
         self.need("formula")
-        self.number()
+        self.running = self.number() == 2
         self.need(";")
+        if self.running and self.take("division"):
+            self.division = self.number()
+            self.need(";")
         seed, shapes, phrases, played = 0, {}, {}, []
         if self.take("seed"):
             seed = self.number()
@@ -287,11 +291,13 @@ class Player:
         self.open = []       # open blocks, the outermost first: ["loop", index] or ["list", kind, entries, cursor]
         self.levels = []     # open warps, the outermost first: where each begins in the level round it, and its parts
         self.starts = []     # of each process the warps that are open where it starts, and its position there
+        self.waits = []      # of each process those behind which it starts
         self.channel = 0
 
-    def start(self, position):
+    def start(self, position, waits=()):
         self.now = Process(self, self.born, position)
         self.starts.append((list(self.levels), position))
+        self.waits.append(list(waits))
         self.born += 1
         self.open = [b if b[0] == "loop" else b[:3] + [0] for b in map(list, self.open)]
 
@@ -383,15 +389,16 @@ class Player:
             return self.passage(self.phrases[s[1]])
         if kind == "par":
             marks, forked, held = [self.end()], now.position, self.open
-            ends = []
+            ends, last = [], []
             for branch in s[1]:
                 self.open = held
-                self.start(forked)
+                self.start(forked, [now.number])
                 marks += self.passage(branch)
                 marks.append(self.end())
                 ends.append(self.now.position)
+                last.append(self.now.number)
             self.open = held
-            self.start(max(ends))
+            self.start(max(ends), last)
             return marks
         if kind == "warp":
             parts, begun = self.shapes[s[1]], now.position
@@ -400,7 +407,7 @@ class Player:
             marks = self.passage(s[2])
             self.levels.pop()
             for m in marks:
-                m[3], m[4] = begun + mapped(parts, m[3], True), begun + mapped(parts, m[4], False)
+                m[3], m[4] = begun + mapped(parts, m[3], True), begun + mapped(parts, min(m[4], LAST), False)
             self.now.position = begun + mapped(parts, self.now.position, True)
             return marks
         if kind == "channel":
@@ -421,14 +428,57 @@ def performed(data):
     return player, player.passage(body)
 
 
+def come_out(marks, end):
+    """The events of one process, each with its tick: note-offs wait, 16 at most, and the process ends at a tick."""
+    events, waiting = [], []     # what waits stands in the order in which it began
+
+    def due(tick):
+        events.extend(sorted((m for m in waiting if m[0] <= tick), key=lambda m: m[0]))
+        waiting[:] = [m for m in waiting if m[0] > tick]
+
+    def cut(tick, most):
+        while len(waiting) > most:
+            events.append((tick, waiting.pop(0)[1]))
+
+    for i, (message, onset, ending) in enumerate(marks):
+        if message[0] >> 4 == 8:
+            waiting.append((max(onset, ending), message))
+            continue
+        due(onset)
+        if message[0] >> 4 == 9 and (i == 0 or marks[i - 1][0][0] >> 4 != 9):
+            pitches = next((k for k, m in enumerate(marks[i:]) if m[0][0] >> 4 != 9), len(marks) - i)
+            cut(onset, 16 - pitches)
+        events.append((onset, message))
+    due(end)
+    cut(end, 0)
+    return events
+
+
+def events_of(player, marks):
+    """The events of each process, each with its tick, and where each process ends."""
+    made, ends = [[] for _ in range(player.born)], {player.now.number: player.now.position}
+    for process, _, message, onset, ending in marks:
+        if message is None:
+            ends[process] = onset
+        else:
+            made[process].append((message, onset, ending))
+    return [come_out(own, ends[process]) for process, own in enumerate(made)], ends
+
+
 def played(data):
     player, marks = performed(data)
-    events = []
-    for process, index, message, onset, ending in marks:
-        if message is not None:
-            time = max(onset, ending) if message[0] >> 4 == 8 else onset
-            events.append((time, process, index, message))
+    found, _ = events_of(player, marks)
+    events = [(tick, process, index, message) for process, own in enumerate(found)
+              for index, (tick, message) in enumerate(own)]
     return sorted(events), player.now.position
+
+
+def lines(data):
+    """Of each process its events as (tick, message), the processes behind which it starts, and its end."""
+    player, marks = performed(data)
+    found, ends = events_of(player, marks)
+    return [[[(tick, bytes(message)) for tick, message in own], player.waits[process], ends[process]]
+            for process, own in enumerate(found)]
 
 
 # ---- positions
@@ -475,13 +525,22 @@ def delta(n):
     return out + quantity(n)
 
 
-def file_of(events, end):
-    track, last = bytes.fromhex("00FF510307A120"), 0
+def profile(data):
+    """Whether a score's file has running status, and its ticks a quarter note."""
+    text = Text(data)
+    text.score()
+    return text.running, text.division
+
+
+def file_of(events, end, running=False, division=480):
+    track, last, status = bytes.fromhex("00FF510307A120"), 0, None
     for time, _, _, message in events:
-        track += delta(time - last) + bytes(message)
-        last = time
+        again = running and status == message[0] and time - last <= 0x0FFFFFFF
+        track += delta(time - last) + bytes(message[1:] if again else message)
+        last, status = time, message[0]
     track += delta(end - last) + bytes.fromhex("FF2F00")
-    return bytes.fromhex("4D546864000000060000000101E04D54726B") + len(track).to_bytes(4, "big") + track
+    head = bytes.fromhex("4D546864000000060000 0001")
+    return head + division.to_bytes(2, "big") + b"MTrk" + len(track).to_bytes(4, "big") + track
 
 
 def main(words):
@@ -497,7 +556,7 @@ def main(words):
             print(time, process, index, bytes(message).hex())
         print("end", end)
     else:
-        print(file_of(events, end).hex())
+        print(file_of(events, end, *profile(data)).hex())
 
 
 if __name__ == "__main__":

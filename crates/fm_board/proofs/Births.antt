@@ -38,7 +38,7 @@ use Rattle.fm_board.specs.StandsFor.{StandsForSome}
 use Rattle.fm_board.specs.View.{holding, lines_of, processes, waiting}
 use Rattle.fm_board.specs.Words.{IsSpoken, spell, word_at}
 use Rattle.fm_board.proofs.Starts.{starts_of}
-use Rattle.fm_board.proofs.StartPlaces.{begun-place}
+use Rattle.fm_strand.proofs.CallLemmas.{begun-place}
 use Rattle.fm_board.proofs.Steps.{Tidy, below_count, same_some, still_swept}
 
 one_more : (f : ℕ → ℕ) (xs : List ℕ) (i : ℕ) → i < length xs

@@ -15,7 +15,6 @@ pub mod Steps
 pub mod Returns
 pub mod Starts
 pub mod Births
-pub mod StartPlaces
 pub mod Records
 pub mod Recordings
 pub mod Halts
@@ -25,5 +24,6 @@ pub mod Meetings
 pub mod Pairs
 pub mod Sweeping
 pub mod Advancing
+pub mod Taking
 pub mod Voices
 mod Numerals

@@ -1,6 +1,7 @@
 pub mod Words
 pub mod View
 pub mod Calls
+pub mod Stalls
 pub mod StandsFor
 pub mod Given
 pub mod Quantum

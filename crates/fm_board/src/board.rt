@@ -19,6 +19,7 @@ use crate::plays::{ClaimPlay, GivePlay, Kept, LookPlay, PacePlay, PublishPlay};
 use crate::room::Room;
 use crate::seat::BoardSeat;
 use crate::seen::Seen;
+use crate::stall::Stall;
 use crate::sweep::{enter, sight_of};
 use crate::view::Mind;
 use crate::words::{
@@ -114,7 +115,7 @@ impl Board {
         match seat.token.exchange(shared, process as usize, None) {
             Some(room) => {
                 let Room { strand, outbox } = room;
-                match strand {
+                match strand.runner() {
                     Some(strand) => Claim::Held(Berth {
                         process,
                         strand,
@@ -145,7 +146,7 @@ impl Board {
         let new = word_of(tag, clock, 0);
         let shared = &self.table.shared;
         let room = Some(Room {
-            strand: Some(strand),
+            strand: Stall::of(strand),
             outbox,
         });
         match seat.token.exchange(shared, process as usize, room) {

@@ -17,7 +17,7 @@ use crate::seat::BoardSeat;
 use crate::seen::Seen;
 use crate::words::{is_at_end, place_of, seen_of, word_of};
 use fm_core::Tag;
-use fm_strand::{Place, Strand, first, meet};
+use fm_strand::{Place, first, meet};
 
 // What was found of the processes that one waits for.
 #[derive(Drop)]
@@ -122,8 +122,8 @@ impl Board {
         seat.over = false;
         match seat.token.exchange(shared, process as usize, None) {
             Some(room) => {
-                let Room { strand: _, outbox } = room;
-                let strand = Strand::begin(&self.about.plan, process, place);
+                let Room { strand, outbox } = room;
+                let strand = strand.begin(&self.about.plan, process, place);
                 Claim::Held(Berth {
                     process,
                     strand,

@@ -1,7 +1,8 @@
 //! Worked runs of a board of two seats, call by call.
-ghost use Rattle.std.specs.Prelude.{◌≡◌, ◌<◌, IfOk, length};
+ghost use Rattle.std.specs.Prelude.{◌≡◌, ◌<◌, ◌≤◌, [], IfOk, length};
 ghost use Rattle.fm_core.specs.declared.due.Due.TheVariants.{Nothing};
 ghost use Rattle.fm_core.specs.declared.floor.Floor.TheVariants.{At};
+ghost use Rattle.fm_core.specs.declared.limits.TheConstants.{MAX_LEAD};
 ghost use Rattle.fm_core.specs.declared.tag.Tag.TheVariants.{Home};
 ghost use Rattle.fm_board.specs.Answers.{Claims};
 ghost use Rattle.fm_board.specs.Quantum.{HasMade, MayAdvance};
@@ -9,6 +10,7 @@ ghost use Rattle.fm_board.specs.Seats.{IsIdle, IsOurs};
 
 mod births;
 mod floors;
+mod taking;
 
 use crate::{Berth, Board, BoardSeat, Claim, Seen};
 use fm_core::Tag;
@@ -59,7 +61,26 @@ fn opened<R: Abort + AllocGlobal>(rt: &R, plan: Plan) -> Result<(Board, BoardSea
     ensures number { IfOk result (λ r. r.2.mind.view.number ≡ 1) }
     ensures paced { IfOk result (λ r. r.2.mind.view.paced ≡ At 0) }
 {
-    let (board, zero, mut others) = Board::open(rt.alloc(), plan, 8, 0, 1)?;
+    opened_with(rt, plan, 0)
+}
+
+// The same with this lead.
+fn opened_with<R: Abort + AllocGlobal>(
+    rt: &R,
+    plan: Plan,
+    lead: u64,
+) -> Result<(Board, BoardSeat, BoardSeat), Fail>
+    requires lead { lead ≤ MAX_LEAD }
+    ensures room { IfOk result (λ r. r.0.about.room ≡ 8) }
+    ensures zero { IfOk result (λ r. IsIdle r.0.table.shared.table_id r.0.about r.1) }
+    ensures conductor { IfOk result (λ r. r.1.mind.view.number ≡ 0) }
+    ensures settled { IfOk result (λ r. r.1.mind.view.due ≡ Nothing) }
+    ensures none { IfOk result (λ r. r.1.mind.view.gathered ≡ []) }
+    ensures one { IfOk result (λ r. IsIdle r.0.table.shared.table_id r.0.about r.2) }
+    ensures number { IfOk result (λ r. r.2.mind.view.number ≡ 1) }
+    ensures paced { IfOk result (λ r. r.2.mind.view.paced ≡ At 0) }
+{
+    let (board, zero, mut others) = Board::open(rt.alloc(), plan, 8, lead, 1)?;
     match others.pop() {
         Some(one) => Ok((board, zero, one)),
         None => panic!(rt; "one worker has one seat"),
@@ -73,6 +94,7 @@ fn sees<R: Abort>(rt: &R, board: &Board, seat: &mut BoardSeat, wanted: (Tag, u64
     ensures number { seat.new.mind.view.number ≡ seat.old.mind.view.number }
     ensures paced { seat.new.mind.view.paced ≡ seat.old.mind.view.paced }
     ensures due { seat.new.mind.view.due ≡ seat.old.mind.view.due }
+    ensures gathered { seat.new.mind.view.gathered ≡ seat.old.mind.view.gathered }
 {
     assert!(rt; 0 < board.plan().processes());
     let seen = board.look(seat, 0);

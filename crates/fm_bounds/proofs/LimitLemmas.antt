@@ -10,8 +10,8 @@ use Rattle.fm_meaning.specs.Fault.{NumberedFault, fault_if, too_many_processes, 
 use Rattle.fm_meaning.specs.Faults.{first_found}
 use Rattle.fm_meaning.specs.Bounds.{Totals, limit_faults}
 use Rattle.fm_bounds.specs.declared.sums.TheConstants.{CEILING}
-use Rattle.fm_bounds.specs.declared.excess.Excess.TheVariants.{TooManyProcesses, TooManyOperations, TooLong, TooManyEvents, TooManySteps}
-use Rattle.fm_bounds.specs.Excess.{excess_at}
+use Rattle.fm_fault.specs.declared.why.Why.TheVariants.{TooManyProcesses, TooManyOperations, TooLong, TooManyEvents, TooManySteps}
+use Rattle.fm_fault.specs.Why.{fault_at}
 use Rattle.fm_bounds.specs.Saturation.{capped}
 use Rattle.fm_bounds.specs.Reached.{AreWithin}
 use Rattle.fm_version.proofs.RangeLemmas.{none_first, none_second}
@@ -32,25 +32,25 @@ five p o l e s spot =
     ++ fault_if e spot too_many_events ++ fault_if s spot too_many_steps
 
 first_of : (p o l e s : Bool) (spot : Spot) → p ≡ true
-    → first_found (five p o l e s spot) ≡ Some (excess_at spot TooManyProcesses)
+    → first_found (five p o l e s spot) ≡ Some (fault_at spot TooManyProcesses)
 first_of true o l e s spot is = refl
 first_of false o l e s spot is = cc
 
 second_of : (p o l e s : Bool) (spot : Spot) → p ≡ false → o ≡ true
-    → first_found (five p o l e s spot) ≡ Some (excess_at spot TooManyOperations)
+    → first_found (five p o l e s spot) ≡ Some (fault_at spot TooManyOperations)
 second_of false true l e s spot not_p is = refl
 second_of true o l e s spot not_p is = cc
 second_of false false l e s spot not_p is = cc
 
 third_of : (p o l e s : Bool) (spot : Spot) → p ≡ false → o ≡ false → l ≡ true
-    → first_found (five p o l e s spot) ≡ Some (excess_at spot TooLong)
+    → first_found (five p o l e s spot) ≡ Some (fault_at spot TooLong)
 third_of false false true e s spot not_p not_o is = refl
 third_of true o l e s spot not_p not_o is = cc
 third_of false true l e s spot not_p not_o is = cc
 third_of false false false e s spot not_p not_o is = cc
 
 fourth_of : (p o l e s : Bool) (spot : Spot) → p ≡ false → o ≡ false → l ≡ false → e ≡ true
-    → first_found (five p o l e s spot) ≡ Some (excess_at spot TooManyEvents)
+    → first_found (five p o l e s spot) ≡ Some (fault_at spot TooManyEvents)
 fourth_of false false false true s spot not_p not_o not_l is = refl
 fourth_of true o l e s spot not_p not_o not_l is = cc
 fourth_of false true l e s spot not_p not_o not_l is = cc
@@ -58,7 +58,7 @@ fourth_of false false true e s spot not_p not_o not_l is = cc
 fourth_of false false false false s spot not_p not_o not_l is = cc
 
 last_of : (p o l e s : Bool) (spot : Spot) → p ≡ false → o ≡ false → l ≡ false → e ≡ false → s ≡ true
-    → first_found (five p o l e s spot) ≡ Some (excess_at spot TooManySteps)
+    → first_found (five p o l e s spot) ≡ Some (fault_at spot TooManySteps)
 last_of false false false false true spot not_p not_o not_l not_e is = refl
 last_of true o l e s spot not_p not_o not_l not_e is = cc
 last_of false true l e s spot not_p not_o not_l not_e is = cc
@@ -92,30 +92,30 @@ abbrev over_steps : Totals → Bool
 over_steps a = nat_lt most_steps a.steps
 
 pub too_many_processes_found : (rules : VersionRules) (spot : Spot) (a : Totals) → over_processes rules a ≡ true
-    → first_found (limit_faults rules spot a) ≡ Some (excess_at spot TooManyProcesses)
+    → first_found (limit_faults rules spot a) ≡ Some (fault_at spot TooManyProcesses)
 too_many_processes_found rules spot a is =
     first_of (over_processes rules a) (over_operations a) (over_length a) (over_events a) (over_steps a) spot is
 
 pub too_many_operations_found : (rules : VersionRules) (spot : Spot) (a : Totals) → over_processes rules a ≡ false
-    → over_operations a ≡ true → first_found (limit_faults rules spot a) ≡ Some (excess_at spot TooManyOperations)
+    → over_operations a ≡ true → first_found (limit_faults rules spot a) ≡ Some (fault_at spot TooManyOperations)
 too_many_operations_found rules spot a p is =
     second_of (over_processes rules a) (over_operations a) (over_length a) (over_events a) (over_steps a) spot p is
 
 pub too_long_found : (rules : VersionRules) (spot : Spot) (a : Totals) → over_processes rules a ≡ false
     → over_operations a ≡ false → over_length a ≡ true
-    → first_found (limit_faults rules spot a) ≡ Some (excess_at spot TooLong)
+    → first_found (limit_faults rules spot a) ≡ Some (fault_at spot TooLong)
 too_long_found rules spot a p o is =
     third_of (over_processes rules a) (over_operations a) (over_length a) (over_events a) (over_steps a) spot p o is
 
 pub too_many_events_found : (rules : VersionRules) (spot : Spot) (a : Totals) → over_processes rules a ≡ false
     → over_operations a ≡ false → over_length a ≡ false → over_events a ≡ true
-    → first_found (limit_faults rules spot a) ≡ Some (excess_at spot TooManyEvents)
+    → first_found (limit_faults rules spot a) ≡ Some (fault_at spot TooManyEvents)
 too_many_events_found rules spot a p o l is =
     fourth_of (over_processes rules a) (over_operations a) (over_length a) (over_events a) (over_steps a) spot p o l is
 
 pub too_many_steps_found : (rules : VersionRules) (spot : Spot) (a : Totals) → over_processes rules a ≡ false
     → over_operations a ≡ false → over_length a ≡ false → over_events a ≡ false → over_steps a ≡ true
-    → first_found (limit_faults rules spot a) ≡ Some (excess_at spot TooManySteps)
+    → first_found (limit_faults rules spot a) ≡ Some (fault_at spot TooManySteps)
 too_many_steps_found rules spot a p o l e is =
     last_of (over_processes rules a) (over_operations a) (over_length a) (over_events a) (over_steps a) spot p o l e is
 

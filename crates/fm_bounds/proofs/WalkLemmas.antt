@@ -12,11 +12,12 @@ use Rattle.fm_warp.specs.declared.warp.TheConstants.{MAX_PARTS}
 use Rattle.fm_names.specs.Named.{named}
 use Rattle.fm_line.specs.Line.{most_events}
 use Rattle.fm_meaning.specs.Rules.{VersionRules, score_rules, most_operations, most_steps}
+use Rattle.fm_meaning.proofs.Versions.{few_processes, some_processes}
 use Rattle.fm_meaning.specs.Fault.{NumberedFault}
 use Rattle.fm_meaning.specs.Faults.{first_found}
 use Rattle.fm_meaning.specs.Resolved.{done}
 use Rattle.fm_meaning.specs.Resolve.{Known, play_of, entries_of, resolved, longest_of, nothing_known}
-use Rattle.fm_meaning.specs.Ranges.{Names, number_faults, part_faults, part_length, length_spot, each_faults, stmt_faults, body_faults, double_faults, entries_faults, second_walk}
+use Rattle.fm_meaning.specs.Ranges.{Names, head_faults, part_faults, part_length, length_spot, each_faults, stmt_faults, body_faults, double_faults, entries_faults, second_walk}
 use Rattle.fm_meaning.specs.Bounds.{Totals, totals, plus, score_totals, score_bounds, bounds_of, bounds_in, forks, limit_faults, sums_faults, fourth_walk}
 use Rattle.fm_version.specs.View.{rules_view}
 use Rattle.fm_bounds.specs.declared.sums.Sums.{Sums}
@@ -165,13 +166,13 @@ begun score tables rules greatest no_phrase no_shape none =
       whole = refl;
       saturates = none_saturated;
       within = record {
-        processes = omega arith;
+        processes = omega (arith, some_processes score);
         operations = omega arith;
         length = omega arith;
         events = omega arith;
         steps = omega arith;
       };
-      ranges = none_second (number_faults 1 1 score.version) (entries_faults names score.entries) none;
+      ranges = none_second (head_faults score) (entries_faults names score.entries) none;
       faults = refl;
       bounds = same_totals (omega arith) (omega arith) (omega arith) (omega arith) (omega arith);
     }
@@ -205,7 +206,8 @@ ends score walk whole is r =
     let same = is r.before r.forks r.saturates in
     let w = r.within in
     let a = score_totals r.before in
-    let p : whole.processes ≡ a.processes = ap (λ s. s.processes) same ∙ capped_below a.processes (omega arith) in
+    let p : whole.processes ≡ a.processes = ap (λ s. s.processes) same
+    ∙ capped_below a.processes (omega (arith, w.processes, few_processes score)) in
     let o : whole.operations ≡ a.operations = ap (λ s. s.operations) same ∙ capped_below a.operations (omega arith) in
     let l : whole.length ≡ a.length = ap (λ s. s.length) same ∙ capped_below a.length (omega arith) in
     let e : whole.events ≡ a.events = ap (λ s. s.events) same ∙ capped_below a.events (omega arith) in

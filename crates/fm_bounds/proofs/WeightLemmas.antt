@@ -69,7 +69,7 @@ map_take_more f xs i x within is =
     ap (map f) (take_more xs i x within ∙ ap (λ y. take i xs ++ y ∷ []) (sym is))
     ∙ map-append f (take i xs) (x ∷ [])
 
--- the same of the element at a place
+-- the same of the element at an index
 pub map_take_at : {A B : Type 0} (f : A → B) (xs : List A) (i : ℕ) (d : A) → i < length xs
     → map f (take (i + 1) xs) ≡ map f (take i xs) ++ f (get_or xs i d) ∷ []
 map_take_at f xs i d within =

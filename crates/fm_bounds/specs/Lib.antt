@@ -1,5 +1,4 @@
 pub mod Saturation
 pub mod Weight
 pub mod Stands
-pub mod Excess
 pub mod Reached

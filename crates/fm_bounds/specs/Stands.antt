@@ -19,7 +19,7 @@ phrase_weight tables name = unwrap_or (named tables.phrases name) (weight_in 0 d
 abbrev pub shape_parts : Tables → List ℕ → List Part
 shape_parts tables name = unwrap_or (named tables.shapes name) []
 
--- the tables have what is known at a place of the text: the ticks of a whole note, for each phrase what it adds at
+-- the tables have what is known at a spot of the text: the ticks of a whole note, for each phrase what it adds at
 -- most, for each shape its parts; and the greatest entry of all rhythm lists
 pub record Stands (tables : Tables) (longest : ℕ) (known : Known) : Type 0 where
   pub greatest : tables.longest ≡ capped longest

@@ -9,7 +9,6 @@
 
 mod bounds;
 mod excess;
-mod fault;
 mod longest;
 mod span;
 mod sums;
@@ -18,6 +17,5 @@ mod walk;
 mod weigh;
 
 pub use bounds::Bounds;
-pub use excess::{Excess, MAX_EVENTS, MAX_OPERATIONS, MAX_STEPS};
-pub use fault::BoundsFault;
+pub use excess::{MAX_EVENTS, MAX_OPERATIONS, MAX_STEPS};
 pub use walk::find_bounds;

@@ -9,17 +9,17 @@ ghost use Rattle.fm_meaning.specs.Resolve.{resolved};
 ghost use Rattle.fm_meaning.specs.Ranges.{second_walk};
 ghost use Rattle.fm_meaning.specs.Bounds.{score_bounds, fourth_walk};
 ghost use Rattle.fm_meaning.specs.Faults.{first_found};
-ghost use Rattle.fm_bounds.specs.Excess.{excess_at};
+ghost use Rattle.fm_fault.specs.Why.{fault_at};
+ghost use Rattle.fm_fault.specs.declared.why.Why.{Why};
 ghost use Rattle.fm_bounds.specs.Reached.{Reached, played, totals_of};
-ghost use Rattle.fm_bounds.specs.declared.excess.Excess.{Excess};
 
 use crate::bounds::Bounds;
 use crate::excess::first_excess;
-use crate::fault::BoundsFault;
 use crate::longest::longest_rhythm;
 use crate::sums::Sums;
 use crate::tables::Tables;
 use crate::weigh::weigh_item;
+use fm_fault::CheckFault;
 use fm_grammar::{Entry, Item, Score};
 use fm_names::Names;
 use fm_version::{rules_of, warp_of};
@@ -35,20 +35,20 @@ pub(crate) struct Walk<'s> {
 
 impl<'s> Walk<'s> {
     // Adds a statement that is played.
-    fn play(&mut self, item: &Item) -> Result<(), BoundsFault>
+    fn play(&mut self, item: &Item) -> Result<(), CheckFault>
         ensures ok { OnOk result ((score : tree.Score) (rest : List tree.Entry) →
             Reached score self.old (played item.now ∷ rest) → Reached score self.new rest) }
-        ensures refused { (why : Excess) (spot : Spot) →
-            result ≡ Err (BoundsFault.Refused why spot) →
+        ensures refused { (why : Why) (spot : Spot) →
+            result ≡ Err (CheckFault.Refused why spot) →
             (score : tree.Score) (rest : List tree.Entry) →
             Reached score self.old (played item.now ∷ rest) →
             first_found (fourth_walk (score_rules score) (resolved score))
-            ≡ Some (excess_at spot why) }
+            ≡ Some (fault_at spot why) }
     {
         self.before = self.before.plus(weigh_item(&self.tables, item));
         match first_excess(self.tables.rules.most_processes, self.before.whole()) {
             None => Ok(()),
-            Some(why) => Err(BoundsFault::Refused {
+            Some(why) => Err(CheckFault::Refused {
                 why,
                 spot: item.spot,
             }),
@@ -56,17 +56,17 @@ impl<'s> Walk<'s> {
     }
 
     // Goes over one entry.
-    fn enter(&mut self, alloc: Global, entry: &Entry<'s>) -> Result<(), BoundsFault>
+    fn enter(&mut self, alloc: Global, entry: &Entry<'s>) -> Result<(), CheckFault>
         requires { (score : tree.Score) × (rest : List tree.Entry)
             × Reached score self.old (entry_view entry.now ∷ rest) }
         ensures ok { OnOk result ((score : tree.Score) (rest : List tree.Entry) →
             Reached score self.old (entry_view entry.now ∷ rest) → Reached score self.new rest) }
-        ensures refused { (why : Excess) (spot : Spot) →
-            result ≡ Err (BoundsFault.Refused why spot) →
+        ensures refused { (why : Why) (spot : Spot) →
+            result ≡ Err (CheckFault.Refused why spot) →
             (score : tree.Score) (rest : List tree.Entry) →
             Reached score self.old (entry_view entry.now ∷ rest) →
             first_found (fourth_walk (score_rules score) (resolved score))
-            ≡ Some (excess_at spot why) }
+            ≡ Some (fault_at spot why) }
     {
         match entry {
             Entry::Shape { name, parts } => {
@@ -84,15 +84,15 @@ impl<'s> Walk<'s> {
 }
 
 /// The static totals of a score, or the first statement with which one of them passes its limit.
-pub fn find_bounds(alloc: Global, score: &Score) -> Result<Bounds, BoundsFault>
+pub fn find_bounds(alloc: Global, score: &Score) -> Result<Bounds, CheckFault>
     requires { second_walk (score_view score.now) ≡ [] }
     ensures bounds { IfOk result
         (λ b. totals_of b ≡ score_bounds (resolved (score_view score.now))) }
     ensures faultless { OnOk result
         (let s = score_view score.now in fourth_walk (score_rules s) (resolved s) ≡ []) }
-    ensures refused { (why : Excess) (spot : Spot) → result ≡ Err (BoundsFault.Refused why spot) →
+    ensures refused { (why : Why) (spot : Spot) → result ≡ Err (CheckFault.Refused why spot) →
         let s = score_view score.now in
-        first_found (fourth_walk (score_rules s) (resolved s)) ≡ Some (excess_at spot why) }
+        first_found (fourth_walk (score_rules s) (resolved s)) ≡ Some (fault_at spot why) }
 {
     let rules = rules_of(score);
     let mut walk = Walk {

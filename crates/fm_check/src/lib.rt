@@ -5,13 +5,10 @@
 //! of its own. How a text is read, and its faults before that, are left to the parser.
 #![tactic(auto)]
 
-mod fault;
 #[cfg(test)]
 mod tests;
 mod walks;
-mod why;
 
-pub use fault::CheckFault;
 pub use fm_bounds::Bounds;
+pub use fm_fault::{CheckFault, Why};
 pub use walks::check;
-pub use why::Why;

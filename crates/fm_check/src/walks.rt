@@ -7,12 +7,11 @@ ghost use Rattle.fm_meaning.specs.Resolve.{resolved};
 ghost use Rattle.fm_meaning.specs.Bounds.{score_bounds};
 ghost use Rattle.fm_meaning.specs.Faults.{score_faults, first_found};
 ghost use Rattle.fm_bounds.specs.Reached.{totals_of};
-ghost use Rattle.fm_check.specs.Why.{fault_at};
-ghost use Rattle.fm_check.specs.declared.why.Why.{Why as Reason};
+ghost use Rattle.fm_fault.specs.Why.{fault_at};
+ghost use Rattle.fm_fault.specs.declared.why.Why.{Why as Reason};
 
-use crate::fault::CheckFault;
-use crate::why::{of_excess, of_place, of_range};
-use fm_bounds::{Bounds, BoundsFault, find_bounds};
+use fm_bounds::{Bounds, find_bounds};
+use fm_fault::{CheckFault, refused};
 use fm_grammar::Score;
 use fm_places::first_place_fault;
 use fm_ranges::first_range_fault;
@@ -28,23 +27,10 @@ pub fn check(alloc: Global, score: &Score) -> Result<Bounds, CheckFault>
         first_found (score_faults (score_view score.now)) ≡ Some (fault_at spot why) }
 {
     if let Some(fault) = first_range_fault(alloc, score)? {
-        return Err(CheckFault::Refused {
-            why: of_range(fault.why),
-            spot: fault.spot,
-        });
+        return Err(refused(fault));
     }
     if let Some(fault) = first_place_fault(alloc, score)? {
-        return Err(CheckFault::Refused {
-            why: of_place(fault.why),
-            spot: fault.spot,
-        });
+        return Err(refused(fault));
     }
-    match find_bounds(alloc, score) {
-        Ok(bounds) => Ok(bounds),
-        Err(BoundsFault::Refused { why, spot }) => Err(CheckFault::Refused {
-            why: of_excess(why),
-            spot,
-        }),
-        Err(BoundsFault::Memory) => Err(CheckFault::Memory),
-    }
+    find_bounds(alloc, score)
 }

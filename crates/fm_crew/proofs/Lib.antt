@@ -3,3 +3,4 @@ pub mod Serving
 pub mod Conducting
 pub mod Filing
 pub mod Beginnings
+pub mod Tapes

@@ -19,6 +19,17 @@ use fm_buffer::Gather;
 use fm_core::Floor;
 use fm_strand::Plan;
 
+/// What a seat did with a process that it held.
+#[derive(Clone, Copy, Debug, PartialEq, Eq, Drop)]
+pub struct Work {
+    /// How many of its events were taken.
+    pub taken: u8,
+    /// How many of its events were computed.
+    pub computed: u16,
+    /// Whether it is at its end.
+    pub ended: bool,
+}
+
 /// The calls of a board that its conductor and its workers make. Whoever makes the same calls on a
 /// board and does more beside them is played on in the same way.
 pub trait Calls {
@@ -76,8 +87,9 @@ pub trait Calls {
           mind = viewing seat.old.mind (noted seat.old.mind.view);
         } };
 
-    /// Gives the process back, with what was computed in it.
-    fn give(&self, seat: &mut BoardSeat, berth: Berth)
+    /// Gives the process back, with what was computed in it. What the seat did with it is told to
+    /// those who keep a record.
+    fn give(&self, seat: &mut BoardSeat, berth: Berth, work: Work)
         requires ours { IsOurs (table self.now) (about self.now) seat.old }
         requires may { MayGive (about self.now) seat.old.mind.view
             berth.process berth.strand berth.outbox }
@@ -155,7 +167,7 @@ impl Calls for Board {
         self.record(seat, berth);
     }
 
-    fn give(&self, seat: &mut BoardSeat, berth: Berth) {
+    fn give(&self, seat: &mut BoardSeat, berth: Berth, _work: Work) {
         self.give(seat, berth);
     }
 

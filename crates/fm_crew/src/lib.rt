@@ -13,6 +13,8 @@ mod advance;
 mod calls;
 mod conductor;
 mod idle;
+mod keeping;
+mod known;
 mod limits;
 mod opening;
 mod pass;
@@ -21,14 +23,16 @@ mod release;
 mod scan;
 mod serve;
 mod starts;
+mod taped;
 #[cfg(test)]
 mod tests;
 mod workers;
 
-pub use calls::Calls;
+pub use calls::{Calls, Work};
 pub use conductor::conduct;
 pub use fm_board::{Board, BoardSeat};
 pub use fm_play::Played;
 pub use opening::open;
 pub use playing::play;
+pub use taped::play_taped;
 pub use workers::worker;

@@ -138,6 +138,6 @@ fn begin<B: Calls, G: Gate>(
     ensures sweep { seat.new.mind.view.sweep ≡ seat.old.mind.view.sweep }
 {
     if let Some(berth) = start(board, seat, process) {
-        advance(board, gate, limit, seat, berth);
+        advance(board, gate, limit, seat, berth, 0);
     }
 }

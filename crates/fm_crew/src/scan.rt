@@ -120,7 +120,7 @@ fn run_home<B: Calls, G: Gate>(
     match board.claim(seat, process, seen) {
         Claim::Busy { .. } => false,
         Claim::Held(berth) => {
-            advance(board, gate, limit, seat, berth);
+            advance(board, gate, limit, seat, berth, 0);
             true
         }
     }
@@ -143,7 +143,7 @@ fn run_unborn<B: Calls, G: Gate>(
     match start(board, seat, process) {
         None => false,
         Some(berth) => {
-            advance(board, gate, limit, seat, berth);
+            advance(board, gate, limit, seat, berth, 0);
             true
         }
     }

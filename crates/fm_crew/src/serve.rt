@@ -9,9 +9,9 @@ ghost use Rattle.fm_crew.specs.Conduct.{Passing, Stays};
 ghost use Rattle.fm_crew.specs.Crew.{Sees};
 ghost use Rattle.fm_crew.specs.Serving.{Serves};
 
-use crate::Calls;
 use crate::advance::advance;
 use crate::limits::due_key;
+use crate::{Calls, Work};
 use fm_board::{Berth, BoardSeat, Claim, Seen};
 use fm_buffer::{Gather, Outbox};
 use fm_core::{Due, Tag};
@@ -75,12 +75,17 @@ fn serve<B: Calls, G: Gate>(
     ensures passed { Passing (B.about board.now) seat.new.mind.view gather.new due limit
         (berth.process + 1) }
 {
-    take_due(due_key(due), &mut berth.outbox, gather);
+    let taken = take_due(due_key(due), &mut berth.outbox, gather);
     if ended {
-        board.give(seat, berth);
+        let work = Work {
+            taken,
+            computed: 0,
+            ended,
+        };
+        board.give(seat, berth, work);
     } else {
         let share = share_of(due, limit, board.room(), &berth);
-        advance(board, gate, share, seat, berth);
+        advance(board, gate, share, seat, berth, taken);
     }
 }
 
@@ -104,8 +109,8 @@ fn share_of(due: Due, limit: u64, room: u32, berth: &Berth) -> u64
     }
 }
 
-// Takes what is due out of an outbox.
-fn take_due(key: Option<(u64, u32)>, outbox: &mut Outbox, gather: &mut Gather)
+// Takes what is due out of an outbox. Says how many events these are.
+fn take_due(key: Option<(u64, u32)>, outbox: &mut Outbox, gather: &mut Gather) -> u8
     requires { length gather.old.events + outbox.old.room ≤ gather.old.capacity }
     ensures outbox { outbox.new ≡ record outbox.old {
       events = drop (count_through key outbox.old.events) outbox.old.events;
@@ -115,8 +120,11 @@ fn take_due(key: Option<(u64, u32)>, outbox: &mut Outbox, gather: &mut Gather)
           ++ take (count_through key outbox.old.events) outbox.old.events;
     } }
     ensures few { length outbox.old.events ≤ outbox.old.room }
+    ensures count { result ≡ count_through key outbox.old.events }
 {
     if outbox.len() > 0 {
-        outbox.take_through(key, gather);
+        outbox.take_through(key, gather) as u8
+    } else {
+        0
     }
 }

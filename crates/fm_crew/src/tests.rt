@@ -4,6 +4,7 @@ ghost use Rattle.fm_buffer.specs.declared.outbox.TheConstants.{MAX_ROOM};
 ghost use Rattle.fm_core.specs.declared.limits.TheConstants.{MAX_LEAD, MAX_SEATS};
 
 mod bounded;
+mod taped;
 
 use crate::{open, play};
 use fm_edge::{MemorySink, OpenGate};

@@ -4,11 +4,12 @@ ghost use Rattle.std.specs.Prelude.{◌++◌, OnOk, OnErr};
 ghost use Rattle.fm_edge.specs.Runs.{Puts, Breaks};
 
 use crate::{
-    Console, ConsoleSink, Failed, FileSink, FileSource, Gate, MemorySink, MemorySource, Moment,
-    NullSink, OpenGate, Sink, Source, SureSource,
+    Console, ConsoleSink, Failed, FileSink, FileSource, Gate, MeetGate, MemorySink, MemorySource,
+    Moment, NullSink, OpenGate, Sink, Source, SureSource,
 };
 use host::{Disk, Host};
 use std::test::Fail;
+use std::thread::{Threads, join_mut};
 
 mod host;
 
@@ -142,6 +143,31 @@ fn a_terminal_whose_second_write_fails(rt: HostRuntime) {
 fn an_open_gate_returns() {
     OpenGate.pass(0, 0, Moment::Begin);
     OpenGate.pass(0, 0, Moment::End);
+}
+
+// One thread begins a slice of process 1, another one of process 2.
+fn both_meet<R: Threads>(rt: &R, gate: &MeetGate) {
+    let mut one = || { gate.pass(0, 1, Moment::Begin) };
+    let mut other = || { gate.pass(1, 2, Moment::Begin) };
+    join_mut(rt, &mut one, &mut other);
+}
+
+#[test]
+fn two_threads_meet_at_a_gate(rt: HostRuntime) {
+    let gate = MeetGate::new(1, 2, 1, 67_108_864);
+    assert!(rt; !gate.met());
+    both_meet(&rt, &gate);
+    assert!(rt; gate.met());
+}
+
+// The second process never begins while the first one is held, and then it is too late.
+#[test]
+fn one_thread_alone_does_not_meet(rt: HostRuntime) {
+    let gate = MeetGate::new(1, 2, 1, 3);
+    gate.pass(0, 1, Moment::Begin);
+    gate.pass(0, 1, Moment::End);
+    gate.pass(0, 2, Moment::Begin);
+    assert!(rt; !gate.met());
 }
 
 #[test]

@@ -244,5 +244,6 @@ feed_fine u (s ∷ ss) k st fine taken =
     fed_fine u s ss k st (taking (kind_code k) (rules_of s)) (may_end s) refl refl fine taken (feed_fine (left_out s u) ss k st fine.1)
 
 -- behind each symbol of a whole text only its followers come
-pub whole_fine : Fine whole
-whole_fine = next_fine false [] whole [] refl (λ (code : ℕ) no begins. absurd (true_false (sym no))) tt
+pub whole_fine : (divided : Bool) → Fine (whole divided)
+whole_fine true = next_fine false [] (whole true) [] refl (λ (code : ℕ) no begins. absurd (true_false (sym no))) tt
+whole_fine false = next_fine false [] (whole false) [] refl (λ (code : ℕ) no begins. absurd (true_false (sym no))) tt

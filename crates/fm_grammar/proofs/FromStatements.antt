@@ -1,14 +1,14 @@
 -- The tokens of statements and of a whole score fit their symbols.
-use Rattle.std.proofs.Common.{◌≡◌, ◌+◌, ◌≤◌, false, List, [], ◌∷◌, ◌++◌, Some, refl, arith}
+use Rattle.std.proofs.Common.{◌≡◌, ◌+◌, ◌≤◌, Bool, true, false, List, [], ◌∷◌, ◌++◌, Some, refl, arith}
 use Rattle.fm_lex.specs.Tokens.{Lexed}
 use Rattle.fm_lex.specs.declared.kind.Kind.{Kind}
 use Rattle.fm_lex.specs.declared.kind.Kind.TheVariants.{Name, Number, Register, End}
 use Rattle.fm_lex.specs.declared.kind.Kind.TheVariants as kinds
 use Rattle.fm_lex.specs.declared.keyword.Keyword.TheVariants.{Formula, Seed, Shape, Phrase, Note, Play, Rest, Skip, Control, Set, If, Else, Repeat, Max, Do, Par, Branch, Warp, Rhythm}
 use Rattle.fm_grammar.specs.Score.{Leaf}
-use Rattle.fm_grammar.specs.Grammar.{Sending, program, bend, Scoping, channel, volume, gate, Cycling, artic, loud, StmtsForm, no_stmt, stmt, BlockForm, block, ElseForm, no_else, otherwise, BranchesForm, no_branch, branch, StmtForm, note, play, rest, skip, control, send, set, choice, repeat, again, call, warp, par, scope, rhythm, cycling, shape, phrase, plays, EntriesForm, no_entry, entry, SeedForm, no_seed, seed, ScoreForm}
+use Rattle.fm_grammar.specs.Grammar.{Sending, program, bend, Scoping, channel, volume, gate, Cycling, artic, loud, StmtsForm, no_stmt, stmt, BlockForm, block, ElseForm, no_else, otherwise, BranchesForm, no_branch, branch, StmtForm, note, play, rest, skip, control, send, set, choice, repeat, again, call, warp, par, scope, rhythm, cycling, shape, phrase, plays, EntriesForm, no_entry, entry, SeedForm, no_seed, seed, DivisionForm, no_division, division, ScoreForm}
 use Rattle.fm_grammar.specs.Signs.{semicolon, open_brace, close_brace, open_parenthesis, close_parenthesis, open_bracket, close_bracket, equals, tok, key, num}
-use Rattle.fm_grammar.specs.Spelling.{listed_text, num_text, length_text, part_text, expr_text, amount_text, duration_text, pitch_text, sending_word, scoping_word, cycling_word, stmts_text, block_text, else_text, branches_text, stmt_text, entries_text, seed_text, score_text}
+use Rattle.fm_grammar.specs.Spelling.{listed_text, num_text, length_text, part_text, expr_text, amount_text, duration_text, pitch_text, sending_word, scoping_word, cycling_word, stmts_text, block_text, else_text, branches_text, stmt_text, entries_text, seed_text, division_text, score_text}
 use Rattle.fm_grammar.specs.Within.{Limits, expr_size, StmtsWithin, BlockWithin, ElseWithin, BranchesWithin, StmtWithin, EntriesWithin}
 use Rattle.fm_grammar.specs.Rules.{Sym, one, Rule, any_number, any_register, kind_code, rules_of, inside}
 use Rattle.fm_grammar.specs.Table.{taking, opened}
@@ -226,19 +226,41 @@ fits_seed most (seed p n e) ss w o any =
     outer most table.seeded ss (one any_number ∷ one semicolon ∷ []) (kinds.Keyword Seed) p (num n ∷ tok semicolon e ∷ w) refl refl o
     (fits_num most n (one semicolon ∷ ss) (tok semicolon e ∷ w) o (ended most e ss w o any) 0 (omega arith))
 
+-- whether a form states its division
+abbrev pub states_division : DivisionForm → Bool
+states_division no_division = false
+states_division (division w n e) = true
+
+fits_division : (most : Limits) (d : DivisionForm) (w : List Lexed) → Anyhow most table.undivided w
+    → Anyhow most (table.behind_version (states_division d)) (division_text d w)
+fits_division most no_division w any = any
+fits_division most (division p n e) w any =
+    outer most (one Name) (one any_number ∷ one semicolon ∷ table.undivided) [] Name p (num n ∷ tok semicolon e ∷ w) refl refl
+    (omega arith)
+    (fits_num most n (one semicolon ∷ table.undivided) (tok semicolon e ∷ w) (omega arith)
+    (ended most e table.undivided w (omega arith) any) 0 (omega arith))
+
+-- no brace is open behind the version
+pub none_opened : (divided : Bool) → opened (table.behind_version divided) ≡ 0
+none_opened true = refl
+none_opened false = refl
+
 -- the tokens of a score fit the symbols of a whole text
-pub fits_score : (most : Limits) (s : ScoreForm) → EntriesWithin most s.entries → Derives most 0 table.whole (score_text s)
+pub fits_score : (most : Limits) (s : ScoreForm) → EntriesWithin most s.entries
+    → Derives most 0 (table.whole (states_division s.divided)) (score_text s)
 fits_score most s small =
+    let divided = states_division s.divided in
+    let none : opened (table.behind_version divided) ≤ most.braces = omega (arith, none_opened divided) in
     let nothing : Anyhow most [] [] = λ u count. record { steps = 1; fits = (refl, count) } in
     let last : Anyhow most ends (tok End s.last ∷ []) =
     outer most (one End) [] [] End s.last [] refl refl (omega arith) (nothing 0 (omega arith)) in
     let entries_on = fits_entries most s.entries (tok End s.last ∷ []) small last in
     let text = entries_text s.entries (tok End s.last ∷ []) in
     let seed_on = fits_seed most s.seeded (table.entries ∷ ends) text (omega arith) entries_on in
-    outer most (one (kinds.Keyword Formula)) (one any_number ∷ one semicolon ∷ table.seeded ∷ table.entries ∷ ends) []
+    let division_on = fits_division most s.divided (seed_text s.seeded text) seed_on in
+    let behind = division_text s.divided (seed_text s.seeded text) in
+    outer most (one (kinds.Keyword Formula)) (one any_number ∷ one semicolon ∷ table.behind_version divided) []
     (kinds.Keyword Formula) s.word
-    (num s.version ∷ tok semicolon s.ends ∷ seed_text s.seeded text) refl refl (omega arith)
-    (fits_num most s.version (one semicolon ∷ table.seeded ∷ table.entries ∷ ends) (tok semicolon s.ends ∷ seed_text s.seeded text)
-    (omega arith)
-    (ended most s.ends (table.seeded ∷ table.entries ∷ ends) (seed_text s.seeded text) (omega arith) seed_on) 0 (omega arith)) 0
-    (omega arith)
+    (num s.version ∷ tok semicolon s.ends ∷ behind) refl refl none
+    (fits_num most s.version (one semicolon ∷ table.behind_version divided) (tok semicolon s.ends ∷ behind) none
+    (ended most s.ends (table.behind_version divided) behind none division_on) 0 (omega arith)) 0 (omega arith)

@@ -15,6 +15,8 @@ pub mod ToValues
 pub mod ToStatements
 pub mod ToScore
 pub mod EndLast
+pub mod Dividing
+pub mod Begun
 pub mod Scores
 pub mod OneTrip
 pub mod Unique

@@ -42,13 +42,24 @@ token_before_fault : verdict (codes "formula 1; note 5A") ∷ verdict (codes "fo
 unfolding walk trip
 token_before_fault = refl
 
--- `division` is a name
+-- a division stands behind version 2, by its value
 versions :
-    verdict (codes "formula 2;") ∷ verdict (codes "formula 2; division 96;") ∷ verdict (codes "formula 3; division 96;") ∷ verdict
-    (codes "formula 0;") ∷ []
-    ≡ (0, 0) ∷ (3, 12) ∷ (3, 12) ∷ (0, 0) ∷ []
+    verdict (codes "formula 2;") ∷ verdict (codes "formula 2; division 96;") ∷ verdict (codes "formula 02; division 96; seed 1;")
+    ∷ verdict (codes "formula 3; division 96;") ∷ verdict (codes "formula 1; division 96;") ∷ verdict (codes "formula 0;")
+    ∷ verdict (codes "formula 2; divisions 96;") ∷ verdict (codes "formula 2; seed 1; division 96;")
+    ∷ verdict (codes "formula 2; division 96; division 96;") ∷ verdict (codes "formula 2; division;")
+    ∷ verdict (codes "formula 2; division 96 note") ∷ verdict (codes "formula 2; division") ∷ verdict (codes "formula 2 division 96;") ∷ []
+    ≡ (0, 0) ∷ (0, 0) ∷ (0, 0) ∷ (3, 12) ∷ (3, 12) ∷ (0, 0) ∷ (3, 12) ∷ (3, 20) ∷ (3, 25) ∷ (3, 20) ∷ (3, 24) ∷ (3, 20) ∷ (3, 11) ∷ []
 unfolding walk trip
 versions = refl
+
+-- `division` is a name elsewhere
+division_is_a_name :
+    verdict (codes "formula 1; phrase division { } do division;")
+    ∷ verdict (codes "formula 2; shape division = pause 1/8; warp division { }") ∷ []
+    ≡ (0, 0) ∷ (0, 0) ∷ []
+unfolding walk trip
+division_is_a_name = refl
 
 -- the parentheses round the test of an `if` count, those of an amount, a duration and a count do not
 parentheses_of_test :

@@ -12,10 +12,11 @@ use Rattle.fm_grammar.specs.Standing.{score_tree}
 use Rattle.fm_grammar.specs.Within.{Limits, limits}
 use Rattle.fm_grammar.specs.Reads.{Reads, Begins, Fault, TripsWith, Verdict}
 use Rattle.fm_grammar.specs.Rules.{Sym, kind_code, whole}
-use Rattle.fm_grammar.specs.Table.{after_token, left_out, first_fault}
+use Rattle.fm_grammar.specs.Table.{after_token, left_out, is_divided, first_fault}
 use Rattle.fm_grammar.proofs.Fits.{Fits, Derives}
 use Rattle.fm_grammar.proofs.EndLast.{EndsBelow, end_last}
-use Rattle.fm_grammar.proofs.Scores.{reads_from, derives_begun, trips_with, begins_passes, passes_begins}
+use Rattle.fm_grammar.proofs.Begun.{reads_from, derives_begun}
+use Rattle.fm_grammar.proofs.Scores.{trips_with, begins_passes, passes_begins}
 use Rattle.fm_grammar.proofs.OneTrip.{front_begins, one_trip_fault}
 use Rattle.fm_grammar.proofs.UniqueScore.{unique_score}
 
@@ -60,28 +61,30 @@ end_code : (k : Kind) → is_end k ≡ true → kind_code k ≡ kind_code End
 end_code End is = refl
 end_code k is = cc
 
-whole_ends : EndsBelow whole
-whole_ends = (refl, (refl, (refl, (refl, (refl, refl)))))
+whole_ends : (divided : Bool) → EndsBelow (whole divided)
+whole_ends true = (refl, (refl, (refl, (refl, (refl, (refl, (refl, (refl, refl))))))))
+whole_ends false = (refl, (refl, (refl, (refl, (refl, refl)))))
 
 -- behind the last token of a text nothing comes
-ends_there : (front : List Lexed) (last : Lexed) (w : List Lexed) → is_last last ≡ true
-    → Derives limits 0 whole ((front ++ last ∷ []) ++ w) → w ≡ []
-ends_there front (Ok t) w is derives =
-    end_last limits derives.steps 0 whole front t w whole_ends (end_code t.kind is)
-    (subst (λ (x : List Lexed). Fits limits derives.steps 0 whole x) (append_assoc front (Ok t ∷ []) w) derives.fits)
-ends_there front (Err f) w is derives =
-    absurd (no_fault_inside limits derives.steps 0 whole front f w
-    (subst (λ (x : List Lexed). Fits limits derives.steps 0 whole x) (append_assoc front (Err f ∷ []) w) derives.fits))
+ends_there : (divided : Bool) (front : List Lexed) (last : Lexed) (w : List Lexed) → is_last last ≡ true
+    → Derives limits 0 (whole divided) ((front ++ last ∷ []) ++ w) → w ≡ []
+ends_there divided front (Ok t) w is derives =
+    end_last limits derives.steps 0 (whole divided) front t w (whole_ends divided) (end_code t.kind is)
+    (subst (λ (x : List Lexed). Fits limits derives.steps 0 (whole divided) x) (append_assoc front (Ok t ∷ []) w) derives.fits)
+ends_there divided front (Err f) w is derives =
+    absurd (no_fault_inside limits derives.steps 0 (whole divided) front f w
+    (subst (λ (x : List Lexed). Fits limits derives.steps 0 (whole divided) x) (append_assoc front (Err f ∷ []) w) derives.fits))
 
 -- ---- reads or trips
 
 whole_reads : (ts : List Lexed) → Closed ts → Begins limits ts → (score : Score) × Reads limits ts score
 whole_reads ts closed begins =
-    let derives = derives_begun limits ts begins in
-    let none : begins.rest ≡ [] = ends_there closed.front closed.last begins.rest closed.ends
-    (subst (λ (x : List Lexed). Derives limits 0 whole (x ++ begins.rest)) closed.split derives) in
-    let alone : ts ++ begins.rest ≡ ts = ap (λ (x : List Lexed). ts ++ x) none ∙ append-nil ts in
-    reads_from limits ts (subst (λ (x : List Lexed). Derives limits 0 whole x) alone derives)
+    let divided = is_divided ts in
+    let goes = derives_begun limits ts begins in
+    let none : goes.0 ≡ [] = ends_there divided closed.front closed.last goes.0 closed.ends
+    (subst (λ (x : List Lexed). Derives limits 0 (whole divided) (x ++ goes.0)) closed.split goes.1) in
+    let alone : ts ++ goes.0 ≡ ts = ap (λ (x : List Lexed). ts ++ x) none ∙ append-nil ts in
+    reads_from limits ts divided (λ is. is) (subst (λ (x : List Lexed). Derives limits 0 (whole divided) x) alone goes.1)
 
 verdict : (ts : List Lexed) (found : Option Fault) → Closed ts → first_fault ts ≡ found → Verdict ts
 verdict ts None closed is = inl (whole_reads ts closed (passes_begins ts is))

@@ -1,12 +1,12 @@
 -- What fits the symbols of a whole text is the tokens of a score.
-use Rattle.std.proofs.Common.{◌≡◌, ℕ, zero, suc, ◌⊎◌, inl, inr, List, [], ◌∷◌, ◌++◌, Ok, refl, ap, ◌∙◌}
+use Rattle.std.proofs.Common.{◌≡◌, ℕ, zero, suc, ◌⊎◌, inl, inr, Bool, true, false, List, [], ◌∷◌, ◌++◌, Ok, refl, ap, ◌∙◌}
 use Rattle.fm_lex.specs.Tokens.{Lexeme, Lexed}
 use Rattle.fm_lex.specs.declared.kind.Kind.TheVariants.{Name, End}
 use Rattle.fm_lex.specs.declared.kind.Kind.TheVariants as kinds
 use Rattle.fm_lex.specs.declared.keyword.Keyword.TheVariants.{Formula, Seed, Shape, Phrase}
-use Rattle.fm_grammar.specs.Grammar.{shape, phrase, plays, no_entry, entry, no_seed, seed, ScoreForm}
+use Rattle.fm_grammar.specs.Grammar.{shape, phrase, plays, no_entry, entry, no_seed, seed, DivisionForm, no_division, division, ScoreForm}
 use Rattle.fm_grammar.specs.Signs.{semicolon, equals, tok, key, num}
-use Rattle.fm_grammar.specs.Spelling.{listed_text, part_text, entry_text, entries_text, seed_text, score_text}
+use Rattle.fm_grammar.specs.Spelling.{listed_text, part_text, entry_text, entries_text, seed_text, division_text, score_text}
 use Rattle.fm_grammar.specs.Within.{Limits, EntryWithin, EntriesWithin}
 use Rattle.fm_grammar.specs.Rules.{Sym, one, Rule, any_number, kind_code, rules_of}
 use Rattle.fm_grammar.specs.Rules as table
@@ -18,6 +18,7 @@ use Rattle.fm_grammar.proofs.ToLists.{to_parts}
 use Rattle.fm_grammar.proofs.ToBlocks.{Stmt, block_split}
 use Rattle.fm_grammar.proofs.ToStatements.{stmt_case}
 use Rattle.fm_grammar.proofs.ToSequences.{known}
+use Rattle.fm_grammar.proofs.FromStatements.{states_division}
 
 -- the end behind the entries
 abbrev ends : List Sym
@@ -130,9 +131,33 @@ to_seed most (suc n) u ss ts (inl t) = by (ruled_take most n u table.seeded ss t
             }
         known_rule (inr none) = absurd none
 
--- the tokens are those of a score within the limits
-pub record IsScore (most : Limits) (ts : List Lexed) : Type 0 where
+-- the tokens behind the version are those of a division, where the symbols have one, and a rest that fits what is behind
+record Behind (most : Limits) (n : ℕ) (divided : Bool) (ts : List Lexed) : Type 0 where
+  form : DivisionForm
+  states : states_division form ≡ divided
+  rest : List Lexed
+  place : ts ≡ division_text form rest
+  fits : Fits most n 0 table.undivided rest
+
+to_division : (most : Limits) (n : ℕ) (divided : Bool) (ts : List Lexed) → Fits most n 0 (table.behind_version divided) ts
+    → Behind most n divided ts
+to_division most n false ts fits = record { form = no_division; states = refl; rest = ts; place = refl; fits = fits }
+to_division most n true ts fits =
+    let w = to_sign most Name tells_name n 0 (one any_number ∷ one semicolon ∷ table.undivided) ts fits in
+    let v = to_num most n 0 (one semicolon ∷ table.undivided) w.rest w.fits in
+    let e = to_sign most semicolon (tells_symbol 59) n 0 table.undivided v.rest v.fits in record {
+      form = division w.form v.form e.form;
+      states = refl;
+      rest = e.rest;
+      place = w.place ∙ ap (λ (x : List Lexed). tok Name w.form ∷ x)
+          (v.place ∙ ap (λ (x : List Lexed). num v.form ∷ x) e.place);
+      fits = e.fits;
+    }
+
+-- the tokens are those of a score within the limits, with a division where its symbols have one
+pub record IsScore (most : Limits) (divided : Bool) (ts : List Lexed) : Type 0 where
   pub form : ScoreForm
+  pub states : states_division form.divided ≡ divided
   pub text : ts ≡ score_text form
   pub within : EntriesWithin most form.entries
 
@@ -141,19 +166,33 @@ nothing_left most zero ts fits = absurd fits
 nothing_left most (suc n) ts fits = fits.0
 
 -- what fits the symbols of a whole text is the tokens of a score
-pub to_score : (most : Limits) (n : ℕ) (ts : List Lexed) → Fits most n 0 table.whole ts → IsScore most ts
-to_score most n ts fits =
+pub to_score : (most : Limits) (n : ℕ) (divided : Bool) (ts : List Lexed) → Fits most n 0 (table.whole divided) ts
+    → IsScore most divided ts
+to_score most n divided ts fits =
     let w = to_sign most (kinds.Keyword Formula) (tells_keyword Formula) n 0
-    (one any_number ∷ one semicolon ∷ table.seeded ∷ table.entries ∷ ends) ts fits in
-    let v = to_num most n 0 (one semicolon ∷ table.seeded ∷ table.entries ∷ ends) w.rest w.fits in
-    let e = to_sign most semicolon (tells_symbol 59) n 0 (table.seeded ∷ table.entries ∷ ends) v.rest v.fits in
-    let s = to_seed most n 0 (table.entries ∷ ends) e.rest e.fits in
+    (one any_number ∷ one semicolon ∷ table.behind_version divided) ts fits in
+    let v = to_num most n 0 (one semicolon ∷ table.behind_version divided) w.rest w.fits in
+    let e = to_sign most semicolon (tells_symbol 59) n 0 (table.behind_version divided) v.rest v.fits in
+    let d = to_division most n divided e.rest e.fits in
+    let s = to_seed most n 0 (table.entries ∷ ends) d.rest d.fits in
     let es = to_entries most n 0 s.rest s.fits in
     let l = to_sign most End tells_end n 0 [] es.rest es.fits in
-    let none = nothing_left most n l.rest l.fits in record {
-      form = record { word = w.form; version = v.form; ends = e.form; seeded = s.form; entries = es.form; last = l.form };
+    let none = nothing_left most n l.rest l.fits in
+    let entries_place = es.place ∙ ap (λ (x : List Lexed). entries_text es.form x)
+    (l.place ∙ ap (λ (x : List Lexed). tok End l.form ∷ x) none) in record {
+      form = record {
+        word = w.form;
+        version = v.form;
+        ends = e.form;
+        divided = d.form;
+        seeded = s.form;
+        entries = es.form;
+        last = l.form;
+      };
+      states = d.states;
       text = w.place ∙ ap (λ (x : List Lexed). key Formula w.form ∷ x) (v.place ∙ ap (λ (x : List Lexed). num v.form ∷ x)
-          (e.place ∙ ap (λ (x : List Lexed). tok semicolon e.form ∷ x) (s.place ∙ ap (λ (x : List Lexed). seed_text s.form x)
-          (es.place ∙ ap (λ (x : List Lexed). entries_text es.form x) (l.place ∙ ap (λ (x : List Lexed). tok End l.form ∷ x) none)))));
+          (e.place ∙ ap (λ (x : List Lexed). tok semicolon e.form ∷ x)
+          (d.place ∙ ap (λ (x : List Lexed). division_text d.form x)
+          (s.place ∙ ap (λ (x : List Lexed). seed_text s.form x) entries_place))));
       within = es.within;
     }

@@ -11,7 +11,7 @@ use Rattle.fm_grammar.specs.declared.length.Length.TheVariants.{Share, Ticks}
 use Rattle.fm_grammar.specs.declared.part_text.PartText.TheVariants.{Flat, Slope, Pause, Breath}
 use Rattle.fm_grammar.specs.Score.{Leaf, Postfix, Score}
 use Rattle.fm_grammar.specs.Score as tree
-use Rattle.fm_grammar.specs.Grammar.{NumForm, Mores, no_more, more, Listed, share, ticks, flat, slope, pause, breath, times, over, modulo, plus, minus, least, greatest, below, equal, expr, register, index, negate, pick, compare, no_term, term, no_sum, sum, negative, fixed, named, keyed, program, bend, channel, volume, gate, artic, loud, no_stmt, stmt, block, no_else, otherwise, no_branch, branch, note, play, rest, skip, control, send, set, choice, repeat, again, call, warp, par, scope, rhythm, cycling, shape, phrase, plays, no_entry, entry, no_seed, seed, ScoreForm}
+use Rattle.fm_grammar.specs.Grammar.{NumForm, Mores, no_more, more, Listed, share, ticks, flat, slope, pause, breath, times, over, modulo, plus, minus, least, greatest, below, equal, expr, register, index, negate, pick, compare, no_term, term, no_sum, sum, negative, fixed, named, keyed, program, bend, channel, volume, gate, artic, loud, no_stmt, stmt, block, no_else, otherwise, no_branch, branch, note, play, rest, skip, control, send, set, choice, repeat, again, call, warp, par, scope, rhythm, cycling, shape, phrase, plays, no_entry, entry, no_division, division, no_seed, seed, ScoreForm}
 use Rattle.fm_grammar.specs.Grammar as forms
 use Rattle.fm_grammar.specs.Within.{limits}
 use Rattle.fm_grammar.specs.Reads.{Reads}
@@ -48,6 +48,7 @@ definitions_form = record {
   word = (leaf (codes "formula") 1);
   version = (number 1 (codes "1") 9);
   ends = (leaf (codes ";") 10);
+  divided = no_division;
   seeded = (seed (leaf (codes "seed") 12) (number 7 (codes "7") 17) (leaf (codes ";") 18));
   last = (leaf [] 165);
   entries = (entry (shape (leaf (codes "shape") 20) (leaf (codes "s") 26) (leaf (codes "=") 28) (listed (flat (leaf (codes "flat") 30)
@@ -67,6 +68,7 @@ definitions_form = record {
 abbrev definitions_score : Score
 definitions_score = record {
   version = (value 1 9);
+  division = None;
   seed = (Some (value 7 17));
   entries = tree.shape (leaf (codes "s") 26) ((Flat (Share (value 1 35) (value 4 37)) (value 1000 42)) ∷ (Slope (Ticks (value 480 60))
       (value 900 67) (value 2000 74)) ∷ (Pause (Share (value 1 86) (value 8 88))) ∷ (Breath (Ticks (value 0 104))) ∷ []) ∷ tree.phrase
@@ -78,7 +80,7 @@ definitions_score = record {
 
 definitions : Reads limits (tokens definitions_text) definitions_score
 unfolding walk
-definitions = record { form = definitions_form; text = refl; within = search rules; stands_for = refl }
+definitions = record { form = definitions_form; text = refl; within = search rules; head = tt; stands_for = refl }
 
 abbrev values_text : List ℕ
 values_text =
@@ -90,6 +92,7 @@ values_form = record {
   word = (leaf (codes "formula") 1);
   version = (number 2 (codes "2") 9);
   ends = (leaf (codes ";") 10);
+  divided = no_division;
   seeded = no_seed;
   last = (leaf [] 186);
   entries = (entry (plays (note (leaf (codes "note") 12) (listed (named 58 (leaf (codes "bb3") 17)) (more (leaf (codes ",") 20) (keyed
@@ -122,6 +125,7 @@ values_form = record {
 abbrev values_score : Score
 values_score = record {
   version = (value 2 9);
+  division = None;
   seed = None;
   entries = tree.plays (at_column 12) (tree.note ((tree.named 58 (at_column 17)) ∷ (tree.keyed (tree.literal (negsuc 0) (at_column 26))
       (at_column 22)) ∷ (tree.keyed (tree.Amount.computed (postfix (nodes.Literal 60 ∷ nodes.Index 0 ∷ nodes.Literal 2 ∷ nodes.Multiply ∷
@@ -139,7 +143,7 @@ values_score = record {
 
 values : Reads limits (tokens values_text) values_score
 unfolding walk
-values = record { form = values_form; text = refl; within = search rules; stands_for = refl }
+values = record { form = values_form; text = refl; within = search rules; head = tt; stands_for = refl }
 
 abbrev blocks_text : List ℕ
 blocks_text =
@@ -152,6 +156,7 @@ blocks_form = record {
   word = (leaf (codes "formula") 1);
   version = (number 1 (codes "1") 9);
   ends = (leaf (codes ";") 10);
+  divided = no_division;
   seeded = no_seed;
   last = (leaf [] 236);
   entries = (entry (plays (choice (leaf (codes "if") 12) (expr (index 0 (leaf (codes "n0") 15)) no_term no_sum) (block (leaf (codes "{")
@@ -181,6 +186,7 @@ blocks_form = record {
 abbrev blocks_score : Score
 blocks_score = record {
   version = (value 1 9);
+  division = None;
   seed = None;
   entries = tree.plays (at_column 12) (tree.choice (postfix (nodes.Index 0 ∷ []) (place 15 ∷ [])) (tree.then (at_column 20) (tree.rest
       (tree.fixed (Share (value 1 25) (value 4 27)))) tree.done) (tree.then (at_column 39) tree.skip tree.done)) ∷ tree.plays (at_column
@@ -196,4 +202,33 @@ blocks_score = record {
 
 blocks : Reads limits (tokens blocks_text) blocks_score
 unfolding walk
-blocks = record { form = blocks_form; text = refl; within = search rules; stands_for = refl }
+blocks = record { form = blocks_form; text = refl; within = search rules; head = tt; stands_for = refl }
+
+abbrev divided_text : List ℕ
+divided_text = codes "formula 02; division 96; shape division = pause 1/8;"
+
+abbrev divided_form : ScoreForm
+divided_form = record {
+  word = (leaf (codes "formula") 1);
+  version = (number 2 (codes "02") 9);
+  ends = (leaf (codes ";") 11);
+  divided = (division (leaf (codes "division") 13) (number 96 (codes "96") 22) (leaf (codes ";") 24));
+  seeded = no_seed;
+  last = (leaf [] 53);
+  entries = entry (shape (leaf (codes "shape") 26) (leaf (codes "division") 32) (leaf (codes "=") 41)
+      (listed (pause (leaf (codes "pause") 43) (share (number 1 (codes "1") 49) (leaf (codes "/") 50) (number 8 (codes "8") 51))) no_more)
+      (leaf (codes ";") 52)) no_entry;
+}
+
+abbrev divided_score : Score
+divided_score = record {
+  version = (value 2 9);
+  division = (Some (value 96 22));
+  seed = None;
+  entries = tree.shape (leaf (codes "division") 32) ((Pause (Share (value 1 49) (value 8 51))) ∷ []) ∷ [];
+}
+
+-- a division stands behind version 2, by its value, and its word is a name elsewhere
+divided : Reads limits (tokens divided_text) divided_score
+unfolding walk
+divided = record { form = divided_form; text = refl; within = search rules; head = (refl, refl); stands_for = refl }

@@ -6,9 +6,9 @@ use Rattle.fm_lex.specs.declared.kind.Kind.TheVariants.{Name, End}
 use Rattle.fm_lex.specs.declared.kind.Kind.TheVariants as kinds
 use Rattle.fm_lex.specs.declared.keyword.Keyword.TheVariants.{Formula, Seed, Shape, Phrase}
 use Rattle.fm_grammar.specs.Score.{Leaf}
-use Rattle.fm_grammar.specs.Grammar.{NumForm, EntryForm, shape, phrase, plays, EntriesForm, no_entry, entry, SeedForm, no_seed, seed, ScoreForm}
+use Rattle.fm_grammar.specs.Grammar.{NumForm, EntryForm, shape, phrase, plays, EntriesForm, no_entry, entry, SeedForm, no_seed, seed, DivisionForm, no_division, division, ScoreForm}
 use Rattle.fm_grammar.specs.Signs.{semicolon, equals, tok}
-use Rattle.fm_grammar.specs.Spelling.{part_text, entry_text, entries_text, seed_text, score_text}
+use Rattle.fm_grammar.specs.Spelling.{part_text, entry_text, entries_text, seed_text, division_text, score_text}
 use Rattle.fm_grammar.specs.Rules.{kind_code}
 use Rattle.std.specs.Prelude.{not}
 use Rattle.fm_grammar.proofs.Followers.{each_of}
@@ -59,7 +59,7 @@ entry_begins (phrase w n b) u = refl
 entry_begins (plays s) u = or_true _ _ (or_true _ _ (stmt_begins s u))
 
 -- the end of a text
-abbrev finish : Leaf → List Lexed
+abbrev pub finish : Leaf → List Lexed
 finish l = tok End l ∷ []
 
 entries_no_else : (es : EntriesForm) (l : Leaf) → Apart elses (entries_text es (finish l))
@@ -98,12 +98,36 @@ unique_seed (seed w n e) (seed x m g) u v p q same =
     let ends : e ≡ g = same_leaf semicolon semicolon e g u v numbers.rests in
     record { forms = cc; rests = same_rest _ _ u v numbers.rests }
 
-abbrev score_form : Leaf → NumForm → Leaf → SeedForm → EntriesForm → Leaf → ScoreForm
-score_form w v e s es l = record { word = w; version = v; ends = e; seeded = s; entries = es; last = l }
+-- a name
+abbrev pub names : List ℕ
+names = kind_code Name ∷ []
 
-score_same : (w x : Leaf) (v n : NumForm) (e g : Leaf) (s r : SeedForm) (es fs : EntriesForm) (l m : Leaf)
-    → w ≡ x → v ≡ n → e ≡ g → s ≡ r → es ≡ fs → l ≡ m → score_form w v e s es l ≡ score_form x n g r fs m
-score_same w x v n e g s r es fs l m words versions ends seeds_of entries lasts = cc
+-- neither a seed nor an entry begins with a name
+pub no_name : (s : SeedForm) (es : EntriesForm) (l : Leaf) → Apart names (seed_text s (entries_text es (finish l)))
+no_name (seed w n e) es l = refl
+no_name no_seed no_entry l = refl
+no_name no_seed (entry e es) l =
+    not_true _ (each_of (λ code. not (one_of code names)) (first_code (entry_text e (entries_text es (finish l)))) entry_words refl
+    (entry_begins e (entries_text es (finish l))))
+
+unique_division : (x y : DivisionForm) (u v : List Lexed) → Apart names u → Apart names v → division_text x u ≡ division_text y v
+    → Agree x y u v
+unique_division no_division no_division u v p q same = record { forms = refl; rests = same }
+unique_division no_division (division w n e) u v p q same = clash names u _ p same refl
+unique_division (division w n e) no_division u v p q same = clash names v _ q (sym same) refl
+unique_division (division w n e) (division x m g) u v p q same =
+    let word : w ≡ x = same_leaf Name Name w x _ _ same in
+    let numbers = unique_num n m _ _ (same_rest _ _ _ _ same) in
+    let ends : e ≡ g = same_leaf semicolon semicolon e g u v numbers.rests in
+    record { forms = cc; rests = same_rest _ _ u v numbers.rests }
+
+abbrev score_form : Leaf → NumForm → Leaf → DivisionForm → SeedForm → EntriesForm → Leaf → ScoreForm
+score_form w v e d s es l =
+    record { word = w; version = v; ends = e; divided = d; seeded = s; entries = es; last = l }
+
+score_same : (w x : Leaf) (v n : NumForm) (e g : Leaf) (d c : DivisionForm) (s r : SeedForm) (es fs : EntriesForm) (l m : Leaf)
+    → w ≡ x → v ≡ n → e ≡ g → d ≡ c → s ≡ r → es ≡ fs → l ≡ m → score_form w v e d s es l ≡ score_form x n g c r fs m
+score_same w x v n e g d c s r es fs l m words versions ends divisions seeds_of entries lasts = cc
 
 -- a text is the text of one form at most
 pub unique_score : (x y : ScoreForm) → score_text x ≡ score_text y → x ≡ y
@@ -111,9 +135,11 @@ unique_score x y same =
     let word : x.word ≡ y.word = same_leaf (kinds.Keyword Formula) (kinds.Keyword Formula) x.word y.word _ _ same in
     let version = unique_num x.version y.version _ _ (same_rest _ _ _ _ same) in
     let ends : x.ends ≡ y.ends = same_leaf semicolon semicolon x.ends y.ends _ _ version.rests in
+    let divided = unique_division x.divided y.divided _ _ (no_name x.seeded x.entries x.last) (no_name y.seeded y.entries y.last)
+    (same_rest _ _ _ _ version.rests) in
     let seeded = unique_seed x.seeded y.seeded (entries_text x.entries (finish x.last)) (entries_text y.entries (finish y.last))
-    (entries_no_seed x.entries x.last) (entries_no_seed y.entries y.last) (same_rest _ _ _ _ version.rests) in
+    (entries_no_seed x.entries x.last) (entries_no_seed y.entries y.last) divided.rests in
     let entries = unique_entries x.entries y.entries x.last y.last seeded.rests in
     let last : x.last ≡ y.last = same_leaf End End x.last y.last [] [] entries.rests in
-    score_same x.word y.word x.version y.version x.ends y.ends x.seeded y.seeded x.entries y.entries x.last y.last
-    word version.forms ends seeded.forms entries.forms last
+    score_same x.word y.word x.version y.version x.ends y.ends x.divided y.divided x.seeded y.seeded x.entries y.entries
+    x.last y.last word version.forms ends divided.forms seeded.forms entries.forms last

@@ -160,11 +160,17 @@ pub data SeedForm : Type 0 where
   no_seed : SeedForm
   seed : (word : Leaf) → NumForm → (ends : Leaf) → SeedForm
 
--- score = "formula" NUMBER ";" [ "seed" NUMBER ";" ] { entry } END
+-- [ "division" NUMBER ";" ], where `division` is a name
+pub data DivisionForm : Type 0 where
+  no_division : DivisionForm
+  division : (word : Leaf) → NumForm → (ends : Leaf) → DivisionForm
+
+-- score = "formula" NUMBER ";" [ "division" NUMBER ";" ] [ "seed" NUMBER ";" ] { entry } END
 pub record ScoreForm : Type 0 where
   pub word : Leaf
   pub version : NumForm
   pub ends : Leaf
+  pub divided : DivisionForm
   pub seeded : SeedForm
   pub entries : EntriesForm
   pub last : Leaf

@@ -6,14 +6,16 @@ use Rattle.fm_lex.specs.Tokens.{Lexed}
 use Rattle.fm_grammar.specs.Score.{Score}
 use Rattle.fm_grammar.specs.Grammar.{ScoreForm}
 use Rattle.fm_grammar.specs.Spelling.{score_text}
-use Rattle.fm_grammar.specs.Within.{Limits, limits, EntriesWithin}
+use Rattle.fm_grammar.specs.Within.{Limits, limits, EntriesWithin, DivisionStands}
 use Rattle.fm_grammar.specs.Standing.{score_tree}
 
--- the tokens spell a form of the grammar within the limits, which stands for the score
+-- the tokens spell a form of the grammar within the limits, with a division where one may stand, which stands for the
+-- score
 pub record Reads (most : Limits) (ts : List Lexed) (score : Score) : Type 0 where
   pub form : ScoreForm
   pub text : ts ≡ score_text form
   pub within : EntriesWithin most form.entries
+  pub head : DivisionStands form.version form.divided
   pub stands_for : score ≡ score_tree form
 
 -- some text of the grammar within the limits begins with the tokens

@@ -221,7 +221,16 @@ inside terms = true
 inside sums = true
 inside s = false
 
--- the symbols of a whole text
-abbrev pub whole : List Sym
-whole =
-    one (kinds.Keyword Formula) ∷ one any_number ∷ one semicolon ∷ seeded ∷ entries ∷ one End ∷ []
+-- the symbols behind the division of a text
+abbrev pub undivided : List Sym
+undivided = seeded ∷ entries ∷ one End ∷ []
+
+-- the symbols behind the version, with a division or without one
+abbrev pub behind_version : Bool → List Sym
+behind_version true = one Name ∷ one any_number ∷ one semicolon ∷ undivided
+behind_version false = undivided
+
+-- the symbols of a whole text, with a division or without one
+abbrev pub whole : Bool → List Sym
+whole divided =
+    one (kinds.Keyword Formula) ∷ one any_number ∷ one semicolon ∷ behind_version divided

@@ -72,8 +72,9 @@ pub data Entry : Type 0 where
   phrase : (name : Leaf) → Body → Entry
   plays : Spot → Stmt → Entry
 
--- a score
+-- a score; its division is the ticks of a quarter note
 pub record Score : Type 0 where
   pub version : Number
+  pub division : Option Number
   pub seed : Option Number
   pub entries : List Entry

@@ -1,5 +1,5 @@
 -- Tokens of each kind.
-use Rattle.std.specs.Prelude.{Ok}
+use Rattle.std.specs.Prelude.{ℕ, List, codes, Ok}
 use Rattle.fm_lex.specs.declared.kind.Kind.{Kind}
 use Rattle.fm_lex.specs.declared.kind.Kind.TheVariants.{Number, Symbol}
 use Rattle.fm_lex.specs.declared.kind.Kind.TheVariants as kinds
@@ -63,6 +63,14 @@ asterisk = Symbol 42
 -- %
 abbrev pub percent : Kind
 percent = Symbol 37
+
+-- the version of scores that may state their division
+abbrev pub divided_version : ℕ
+divided_version = 2
+
+-- the name before a division
+abbrev pub division_word : List ℕ
+division_word = codes "division"
 
 -- a token of a kind
 abbrev pub tok : Kind → Leaf → Lexed

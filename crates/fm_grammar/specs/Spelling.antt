@@ -5,7 +5,7 @@ use Rattle.fm_lex.specs.declared.kind.Kind.TheVariants.{Name, Pitch, Register, I
 use Rattle.fm_lex.specs.declared.keyword.Keyword.{Keyword}
 use Rattle.fm_lex.specs.declared.keyword.Keyword.TheVariants.{Formula, Seed, Shape, Flat, By, Slope, To, Pause, Breath, Ticks, Phrase, Note, Play, Rest, Skip, Control, Program, Bend, Set, If, Else, Repeat, Max, Do, Par, Branch, Warp, Channel, Volume, Gate, Rhythm, Artic, Loud, Key, Pick, Min, Less, Same}
 use Rattle.fm_lex.specs.Tokens.{Lexed}
-use Rattle.fm_grammar.specs.Grammar.{NumForm, Mores, no_more, more, Listed, LengthForm, share, ticks, PartForm, flat, slope, pause, breath, Scaling, times, over, modulo, Adding, plus, minus, Comparing, least, greatest, below, equal, ExprForm, expr, FactorForm, register, index, negate, group, pick, compare, TermsForm, no_term, term, SumsForm, no_sum, sum, AmountForm, negative, DurationForm, fixed, PitchForm, named, keyed, Sending, program, bend, Scoping, channel, volume, gate, Cycling, artic, loud, StmtsForm, no_stmt, stmt, BlockForm, block, ElseForm, no_else, otherwise, BranchesForm, no_branch, branch, StmtForm, note, play, rest, skip, control, send, set, choice, repeat, again, call, warp, par, scope, rhythm, cycling, EntryForm, shape, phrase, plays, EntriesForm, no_entry, entry, SeedForm, no_seed, seed, ScoreForm}
+use Rattle.fm_grammar.specs.Grammar.{NumForm, Mores, no_more, more, Listed, LengthForm, share, ticks, PartForm, flat, slope, pause, breath, Scaling, times, over, modulo, Adding, plus, minus, Comparing, least, greatest, below, equal, ExprForm, expr, FactorForm, register, index, negate, group, pick, compare, TermsForm, no_term, term, SumsForm, no_sum, sum, AmountForm, negative, DurationForm, fixed, PitchForm, named, keyed, Sending, program, bend, Scoping, channel, volume, gate, Cycling, artic, loud, StmtsForm, no_stmt, stmt, BlockForm, block, ElseForm, no_else, otherwise, BranchesForm, no_branch, branch, StmtForm, note, play, rest, skip, control, send, set, choice, repeat, again, call, warp, par, scope, rhythm, cycling, EntryForm, shape, phrase, plays, EntriesForm, no_entry, entry, SeedForm, no_seed, seed, DivisionForm, no_division, division, ScoreForm}
 use Rattle.fm_grammar.specs.Grammar as forms
 use Rattle.fm_grammar.specs.Signs.{semicolon, open_brace, close_brace, open_parenthesis, close_parenthesis, open_bracket, close_bracket, comma, equals, slash, plus_sign, minus_sign, asterisk, percent, tok, key, num}
 
@@ -178,8 +178,13 @@ abbrev pub seed_text : SeedForm → List Lexed → List Lexed
 seed_text no_seed next = next
 seed_text (seed w n e) next = key Seed w ∷ num n ∷ tok semicolon e ∷ next
 
+-- [ "division" NUMBER ";" ]
+abbrev pub division_text : DivisionForm → List Lexed → List Lexed
+division_text no_division next = next
+division_text (division w n e) next = tok Name w ∷ num n ∷ tok semicolon e ∷ next
+
 -- score
 abbrev pub score_text : ScoreForm → List Lexed
 score_text s =
     key Formula s.word ∷ num s.version ∷ tok semicolon s.ends
-    ∷ seed_text s.seeded (entries_text s.entries (tok End s.last ∷ []))
+    ∷ division_text s.divided (seed_text s.seeded (entries_text s.entries (tok End s.last ∷ [])))

@@ -11,7 +11,7 @@ use Rattle.fm_grammar.specs.declared.part_text.PartText.{PartText}
 use Rattle.fm_grammar.specs.declared.part_text.PartText.TheVariants.{Flat, Slope, Pause, Breath}
 use Rattle.fm_grammar.specs.Score.{Leaf, Postfix, Duration, Amount, Pitch, Stmt, Body, Branches, Entry, Score}
 use Rattle.fm_grammar.specs.Score as tree
-use Rattle.fm_grammar.specs.Grammar.{NumForm, Mores, no_more, more, Listed, LengthForm, share, ticks, PartForm, flat, slope, pause, breath, Scaling, times, over, modulo, Adding, plus, minus, Comparing, least, greatest, below, equal, ExprForm, expr, FactorForm, register, index, negate, group, pick, compare, TermsForm, no_term, term, SumsForm, no_sum, sum, AmountForm, negative, DurationForm, fixed, PitchForm, named, keyed, Sending, program, bend, Scoping, channel, volume, gate, Cycling, artic, loud, StmtsForm, no_stmt, stmt, BlockForm, block, ElseForm, no_else, otherwise, BranchesForm, no_branch, branch, StmtForm, note, play, rest, skip, control, send, set, choice, repeat, again, call, warp, par, scope, rhythm, cycling, EntryForm, shape, phrase, plays, EntriesForm, no_entry, entry, SeedForm, no_seed, seed, ScoreForm}
+use Rattle.fm_grammar.specs.Grammar.{NumForm, Mores, no_more, more, Listed, LengthForm, share, ticks, PartForm, flat, slope, pause, breath, Scaling, times, over, modulo, Adding, plus, minus, Comparing, least, greatest, below, equal, ExprForm, expr, FactorForm, register, index, negate, group, pick, compare, TermsForm, no_term, term, SumsForm, no_sum, sum, AmountForm, negative, DurationForm, fixed, PitchForm, named, keyed, Sending, program, bend, Scoping, channel, volume, gate, Cycling, artic, loud, StmtsForm, no_stmt, stmt, BlockForm, block, ElseForm, no_else, otherwise, BranchesForm, no_branch, branch, StmtForm, note, play, rest, skip, control, send, set, choice, repeat, again, call, warp, par, scope, rhythm, cycling, EntryForm, shape, phrase, plays, EntriesForm, no_entry, entry, SeedForm, no_seed, seed, DivisionForm, no_division, division, ScoreForm}
 use Rattle.fm_grammar.specs.Grammar as forms
 
 -- a number
@@ -203,6 +203,16 @@ abbrev pub seed_tree : SeedForm → Option Number
 seed_tree no_seed = None
 seed_tree (seed w n e) = Some (num_tree n)
 
+-- [ "division" NUMBER ";" ]
+abbrev pub division_tree : DivisionForm → Option Number
+division_tree no_division = None
+division_tree (division w n e) = Some (num_tree n)
+
 -- score
 abbrev pub score_tree : ScoreForm → Score
-score_tree s = record { version = num_tree s.version; seed = seed_tree s.seeded; entries = entries_tree s.entries }
+score_tree s = record {
+  version = num_tree s.version;
+  division = division_tree s.divided;
+  seed = seed_tree s.seeded;
+  entries = entries_tree s.entries;
+}

@@ -1,9 +1,12 @@
 -- What may come next, as a stack of the symbols that must still come, and the first token that can't.
-use Rattle.std.specs.Prelude.{ℕ, zero, suc, ◌+◌, max, Bool, ◌&&◌, ◌==◌, nat_le, if◌then◌else◌, List, [], ◌∷◌, ◌++◌, Option, Some, None, Ok, Err}
+use Rattle.std.specs.Prelude.{ℕ, zero, suc, ◌+◌, max, Bool, false, ◌&&◌, ◌==◌, nat_le, bytes_eq, if◌then◌else◌, List, [], ◌∷◌, ◌++◌, Option, Some, None, Ok, Err}
 use Rattle.fm_lex.specs.declared.spot.Spot.{Spot}
 use Rattle.fm_lex.specs.declared.kind.Kind.{Kind}
+use Rattle.fm_lex.specs.declared.kind.Kind.TheVariants.{Name, Number}
+use Rattle.fm_lex.specs.declared.kind.Kind.TheVariants as kinds
+use Rattle.fm_lex.specs.declared.keyword.Keyword.TheVariants.{Formula}
 use Rattle.fm_lex.specs.Tokens.{Lexed}
-use Rattle.fm_grammar.specs.Signs.{open_brace, close_brace}
+use Rattle.fm_grammar.specs.Signs.{open_brace, close_brace, semicolon, divided_version, division_word}
 use Rattle.fm_grammar.specs.Within.{Limits, limits}
 use Rattle.fm_grammar.specs.Reads.{Fault, lexical, expected, too_nested}
 use Rattle.fm_grammar.specs.Rules.{Rule, Sym, factor, inner, inside, kind_code, may_end, one, rules_of, whole}
@@ -85,6 +88,35 @@ trip most u ss [] = None
 trip most u ss (Ok t ∷ ts) = trip_on most (feed u ss t.kind) t.spot (λ st. trip most st.used st.syms ts)
 trip most u ss (Err f ∷ ts) = Some (lexical f)
 
+-- ---- whether a text states its division, by its first four tokens
+
+-- a number of this value
+abbrev pub has_value : ℕ → Kind → Bool
+has_value n (Number v) = v == n
+has_value n k = false
+
+-- the word and the number of the version of scores that may state a division, and what ends them
+abbrev pub opens_divided : Lexed → Lexed → Lexed → Bool
+opens_divided (Ok w) (Ok n) (Ok e) =
+    (kind_code w.kind == kind_code (kinds.Keyword Formula))
+    && (has_value divided_version n.kind && (kind_code e.kind == kind_code semicolon))
+opens_divided w n e = false
+
+-- the name before a division
+abbrev pub is_division : Lexed → Bool
+is_division (Ok t) = (kind_code t.kind == kind_code Name) && bytes_eq t.text division_word
+is_division (Err f) = false
+
+-- this name comes first
+abbrev pub says_division : List Lexed → Bool
+says_division [] = false
+says_division (t ∷ ts) = is_division t
+
+-- whether a text states its division
+abbrev pub is_divided : List Lexed → Bool
+is_divided (w ∷ n ∷ e ∷ ts) = opens_divided w n e && says_division ts
+is_divided ts = false
+
 -- the fault at the first token of a text that can't stand
 abbrev pub first_fault : List Lexed → Option Fault
-first_fault ts = trip limits 0 whole ts
+first_fault ts = trip limits 0 (whole (is_divided ts)) ts

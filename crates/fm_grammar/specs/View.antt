@@ -99,4 +99,9 @@ entry_view (entries.Play i) = tree.plays (item_view i).spot (item_view i).what
 
 -- a score
 abbrev pub score_view : code_score.Score → Score
-score_view s = record { version = s.version; seed = s.seed; entries = map entry_view s.entries.items }
+score_view s = record {
+  version = s.version;
+  division = s.division;
+  seed = s.seed;
+  entries = map entry_view s.entries.items;
+}

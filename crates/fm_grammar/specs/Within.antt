@@ -1,7 +1,8 @@
--- The two limits that belong to the grammar, and the forms that keep them.
-use Rattle.std.specs.Prelude.{ℕ, suc, ◌+◌, ◌≤◌}
-use Rattle.fm_grammar.specs.Grammar.{NumForm, Mores, no_more, more, Listed, ExprForm, expr, FactorForm, register, index, negate, group, pick, compare, TermsForm, no_term, term, SumsForm, no_sum, sum, AmountForm, negative, DurationForm, fixed, PitchForm, named, keyed, StmtsForm, no_stmt, stmt, BlockForm, block, ElseForm, no_else, otherwise, BranchesForm, no_branch, branch, StmtForm, note, play, rest, skip, control, send, set, choice, repeat, again, call, warp, par, scope, rhythm, cycling, EntryForm, shape, phrase, plays, EntriesForm, no_entry, entry}
+-- The two limits that belong to the grammar, and the forms that keep them; where a division may stand.
+use Rattle.std.specs.Prelude.{◌≡◌, ℕ, suc, ◌+◌, ◌≤◌}
+use Rattle.fm_grammar.specs.Grammar.{NumForm, Mores, no_more, more, Listed, ExprForm, expr, FactorForm, register, index, negate, group, pick, compare, TermsForm, no_term, term, SumsForm, no_sum, sum, AmountForm, negative, DurationForm, fixed, PitchForm, named, keyed, StmtsForm, no_stmt, stmt, BlockForm, block, ElseForm, no_else, otherwise, BranchesForm, no_branch, branch, StmtForm, note, play, rest, skip, control, send, set, choice, repeat, again, call, warp, par, scope, rhythm, cycling, EntryForm, shape, phrase, plays, EntriesForm, no_entry, entry, DivisionForm, no_division, division}
 use Rattle.fm_grammar.specs.Grammar as forms
+use Rattle.fm_grammar.specs.Signs.{divided_version, division_word}
 
 -- the most braces that are open at one time, and the most tokens of an outermost expression
 pub record Limits : Type 0 where
@@ -118,3 +119,10 @@ EntryWithin most (plays s) = StmtWithin most 0 s
 abbrev pub EntriesWithin : Limits → EntriesForm → Type 0
 EntriesWithin most no_entry = Unit {0}
 EntriesWithin most (entry e es) = EntryWithin most e × EntriesWithin most es
+
+-- ---- the head
+
+-- a division stands only behind the version of scores that may state it, and behind its name
+abbrev pub DivisionStands : NumForm → DivisionForm → Type 0
+DivisionStands version no_division = Unit {0}
+DivisionStands version (division w n e) = (version.value ≡ divided_version) × (w.text ≡ division_word)

@@ -7,6 +7,8 @@ use crate::number::Number;
 #[derive(Drop)]
 pub struct Score<'s> {
     pub version: Number,
+    /// Ticks of a quarter note, where the text says so.
+    pub division: Option<Number>,
     pub seed: Option<Number>,
     pub entries: Vec<Entry<'s>>,
 }

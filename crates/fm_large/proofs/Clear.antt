@@ -1,4 +1,4 @@
--- A large score has no fault of names, numbers and places.
+-- A large score has no fault of names, numbers and places, and sets no articulation.
 use Rattle.std.proofs.Common.{◌≡◌, ◌+◌, ◌==◌, ◌%◌, ◌≤◌, ℕ, Bool, true, false, List, [], ◌∷◌, refl, arith, codes, if◌then◌else◌}
 use Rattle.std.specs.Prelude.{nat_lt}
 use Rattle.std.proofs.lemmas.Bool.Decides.{nat_tests}
@@ -9,6 +9,7 @@ use Rattle.fm_grammar.specs.Standing.{block_tree, branches_tree}
 use Rattle.fm_meaning.specs.Places.{fork_faults, in_fork, outermost, passage_faults, third_walk}
 use Rattle.fm_meaning.specs.Ranges.{Names, body_faults, branches_faults, second_walk}
 use Rattle.fm_meaning.specs.Resolve.{Known, fork_of, named_as, passage_of, resolved, stretch_of}
+use Rattle.fm_promise.specs.Gates.{fork_at_most, gates_at_most, passage_at_most}
 use Rattle.fm_large.proofs.Forms.{branch_form, branches_form, double_form, leaf, single_form}
 use Rattle.fm_large.proofs.Reading.{large_tree}
 use Rattle.fm_large.proofs.Text.{channels}
@@ -147,3 +148,24 @@ branches_placed line stretch notes (number ∷ numbers) = rw (block_placed line 
 -- no place has a fault
 pub places_faultless : (number stretch notes : ℕ) → third_walk (resolved (large_tree number stretch notes)).passage ≡ []
 places_faultless number stretch notes = rw (branches_placed 6 stretch notes (0 ∷ channels)) refl
+
+-- ---- articulations
+
+block_short : (line stretch notes number : ℕ)
+    → passage_at_most 100 (passage_of (known stretch) (block_tree (branch_form line notes number))) ≡ true
+block_short line stretch notes number = go (number % 2 == 1)
+  where
+    go : (b : Bool) → passage_at_most 100 (passage_of (known stretch) (block_tree
+        (if b then double_form line notes number else single_form line notes number))) ≡ true
+    go true = refl
+    go false = refl
+
+branches_short : (line stretch notes : ℕ) (numbers : List ℕ)
+    → fork_at_most 100 (fork_of (known stretch) (branches_tree (branches_form line notes numbers))) ≡ true
+branches_short line stretch notes [] = refl
+branches_short line stretch notes (number ∷ numbers) = rw (block_short line stretch notes number)
+    (branches_short (line + 1) stretch notes numbers)
+
+-- none is set
+pub none_above : (number stretch notes : ℕ) → gates_at_most 100 (resolved (large_tree number stretch notes)) ≡ true
+none_above number stretch notes = rw (branches_short 6 stretch notes (0 ∷ channels)) refl

@@ -8,12 +8,13 @@ use Rattle.fm_meaning.specs.Resolve.{fork_of, passage_of, resolved}
 use Rattle.fm_meaning.specs.State.{Around, Now, started}
 use Rattle.fm_grammar.specs.Score.{Score}
 use Rattle.fm_meaning.specs.Verdict.{Means}
+use Rattle.fm_promise.specs.Gates.{gates_at_most}
 use Rattle.fm_promise.specs.InTurn.{lines_in_turn, played_in_turn, score_by_till}
 use Rattle.fm_gen.proofs.LengthLemmas.{large_score_short}
 use Rattle.fm_gen.specs.LargeScore.{large_score, notes_of, stretch_of}
 use Rattle.fm_gen.specs.declared.score.TheConstants.{MAX_NUMBER}
 use Rattle.fm_large.specs.LargePerformance.{IsPerformed}
-use Rattle.fm_large.proofs.Clear.{InRange, in_range, known, names_faultless, parts_a, parts_b, places_faultless}
+use Rattle.fm_large.proofs.Clear.{InRange, in_range, known, names_faultless, none_above, parts_a, parts_b, places_faultless}
 use Rattle.fm_large.proofs.Ends.{at_a, at_b}
 use Rattle.fm_value.specs.declared.node.Node.{Node}
 use Rattle.fm_value.specs.declared.node.Node.TheVariants.{Add, Literal, Pick}
@@ -182,8 +183,10 @@ total_is births ms notes count each =
 -- what is known of each accepted text
 pub record Promises : Type 0 where
   pub processes : (text : List ℕ) (s : Score) → Means text s → length (played_lines (resolved s)) ≡ (score_bounds (resolved s)).processes
-  pub lines : (text : List ℕ) (s : Score) → Means text s → played_lines (resolved s) ≡ played_in_turn (resolved s)
-  pub marks : (text : List ℕ) (s : Score) → Means text s → score_plays (resolved s) ≡ score_by_till (resolved s)
+  pub lines : (text : List ℕ) (s : Score) → Means text s → gates_at_most 100 (resolved s) ≡ true
+      → played_lines (resolved s) ≡ played_in_turn (resolved s)
+  pub marks : (text : List ℕ) (s : Score) → Means text s → gates_at_most 100 (resolved s) ≡ true
+      → score_plays (resolved s) ≡ score_by_till (resolved s)
   pub piece : (ls : List Line) → length (piece ls) ≡ total ls
 
 module _ (number : ℕ) (within : number ≤ MAX_NUMBER) where
@@ -208,10 +211,13 @@ module _ (number : ℕ) (within : number ≤ MAX_NUMBER) where
     ) refl;
   }
 
+  short : gates_at_most 100 (resolved tree) ≡ true
+  short = none_above number (stretch_of number) (notes_of number)
+
   -- what is claimed of it
   pub performed : Promises → IsPerformed number
   performed promises =
-      let lines = promises.lines (large_score number) tree meant in
+      let lines = promises.lines (large_score number) tree meant short in
       let counted : length (played_lines (resolved tree)) ≡ 18 = promises.processes (large_score number) tree meant
       ∙ processes_are number (stretch_of number) (notes_of number) large in
       let births : length (score_by_till (resolved tree)).after.births ≡ 18 =
@@ -223,7 +229,7 @@ module _ (number : ℕ) (within : number ≤ MAX_NUMBER) where
         processes = counted;
         events = promises.piece (played_lines (resolved tree)) ∙ ap total lines
             ∙ total_is (score_by_till (resolved tree)).after.births (score_by_till (resolved tree)).marks (notes_of number) births
-            (λ p. ap (λ (m : Made). heard p m.marks) (sym (promises.marks (large_score number) tree meant))
+            (λ p. ap (λ (m : Made). heard p m.marks) (sym (promises.marks (large_score number) tree meant short))
             ∙ heard_is number (stretch_of number) (notes_of number) p large);
         last = end_is number (stretch_of number) (notes_of number) large;
       }

@@ -35,5 +35,6 @@ large_reads number small = record {
   form = whole_form number (stretch_of number) (notes_of number);
   text = ap tokens (text_is number) ∙ whole_read number (stretch_of number) (notes_of number) small (omega arith) (omega arith);
   within = entries_within number (stretch_of number) (notes_of number);
+  head = tt;
   stands_for = refl;
 }

@@ -5,7 +5,7 @@ use Rattle.fm_lex.specs.Bytes.{first_spot}
 use Rattle.fm_lex.specs.declared.keyword.Keyword.TheVariants.{Formula, Seed, Shape, Flat, By, Slope, To, Pause, Breath, Par}
 use Rattle.fm_lex.specs.declared.kind.Kind.TheVariants.{End, Name}
 use Rattle.fm_lex.specs.Tokens.{Lexed, between, tokens, walk}
-use Rattle.fm_grammar.specs.Grammar.{ScoreForm, EntryForm, EntriesForm, entry, no_entry, seed, shape, plays, par, branch, flat, slope, pause, breath, share, more, no_more}
+use Rattle.fm_grammar.specs.Grammar.{ScoreForm, EntryForm, EntriesForm, entry, no_entry, no_division, seed, shape, plays, par, branch, flat, slope, pause, breath, share, more, no_more}
 use Rattle.fm_grammar.specs.Grammar as forms
 use Rattle.fm_grammar.specs.Signs.{close_brace, comma, equals, key, num, open_brace, semicolon, slash, tok}
 use Rattle.fm_grammar.specs.Spelling.{branches_text, score_text}
@@ -57,6 +57,7 @@ whole_form number stretch notes = record {
   word = leaf 1 1 (codes "formula");
   version = digits 1 9 1 (codes "1");
   ends = leaf 1 10 (codes ";");
+  divided = no_division;
   seeded = seed (leaf 2 1 (codes "seed")) (written 2 6 number) (leaf 2 (behind 6 number) (codes ";"));
   entries = entry (shape_a stretch) (entry shape_b (entry (plays (fork_form notes)) no_entry));
   last = leaf 23 1 [];

@@ -15,5 +15,6 @@ mod OrderRows
 mod TextRows
 mod FourVoices
 mod Doubling
+pub mod Versions
 mod Phrases
 mod Verdicts

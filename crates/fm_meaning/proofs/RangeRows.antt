@@ -11,11 +11,21 @@ use Rattle.fm_grammar.specs.Score as text
 use Rattle.fm_grammar.specs.Score.{Duration, fixed, Amount, literal, named, keyed, note, play, rest, control, program, bend, set, choice, repeat, again, call, par, warp, channel, volume, gate, rhythm, artic, loud, none, branch, shape, phrase}
 use Rattle.fm_meaning.specs.Fault.{NumberedFault}
 use Rattle.fm_meaning.specs.Ranges.{second_walk}
-use Rattle.fm_meaning.proofs.Notation.{column, number_at, word_at, expr_at, put, within, stmt_at, version_at, fault_at, verdict, fault, verdict_on}
+use Rattle.fm_meaning.proofs.Notation.{column, number_at, word_at, expr_at, put, within, stmt_at, version_at, divided_at, fault_at, verdict, fault, verdict_on}
 
--- a score is of version 1
-version_range : map (λ n. verdict (version_at n [])) (0 ∷ 1 ∷ 2 ∷ []) ≡ fault 9 7 ∷ None ∷ fault 9 7 ∷ []
+-- a score is of version 1 or 2
+version_range : map (λ n. verdict (version_at n [])) (0 ∷ 1 ∷ 2 ∷ 3 ∷ []) ≡ fault 9 7 ∷ None ∷ None ∷ fault 9 7 ∷ []
 version_range = refl
+
+-- `formula 2; division q;`
+division_range : map (λ q. verdict (divided_at q [])) (23 ∷ 24 ∷ 960 ∷ 961 ∷ []) ≡ fault 21 7 ∷ None ∷ None ∷ fault 21 7 ∷ []
+division_range = refl
+
+-- a length in a score that states its division: a whole note has four times as many ticks
+shares_of_a_division :
+    map (λ q. verdict (divided_at q (stmt_at 25 (rest (fixed (Share (number_at 30 1) (number_at 32 64)))) ∷ []))) (96 ∷ 100 ∷ [])
+    ≡ None ∷ fault 30 8 ∷ []
+shares_of_a_division = refl
 
 -- ---- lengths
 
@@ -81,7 +91,7 @@ long_list n = replicate n (Ticks (number_at 20 1)) ++ Share (number_at 90 1) (nu
 
 -- a number at a column, twice as great as any may be
 abbrev number_list : ℕ → List Number
-number_list n = replicate n (number_at 20 1) ++ number_at 90 200 ∷ []
+number_list n = replicate n (number_at 20 1) ++ number_at 90 500 ∷ []
 
 -- 256 entries of a list are none too many; the next one is, and that counts before what it is
 entries_of_lists :
@@ -136,9 +146,9 @@ point_ranges = refl
 block_ranges :
     map (λ n. verdict_on (channel (number_at 20 n) text.done)) (0 ∷ 15 ∷ 16 ∷ [])
     ++ map (λ n. verdict_on (volume (number_at 20 n) text.done)) (0 ∷ 1 ∷ 127 ∷ 128 ∷ [])
-    ++ map (λ n. verdict_on (gate (number_at 20 n) text.done)) (0 ∷ 100 ∷ 101 ∷ [])
+    ++ map (λ n. verdict_on (gate (number_at 20 n) text.done)) (0 ∷ 400 ∷ 401 ∷ [])
     ++ map (λ n. verdict_on (loud (number_at 20 1 ∷ number_at 23 n ∷ []) text.done)) (0 ∷ 1 ∷ 127 ∷ 128 ∷ [])
-    ++ map (λ n. verdict_on (artic (number_at 20 1 ∷ number_at 23 n ∷ []) text.done)) (0 ∷ 100 ∷ 101 ∷ [])
+    ++ map (λ n. verdict_on (artic (number_at 20 1 ∷ number_at 23 n ∷ []) text.done)) (0 ∷ 400 ∷ 401 ∷ [])
     ≡ None ∷ None ∷ fault 20 7 ∷ fault 20 7 ∷ None ∷ None ∷ fault 20 7 ∷ None ∷ None ∷ fault 20 7
     ∷ fault 23 7 ∷ None ∷ None ∷ fault 23 7 ∷ None ∷ None ∷ fault 23 7 ∷ []
 block_ranges = refl

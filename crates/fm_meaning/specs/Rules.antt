@@ -1,7 +1,9 @@
 -- What a version of the language fixes, and the ranges of its numbers.
-use Rattle.std.specs.Prelude.{ℕ, ◌*◌, false}
+use Rattle.std.specs.Prelude.{ℕ, ◌*◌, max, min, true, false, ◌==◌, if◌then◌else◌, Option, Some, None}
 use Rattle.fm_msg.specs.declared.profile.Profile.{Profile}
 use Rattle.fm_msg.specs.declared.profile.TheConstants.{DIVISION}
+use Rattle.fm_msg.specs.declared.running.TheConstants.{LEAST_DIVISION, MOST_DIVISION}
+use Rattle.fm_grammar.specs.declared.number.Number.{Number}
 use Rattle.fm_grammar.specs.Score.{Score}
 
 -- what depends on the head of a score: how its file is written, the ticks of a whole note, and how many processes it
@@ -11,21 +13,43 @@ pub record VersionRules : Type 0 where
   pub whole_note : ℕ
   pub most_processes : ℕ
 
--- the rules of a score, which its version fixes: in version 1 each status byte is written
-abbrev pub score_rules : Score → VersionRules
-score_rules score = record {
+-- the first version of the language
+abbrev pub first_version : ℕ
+first_version = 1
+
+-- the last version of the language
+abbrev pub last_version : ℕ
+last_version = 2
+
+-- what the first version fixes: each status byte is written
+abbrev pub first_rules : VersionRules
+first_rules = record {
   profile = record { running = false; division = DIVISION };
   whole_note = 4 * DIVISION;
   most_processes = 4096;
 }
 
+-- what the last version fixes, by the ticks of a quarter note: status bytes are left out
+abbrev pub last_rules : ℕ → VersionRules
+last_rules division = record {
+  profile = record { running = true; division = division };
+  whole_note = 4 * division;
+  most_processes = 16384;
+}
+
+-- the ticks of a quarter note in the last version: as the score states them, within their range
+abbrev pub division_of : Option Number → ℕ
+division_of None = DIVISION
+division_of (Some n) = min (max n.value LEAST_DIVISION) MOST_DIVISION
+
+-- the rules of a score, which its version fixes
+abbrev pub score_rules : Score → VersionRules
+score_rules score =
+    if score.version.value == last_version then last_rules (division_of score.division) else first_rules
+
 -- how the file of a score is written
 unfoldable pub profile_of : Score → Profile
 profile_of score = (score_rules score).profile
-
--- the version of the language
-abbrev pub version_number : ℕ
-version_number = 1
 
 -- ---- ranges of numbers
 
@@ -47,7 +71,7 @@ most_channel = 15
 
 -- the greatest articulation, in percent of the duration
 abbrev pub most_gate : ℕ
-most_gate = 100
+most_gate = 400
 
 -- how far a bend goes below 0, and how far above
 abbrev pub bend_centre : ℕ

@@ -9,9 +9,11 @@
 mod event;
 mod msg;
 mod profile;
+mod running;
 #[cfg(test)]
 mod tests;
 
 pub use event::Event;
 pub use msg::{BEND_VALUES, CHANNELS, DATA_VALUES, Msg};
 pub use profile::{DIVISION, Profile};
+pub use running::{LEAST_DIVISION, MOST_DIVISION};

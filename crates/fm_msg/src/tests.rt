@@ -102,3 +102,10 @@ fn a_first_file_has_480_ticks_a_quarter_note(rt: HostRuntime) {
     );
     assert_eq!(rt; DIVISION, 480);
 }
+
+#[test]
+fn a_second_file_has_running_status_and_any_division(rt: HostRuntime) {
+    let profile = Profile::second(96);
+    assert!(rt; profile.running);
+    assert_eq!(rt; profile.division, 96);
+}

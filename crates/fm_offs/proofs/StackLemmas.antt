@@ -1,8 +1,9 @@
 -- The earliest one of a stack, found by its place, is the one that is picked.
-use Rattle.std.proofs.Common.{◌≡◌, ℕ, zero, suc, ◌+◌, ◌<◌, ◌≤◌, List, [], ◌∷◌, length, Bool, true, false, map, refl, sym, ap, ◌∙◌, subst, arith}
+use Rattle.std.proofs.Common.{◌≡◌, ℕ, zero, suc, ◌+◌, ◌<◌, ◌≤◌, List, [], ◌∷◌, length, Bool, true, false, map, take, drop, All, refl, sym, ap, ◌∙◌, subst, arith}
 use Rattle.std.specs.Prelude.{if◌then◌else◌, nat_le, min, slice_index_or, remove}
 use Rattle.std.proofs.lemmas.Bool.{le-leb, leb-true, false_from_ne_true}
 use Rattle.std.proofs.lemmas.List.Edits.{length-remove}
+use Rattle.std.proofs.lemmas.List.Elements.{All-append, All-drop, All-take}
 use Rattle.fm_offs.specs.declared.note_off.NoteOff.{NoteOff}
 use Rattle.fm_line.specs.Sounds.{Sound, Picked, picked, pick, clock_with, moved_to, most_waiting, out_before, left_waiting}
 use Rattle.fm_offs.specs.Stack.{off_sound, off_sounds, no_off, tick_at, IsEarliest, LetsOut, ComesNext, HasRoom}
@@ -186,3 +187,14 @@ module _ (t k i : ℕ) (xs : List NoteOff) (e : IsEarliest xs i) where
     lets = lets-cut t k i xs (slice_index_or xs 0 no_off) e late many
         (any_default xs 0 no_off (slice_index_or xs 0 no_off) (let h = e.there in omega arith));
   }
+
+-- ---- what holds of all
+
+-- what holds of all note-offs holds of all but one
+pub remove-all : (P : NoteOff → Type 0) (xs : List NoteOff) (i : ℕ) → All P xs → All P (remove xs i)
+remove-all P xs i all = All-append P (take i xs) (drop (suc i) xs) (All-take P i xs all) (All-drop P (suc i) xs all)
+
+-- and of the one
+pub taken-all : (P : NoteOff → Type 0) (xs : List NoteOff) (i : ℕ) (off : NoteOff) → All P xs → i < length xs
+    → off ≡ slice_index_or xs i off → P off
+taken-all P xs i off all below is = subst P (sym is) (all i off below)

@@ -1,8 +1,14 @@
 -- The note-offs that wait, as a stack holds them, and what comes out of it one at a time.
 use Rattle.std.specs.Prelude.{◌≡◌, ℕ, ◌+◌, ◌<◌, ◌≤◌, List, [], ◌∷◌, length, map, slice_index_or}
 use Rattle.fm_msg.specs.declared.msg.Msg.TheVariants.{Off}
+use Rattle.fm_msg.specs.declared.msg.TheConstants.{CHANNELS, DATA_VALUES}
 use Rattle.fm_line.specs.Sounds.{Sound, clock_with, left_waiting, most_waiting, out_before}
 use Rattle.fm_offs.specs.declared.note_off.NoteOff.{NoteOff}
+
+-- the numbers of a note-off are in range
+pub record IsOff (off : NoteOff) : Type 0 where
+  pub channel : off.channel < CHANNELS
+  pub key : off.key < DATA_VALUES
 
 -- a note-off as a sound
 abbrev pub off_sound : NoteOff → Sound

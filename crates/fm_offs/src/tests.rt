@@ -1,12 +1,16 @@
 //! Worked stacks of note-offs, computed by hand.
 
-ghost use Rattle.std.specs.Prelude.{◌≡◌};
+ghost use Rattle.std.specs.Prelude.{◌≡◌, ◌<◌};
+ghost use Rattle.fm_msg.specs.declared.msg.TheConstants.{DATA_VALUES};
+ghost use Rattle.fm_offs.specs.Stack.{IsOff};
 
 use super::*;
 use std::test::Fail;
 
 fn off(tick: u64, key: u8) -> NoteOff
-    ensures { result ≡ record { tick = tick; channel = 0; key = key } }
+    requires { key < DATA_VALUES }
+    ensures is { result ≡ record { tick = tick; channel = 0; key = key } }
+    ensures range { IsOff result }
 {
     NoteOff {
         tick,

@@ -16,20 +16,21 @@ pub struct Waiting {
 }
 
 impl Model for Waiting {
-    ghost use Rattle.std.specs.Prelude.{List, length, ◌≤◌};
+    ghost use Rattle.std.specs.Prelude.{All, List, length, ◌≤◌};
     ghost use Rattle.fm_line.specs.Sounds.{Sound};
     ghost use Rattle.fm_offs.specs.declared.waiting.TheConstants.{MOST_WAITING};
-    ghost use Rattle.fm_offs.specs.Stack.{off_sounds};
+    ghost use Rattle.fm_offs.specs.Stack.{IsOff, off_sounds};
 
     ghost Value = { List Sound };
 
     ghost view = { λ w. off_sounds w.offs.items };
 
-    ghost invariant = { λ w. length w.offs.items ≤ MOST_WAITING };
+    ghost invariant = { λ w.
+        (length w.offs.items ≤ MOST_WAITING) × All IsOff w.offs.items };
 }
 
 impl Waiting {
-    ghost use Rattle.fm_offs.specs.Stack.{ComesNext, HasRoom, LetsOut, off_sound};
+    ghost use Rattle.fm_offs.specs.Stack.{ComesNext, HasRoom, IsOff, LetsOut, off_sound};
 
     /// None waits.
     pub fn new() -> Self
@@ -50,6 +51,7 @@ impl Waiting {
     /// One more waits, behind those that wait.
     pub fn push(&mut self, off: NoteOff)
         requires room { length self.old < most_waiting }
+        requires range { IsOff off }
         ensures { self.new ≡ self.old ++ off_sound off ∷ [] }
     {
         self.offs.push(off);
@@ -62,6 +64,7 @@ impl Waiting {
         requires pitches { pitches ≤ most_waiting }
         ensures some { IfSome result (λ off.
             LetsOut tick pitches self.old self.new (off_sound off)) }
+        ensures range { IfSome result IsOff }
         ensures none { IfNone result (HasRoom tick pitches self.old) }
         ensures same { IfNone result (self.new ≡ self.old) }
     {

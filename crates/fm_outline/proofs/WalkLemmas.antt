@@ -14,8 +14,8 @@ use Rattle.fm_grammar.specs.declared.part_text.PartText.{PartText}
 use Rattle.fm_grammar.specs.Score as text
 use Rattle.fm_grammar.specs.View.{entry_view}
 use Rattle.fm_meaning.specs.Resolve.{part_of, meaning_of, named_as}
-use Rattle.fm_meaning.specs.Ranges.{Names, stmt_faults, body_faults, double_faults, each_faults, part_faults, part_length, length_spot, number_faults, entries_faults, second_walk}
-use Rattle.fm_meaning.specs.Rules.{score_rules, version_number}
+use Rattle.fm_meaning.specs.Ranges.{Names, stmt_faults, body_faults, double_faults, each_faults, part_faults, part_length, length_spot, head_faults, entries_faults, second_walk}
+use Rattle.fm_meaning.specs.Rules.{score_rules}
 use Rattle.fm_expansion.specs.Outline as plain
 use Rattle.fm_expansion.specs.Numbering.{Catalogue, numbered, instruction_of, block_of, outline, outline_from, warp_added, no_tables}
 use Rattle.fm_outline.specs.declared.known.Known.{Known}
@@ -248,7 +248,7 @@ begun score known t shapes phrases empty is none = record {
   k = record { whole = (score_rules score).whole_note; shapes = []; phrases = [] };
   whole = sym is;
   faultless =
-      none_second (number_faults version_number version_number score.version)
+      none_second (head_faults score)
       (entries_faults (record { whole = (score_rules score).whole_note; shapes = []; phrases = [] }) score.entries) none;
   knows = λ look more. record {
     whole = sym is;

@@ -14,5 +14,6 @@ pub mod SortLemmas
 pub mod Beginnings
 pub mod StmtLengths
 pub mod Bodies
+pub mod Heads
 pub mod Verdicts
 pub mod EntryLists

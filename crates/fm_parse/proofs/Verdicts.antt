@@ -10,11 +10,11 @@ use Rattle.fm_grammar.specs.Grammar.{ScoreForm}
 use Rattle.fm_grammar.specs.Signs.{tok}
 use Rattle.fm_grammar.specs.Spelling.{score_text}
 use Rattle.fm_grammar.specs.Standing.{score_tree}
-use Rattle.fm_grammar.specs.Within.{limits, EntriesWithin}
+use Rattle.fm_grammar.specs.Within.{limits, EntriesWithin, DivisionStands}
 use Rattle.fm_grammar.specs.Reads.{Reads, Fault, lexical, expected, too_nested, TripsWith, Verdict}
 use Rattle.fm_grammar.specs.Rules.{one, whole}
-use Rattle.fm_grammar.specs.Table.{first_fault, trip}
-use Rattle.fm_grammar.proofs.Scores.{trips_with}
+use Rattle.fm_grammar.specs.Table.{is_divided, first_fault, trip}
+use Rattle.fm_grammar.proofs.Scores.{whole_alive, trips_with}
 use Rattle.fm_grammar.proofs.OneTrip.{one_trip_fault, trips_excludes_reads}
 use Rattle.fm_grammar.proofs.Texts.{text_verdict, found_fault, one_score}
 use Rattle.fm_grammar.proofs.UniqueScore.{unique_score}
@@ -26,8 +26,8 @@ use Rattle.fm_parse.specs.Whole.{Closes, IsFault, Answers, Refuses, WholeRead, H
 use Rattle.fm_parse.proofs.Steps.{takes_one, lexical_here}
 
 -- a text starts at the symbols of the whole
-pub at_start : (ts : List Lexed) → At (first_fault ts) 0 whole ts
-at_start ts = record { trips = refl; braces = omega arith; tokens = omega arith }
+pub at_start : (ts : List Lexed) → At (first_fault ts) 0 (whole (is_divided ts)) ts
+at_start ts = let alive = whole_alive (is_divided ts) in record { trips = refl; braces = alive.peaks; tokens = alive.wants }
 
 -- behind the end nothing is left to trip
 pub at_end : (F : Option Fault) (u : ℕ) (l : List Lexed) (e : Leaf) → l ≡ tok End e ∷ [] → At F u (one End ∷ []) l
@@ -50,6 +50,7 @@ module _ (text : List ℕ) where
         form = form;
         text = spells;
         within = subst (λ f. EntriesWithin limits f.entries) (sym same) other.within;
+        head = subst (λ f. DivisionStands f.version f.divided) (sym same) other.head;
         stands_for = stands;
       }
   reads_of form score spells stands (inr found) none = let some = found_fault (tokens text) found.0 found.1 in cc
@@ -108,11 +109,11 @@ all_trip ts (Err e) closes = says_trips ts e closes
 
 -- a text that begins with a fault of the lexer
 pub lexical_start : (ts : List Lexed) (e : ParseFault) → IsLexical e ts → IsFault e ts
-lexical_start ts e is = says_trips ts e (lexical_here (first_fault ts) 0 whole e ts (at_start ts) is)
+lexical_start ts e is = says_trips ts e (lexical_here (first_fault ts) 0 (whole (is_divided ts)) e ts (at_start ts) is)
 
 -- a score from its head and its entries
 abbrev pub score_from : Head → List Entry → Score
-score_from h es = record { version = h.version; seed = h.seed; entries = es }
+score_from h es = record { version = h.version; division = h.division; seed = h.seed; entries = es }
 
 -- an answer that hands a fault on
 pub closed_err : {A : Type 0} (F : Option Fault) (r : Result A ParseFault) (e : ParseFault) → r ≡ Err e

@@ -1,5 +1,5 @@
 -- What the reading of a whole text answers.
-use Rattle.std.specs.Prelude.{◌≡◌, ◌⊎◌, List, [], ◌∷◌, Option, Some, None, Result, Ok, Err}
+use Rattle.std.specs.Prelude.{◌≡◌, ◌⊎◌, ℕ, Bool, ◌&&◌, ◌==◌, List, [], ◌∷◌, Option, Some, None, Result, Ok, Err}
 use Rattle.fm_lex.specs.declared.kind.Kind.TheVariants.{Name}
 use Rattle.fm_lex.specs.declared.kind.Kind.TheVariants as kinds
 use Rattle.fm_lex.specs.declared.keyword.Keyword.TheVariants.{Formula, Shape, Phrase}
@@ -9,12 +9,13 @@ use Rattle.fm_grammar.specs.declared.entry.Entry as code_entry
 use Rattle.fm_grammar.specs.declared.score.Score as code_score
 use Rattle.fm_grammar.specs.Score.{Leaf, Score}
 use Rattle.fm_grammar.specs.View.{entry_view, score_view}
-use Rattle.fm_grammar.specs.Grammar.{NumForm, SeedForm, ScoreForm}
-use Rattle.fm_grammar.specs.Signs.{tok, key, num, semicolon, equals}
-use Rattle.fm_grammar.specs.Spelling.{seed_text, entry_text, score_text}
-use Rattle.fm_grammar.specs.Standing.{num_tree, seed_tree, entry_tree, score_tree}
+use Rattle.fm_grammar.specs.Grammar.{NumForm, DivisionForm, SeedForm, ScoreForm}
+use Rattle.fm_grammar.specs.Signs.{tok, key, num, semicolon, equals, divided_version}
+use Rattle.fm_grammar.specs.Spelling.{division_text, seed_text, entry_text, score_text}
+use Rattle.fm_grammar.specs.Standing.{num_tree, division_tree, seed_tree, entry_tree, score_tree}
 use Rattle.fm_grammar.specs.Reads.{Fault, lexical, expected, too_nested, TripsWith}
 use Rattle.fm_grammar.specs.Rules.{Sym, one, entries, parts, with_commas, block}
+use Rattle.fm_grammar.specs.Table.{says_division}
 use Rattle.fm_parse.specs.declared.fault.ParseFault.{ParseFault}
 use Rattle.fm_parse.specs.declared.fault.ParseFault.TheVariants.{Lex, Expected, TooNested, Memory}
 use Rattle.fm_parse.specs.declared.head.Head as code_head
@@ -37,25 +38,36 @@ abbrev pub Closes : {A : Type 0} → Option Fault → Result A ParseFault → Ty
 Closes whole (Ok x) = whole ≡ None
 Closes whole (Err e) = Says e whole
 
--- the head of a score: its version and its seed
+-- whether a division comes behind this version
+abbrev pub states : ℕ → List Lexed → Bool
+states version ts = (version == divided_version) && says_division ts
+
+-- the head of a score: its version, its division and its seed
 pub record HeadForm : Type 0 where
   pub word : Leaf
   pub version : NumForm
   pub ends : Leaf
+  pub divided : DivisionForm
   pub seeded : SeedForm
 
 -- its tokens
 abbrev pub head_text : HeadForm → List Lexed → List Lexed
-head_text h next = key Formula h.word ∷ num h.version ∷ tok semicolon h.ends ∷ seed_text h.seeded next
+head_text h next =
+    key Formula h.word ∷ num h.version ∷ tok semicolon h.ends ∷ division_text h.divided (seed_text h.seeded next)
 
--- a version and a seed
+-- a version, a division and a seed
 pub record Head : Type 0 where
   pub version : Number
+  pub division : Option Number
   pub seed : Option Number
 
 -- what it stands for
 abbrev pub head_tree : HeadForm → Head
-head_tree h = record { version = num_tree h.version; seed = seed_tree h.seeded }
+head_tree h = record {
+  version = num_tree h.version;
+  division = division_tree h.divided;
+  seed = seed_tree h.seeded;
+}
 
 -- the tokens trip with the fault, unless memory ran out
 abbrev pub IsFault : ParseFault → List Lexed → Type 0
@@ -97,4 +109,4 @@ pub record WholeRead (score : Score) (ts : List Lexed) : Type 0 where
 
 -- a head of the code
 abbrev pub head_view : code_head.Head → Head
-head_view h = record { version = h.version; seed = h.seed }
+head_view h = record { version = h.version; division = h.division; seed = h.seed }

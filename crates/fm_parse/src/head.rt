@@ -2,9 +2,10 @@
 
 use fm_grammar::Number;
 
-/// The version of a score, and its seed.
+/// The version of a score, its division and its seed.
 #[derive(Clone, Copy)]
 pub struct Head {
     pub version: Number,
+    pub division: Option<Number>,
     pub seed: Option<Number>,
 }

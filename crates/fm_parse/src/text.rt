@@ -1,27 +1,27 @@
 //! Reading a score.
 
-ghost use Rattle.std.specs.Prelude.{◌≡◌, ◌≤◌, ℕ, [], ◌∷◌, Option, length, IfOk, IfErr};
-ghost use Rattle.fm_lex.specs.declared.kind.Kind.TheVariants.{Keyword as Word, End};
-ghost use Rattle.fm_lex.specs.declared.keyword.Keyword.TheVariants.{Formula};
-ghost use Rattle.fm_lex.specs.Tokens.{tokens};
+ghost use Rattle.std.specs.Prelude.{◌≡◌, ◌≤◌, ℕ, [], ◌∷◌, Option, Ok, length, IfOk, IfErr};
+ghost use Rattle.fm_lex.specs.declared.kind.Kind.TheVariants.{End};
+ghost use Rattle.fm_lex.specs.Tokens.{lexeme_of, tokens};
 ghost use Rattle.fm_grammar.specs.Score.{Score as Tree, Leaf};
-ghost use Rattle.fm_grammar.specs.Signs.{semicolon, tok};
+ghost use Rattle.fm_grammar.specs.Signs.{tok};
 ghost use Rattle.fm_grammar.specs.View.{score_view};
-ghost use Rattle.fm_grammar.specs.Spelling.{seed_text, score_text};
-ghost use Rattle.fm_grammar.specs.Standing.{seed_tree, score_tree};
+ghost use Rattle.fm_grammar.specs.Spelling.{division_text, seed_text, score_text};
+ghost use Rattle.fm_grammar.specs.Standing.{division_tree, seed_tree, score_tree};
 ghost use Rattle.fm_grammar.specs.Reads.{Fault, Reads, TripsWith};
 ghost use Rattle.fm_grammar.specs.Within.{limits};
-ghost use Rattle.fm_grammar.specs.Rules.{one, any_number, seeded, whole as whole_text};
-ghost use Rattle.fm_parse.specs.Follow.{At, FollowsStack, Spelt};
-ghost use Rattle.fm_parse.specs.Whole.{Closes, head_text, head_tree, head_view, IsFault, Answers, Refuses, WholeRead};
+ghost use Rattle.fm_grammar.specs.Rules.{one, entries, seeded, undivided, behind_version, whole as whole_text};
+ghost use Rattle.fm_grammar.specs.Table.{is_divided};
+ghost use Rattle.fm_parse.specs.Follow.{At, Leads, FollowsStack, Spelt};
+ghost use Rattle.fm_parse.specs.Whole.{Closes, states, head_text, head_tree, head_view, IsFault, Answers, Refuses, WholeRead};
 
 use crate::entries::read_entries;
 use crate::fault::ParseFault;
 use crate::head::Head;
 use crate::reader::Reader;
-use crate::token::{expect, read_number};
+use crate::token::{expect, read_name, read_number};
 use fm_grammar::{Number, Score};
-use fm_lex::{Keyword, Kind, MAX_TEXT};
+use fm_lex::{Keyword, Kind, MAX_TEXT, Token};
 use std::alloc::Global;
 
 const FORMULA: Kind = Kind::Keyword(Keyword::Formula);
@@ -29,6 +29,36 @@ const FORMULA: Kind = Kind::Keyword(Keyword::Formula);
 const SEED: Kind = Kind::Keyword(Keyword::Seed);
 
 const SEMICOLON: Kind = Kind::Symbol(b';');
+
+/// The version of scores that may state their division.
+const DIVIDED_VERSION: u32 = 2;
+
+/// The name before a division.
+const DIVISION: &[u8] = b"division";
+
+// Whether a division comes with this token, behind a version.
+fn states_division(version: Number, next: Token) -> bool
+    ensures { result ≡ states version.value (Ok (lexeme_of next.entry) ∷ []) }
+{
+    version.value == DIVIDED_VERSION && next.kind == Kind::Name && next.text == DIVISION
+}
+
+// The division, where there is one.
+fn read_division(r: &mut Reader, version: Number) -> Result<Option<Number>, ParseFault>
+    ensures text { IfOk result (λ d. Spelt division_text division_tree d r.old r.new) }
+    ensures follows { (fault : Option Fault)
+        → At fault 0 (behind_version (states version.value r.old)) r.old
+        → Leads fault 0 undivided result r.new }
+{
+    let next = r.peek();
+    if !states_division(version, next) {
+        return Ok(None);
+    }
+    read_name(r)?;
+    let division = read_number(r)?;
+    expect(r, SEMICOLON)?;
+    Ok(Some(division))
+}
 
 // The seed, where there is one.
 fn read_seed(r: &mut Reader) -> Result<Option<Number>, ParseFault>
@@ -44,17 +74,22 @@ fn read_seed(r: &mut Reader) -> Result<Option<Number>, ParseFault>
     Ok(Some(seed))
 }
 
-// The version and the seed.
+// The version, the division and the seed.
 fn read_head(r: &mut Reader) -> Result<Head, ParseFault>
     ensures text { IfOk result (λ h. Spelt head_text head_tree (head_view h) r.old r.new) }
-    ensures follows { FollowsStack
-        (one (Word Formula) ∷ one any_number ∷ one semicolon ∷ seeded ∷ []) result r.old r.new }
+    ensures follows { (fault : Option Fault) → At fault 0 (whole_text (is_divided r.old)) r.old
+        → Leads fault 0 (entries ∷ one End ∷ []) result r.new }
 {
     expect(r, FORMULA)?;
     let version = read_number(r)?;
     expect(r, SEMICOLON)?;
+    let division = read_division(r, version)?;
     let seed = read_seed(r)?;
-    Ok(Head { version, seed })
+    Ok(Head {
+        version,
+        division,
+        seed,
+    })
 }
 
 // The end.
@@ -76,13 +111,15 @@ fn check_end(r: &Reader) -> Result<(), ParseFault>
 // A whole score.
 fn read_score<'s>(alloc: Global, r: &mut Reader<'s>) -> Result<Score<'s>, ParseFault>
     ensures text { IfOk result (λ s. WholeRead (score_view s) r.old) }
-    ensures follows { (fault : Option Fault) → At fault 0 whole_text r.old → Closes fault result }
+    ensures follows { (fault : Option Fault) → At fault 0 (whole_text (is_divided r.old)) r.old
+        → Closes fault result }
 {
     let head = read_head(r)?;
     let entries = read_entries(alloc, r)?;
     check_end(r)?;
     Ok(Score {
         version: head.version,
+        division: head.division,
         seed: head.seed,
         entries,
     })

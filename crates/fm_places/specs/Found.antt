@@ -1,37 +1,16 @@
--- What the walk finds and knows, as the definitions say it.
-use Rattle.std.specs.Prelude.{ℕ, List, map, Option, Some, None, Result, Ok, Err, unwrap_or, Vec}
+-- What the walk knows, as the definitions say it.
+use Rattle.std.specs.Prelude.{List, map, unwrap_or, Vec}
 use Rattle.std.specs.declared.alloc.Global.{Global}
 use Rattle.fm_names.specs.declared.names.Names.{Names}
 use Rattle.fm_names.specs.Named.{named}
 use Rattle.fm_grammar.specs.declared.item.Item.{Item}
 use Rattle.fm_grammar.specs.Score as text
 use Rattle.fm_grammar.specs.View.{items_view, branches_of}
-use Rattle.fm_meaning.specs.Fault.{NumberedFault, fork_in_choice, play_outside_rhythm, index_outside_loop, too_deep}
 use Rattle.fm_meaning.specs.Places as places
 use Rattle.fm_places.specs.declared.depths.Depths.{Depths}
-use Rattle.fm_places.specs.declared.fault.PlaceWhy.{PlaceWhy}
-use Rattle.fm_places.specs.declared.fault.PlaceWhy.TheVariants.{ForkInChoice, PlayOutsideRhythm, IndexOutsideLoop}
-use Rattle.fm_places.specs.declared.fault.PlaceWhy.TheVariants.{TooDeep}
-use Rattle.fm_places.specs.declared.fault.PlaceFault.{PlaceFault}
 use Rattle.fm_places.specs.declared.needs.Needs.{Needs}
 use Rattle.fm_places.specs.Needs.{nothing}
 use Rattle.fm_places.specs.Statements.{Look}
-
--- the number of a fault
-abbrev pub place_number : PlaceWhy → ℕ
-place_number ForkInChoice = fork_in_choice
-place_number PlayOutsideRhythm = play_outside_rhythm
-place_number IndexOutsideLoop = index_outside_loop
-place_number TooDeep = too_deep
-
--- a fault with its number
-abbrev pub numbered : PlaceFault → NumberedFault
-numbered f = record { spot = f.spot; number = place_number f.why }
-
--- the fault that an answer names
-abbrev pub found : {A : Type 0} → Result A PlaceFault → Option NumberedFault
-found (Ok x) = None
-found (Err f) = Some (numbered f)
 
 -- the blocks that are open
 abbrev pub depths_view : Depths → places.Depths

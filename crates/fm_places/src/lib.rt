@@ -8,7 +8,6 @@
 #![tactic(auto)]
 
 mod depths;
-mod fault;
 mod indices;
 mod needs;
 mod own;
@@ -16,5 +15,4 @@ mod place;
 mod statement;
 mod walk;
 
-pub use fault::{PlaceFault, PlaceWhy};
 pub use walk::first_place_fault;

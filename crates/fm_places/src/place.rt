@@ -4,13 +4,14 @@ ghost use Rattle.std.specs.Prelude.{◌≡◌, ◌≤◌, OnOk, IfOk};
 ghost use Rattle.fm_grammar.specs.View.{item_view};
 ghost use Rattle.fm_meaning.specs.Faults.{first_found};
 ghost use Rattle.fm_places.specs.Needs.{missing, is_too_deep as too_deep_in};
-ghost use Rattle.fm_places.specs.Found.{found, depths_view, needs_at};
+ghost use Rattle.fm_fault.specs.Found.{found};
+ghost use Rattle.fm_places.specs.Found.{depths_view, needs_at};
 ghost use Rattle.fm_places.specs.Statements.{own_places, inside as inside_of, IsWithin};
 
 use crate::depths::{Depths, MAX_BLOCKS, MAX_FRAMES, MAX_WARPS};
-use crate::fault::{PlaceFault, PlaceWhy};
 use crate::needs::{Needs, both};
 use crate::own::{brought_in, inside, own_needs};
+use fm_fault::{Fault, Why};
 use fm_grammar::Item;
 use fm_lex::Spot;
 use fm_names::Names;
@@ -25,22 +26,22 @@ fn is_too_deep(needs: Needs, inner: Depths) -> bool
 }
 
 // A statement that asks for this, between the blocks round it and those inside it.
-fn check_needs(spot: Spot, needs: Needs, round: Depths, inner: Depths) -> Result<(), PlaceFault>
+fn check_needs(spot: Spot, needs: Needs, round: Depths, inner: Depths) -> Result<(), Fault>
     ensures { found result
         ≡ first_found (missing spot needs (depths_view round) (depths_view inner)) }
 {
     let why = if needs.fork_in_choice || (needs.forks && round.in_choice) {
-        PlaceWhy::ForkInChoice
+        Why::ForkInChoice
     } else if needs.rhythm && !round.in_rhythm {
-        PlaceWhy::PlayOutsideRhythm
+        Why::PlayOutsideRhythm
     } else if round.loops < needs.loops {
-        PlaceWhy::IndexOutsideLoop
+        Why::IndexOutsideLoop
     } else if is_too_deep(needs, inner) {
-        PlaceWhy::TooDeep
+        Why::TooDeep
     } else {
         return Ok(());
     };
-    Err(PlaceFault { why, spot })
+    Err(Fault { why, spot })
 }
 
 /// A statement between the blocks round it, and the blocks inside it.
@@ -48,7 +49,7 @@ pub(crate) fn check_own(
     item: &Item,
     depths: Depths,
     phrases: &Names<Needs>,
-) -> Result<Depths, PlaceFault>
+) -> Result<Depths, Fault>
     requires { IsWithin (depths_view depths) }
     ensures first { found result
         ≡ first_found (own_places (needs_at phrases.now) (item_view item.now).spot

@@ -3,15 +3,16 @@
 ghost use Rattle.std.specs.Prelude.{◌≡◌};
 ghost use Rattle.fm_grammar.specs.View.{item_view, items_view};
 ghost use Rattle.fm_meaning.specs.Faults.{first_found};
-ghost use Rattle.fm_places.specs.Found.{found, depths_view, needs_at};
+ghost use Rattle.fm_fault.specs.Found.{found};
+ghost use Rattle.fm_places.specs.Found.{depths_view, needs_at};
 ghost use Rattle.fm_places.specs.Statements.{stmt_needs, inner_needs, body_needs, stmt_places};
 ghost use Rattle.fm_places.specs.Statements.{inner_places, body_places, IsWithin};
 
 use crate::depths::Depths;
-use crate::fault::PlaceFault;
 use crate::needs::{Needs, both, no_needs};
 use crate::own::{needs_of_phrase, outside, own_needs};
 use crate::place::check_own;
+use fm_fault::Fault;
 use fm_grammar::{Item, What};
 use fm_names::Names;
 
@@ -72,7 +73,7 @@ pub(crate) fn needs_of_items(items: &[Item], phrases: &Names<Needs>) -> Needs
 
 // The first fault of the statements inside a statement.
 #[cycle(places)]
-fn check_inside(item: &Item, depths: Depths, phrases: &Names<Needs>) -> Result<(), PlaceFault>
+fn check_inside(item: &Item, depths: Depths, phrases: &Names<Needs>) -> Result<(), Fault>
     requires { IsWithin (depths_view depths) }
     ensures { found result
         ≡ first_found (inner_places (needs_at phrases.now) (item_view item.now).what
@@ -112,11 +113,7 @@ fn check_inside(item: &Item, depths: Depths, phrases: &Names<Needs>) -> Result<(
 
 /// The first fault of a statement and of those inside it.
 #[cycle(places)]
-pub(crate) fn check_item(
-    item: &Item,
-    depths: Depths,
-    phrases: &Names<Needs>,
-) -> Result<(), PlaceFault>
+pub(crate) fn check_item(item: &Item, depths: Depths, phrases: &Names<Needs>) -> Result<(), Fault>
     requires { IsWithin (depths_view depths) }
     ensures { found result
         ≡ first_found (stmt_places (needs_at phrases.now) (item_view item.now).spot
@@ -132,7 +129,7 @@ pub(crate) fn check_items(
     items: &[Item],
     depths: Depths,
     phrases: &Names<Needs>,
-) -> Result<(), PlaceFault>
+) -> Result<(), Fault>
     requires { IsWithin (depths_view depths) }
     ensures { found result
         ≡ first_found (body_places (needs_at phrases.now) (items_view items.now)

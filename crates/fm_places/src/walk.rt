@@ -1,23 +1,24 @@
 //! The walk over a score.
 
-ghost use Rattle.std.specs.Prelude.{◌≡◌, map, IfOk, OnOk, option_map};
+ghost use Rattle.std.specs.Prelude.{◌≡◌, map, IfOk, OnOk};
 ghost use Rattle.fm_grammar.specs.View.{entry_view, score_view};
 ghost use Rattle.fm_meaning.specs.Faults.{first_found};
 ghost use Rattle.fm_meaning.specs.Places.{third_walk};
 ghost use Rattle.fm_meaning.specs.Resolve.{resolved};
-ghost use Rattle.fm_places.specs.Found.{found, numbered, needs_at};
+ghost use Rattle.fm_fault.specs.Found.{IsFirst, found};
+ghost use Rattle.fm_places.specs.Found.{needs_at};
 ghost use Rattle.fm_places.specs.Statements.{entry_places, entries_places, behind, nothing_known};
 
 use crate::depths::nothing_open;
-use crate::fault::PlaceFault;
 use crate::needs::Needs;
 use crate::statement::{check_item, needs_of_items};
+use fm_fault::Fault;
 use fm_grammar::{Entry, Score};
 use fm_names::Names;
 use std::alloc::{AllocError, Global};
 
 // The first fault of an entry.
-fn check_entry(entry: &Entry, phrases: &Names<Needs>) -> Result<(), PlaceFault>
+fn check_entry(entry: &Entry, phrases: &Names<Needs>) -> Result<(), Fault>
     ensures { found result
         ≡ first_found (entry_places (needs_at phrases.now) (entry_view entry.now)) }
 {
@@ -49,9 +50,9 @@ fn no_phrases<'s>(alloc: Global) -> Names<'s, Needs>
 }
 
 // The first fault of the entries.
-fn first_of_entries(alloc: Global, entries: &[Entry]) -> Result<Option<PlaceFault>, AllocError>
-    ensures { IfOk result (λ f. option_map numbered f
-        ≡ first_found (entries_places nothing_known (map entry_view entries.now))) }
+fn first_of_entries(alloc: Global, entries: &[Entry]) -> Result<Option<Fault>, AllocError>
+    ensures { IfOk result (λ f. IsFirst f
+        (entries_places nothing_known (map entry_view entries.now))) }
 {
     let mut phrases = no_phrases(alloc);
     for entry in entries {
@@ -66,9 +67,9 @@ fn first_of_entries(alloc: Global, entries: &[Entry]) -> Result<Option<PlaceFaul
 /// The first fault of the walk: a fork, a duration of the rhythm, an index or a block that stands
 /// where it cannot. Phrases that nothing brings in are not looked at, and a fault of a phrase
 /// stands at the statement outside all phrases that brings it in.
-pub fn first_place_fault(alloc: Global, score: &Score) -> Result<Option<PlaceFault>, AllocError>
-    ensures { IfOk result (λ f. option_map numbered f
-        ≡ first_found (third_walk (resolved (score_view score.now)).passage)) }
+pub fn first_place_fault(alloc: Global, score: &Score) -> Result<Option<Fault>, AllocError>
+    ensures { IfOk result (λ f. IsFirst f
+        (third_walk (resolved (score_view score.now)).passage)) }
 {
     first_of_entries(alloc, &score.entries)
 }

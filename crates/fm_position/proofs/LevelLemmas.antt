@@ -10,7 +10,7 @@ use Rattle.fm_locate.specs.declared.levels.Located.TheVariants.{There, Never}
 use Rattle.fm_program.specs.Parts.{PlanParts, process_program}
 use Rattle.fm_program.specs.Fit.{PartsFit}
 use Rattle.fm_strand.specs.Course.{start_place}
-use Rattle.fm_strand.proofs.BeginLemmas.{begin-depth}
+use Rattle.fm_player.proofs.BeginLemmas.{begin-depth}
 use Rattle.fm_strand.proofs.PlaceLemmas.{start-fits}
 use Rattle.fm_position.specs.Levels.{IsFound, depth_at, levels_at}
 

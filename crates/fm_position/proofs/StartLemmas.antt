@@ -11,10 +11,10 @@ use Rattle.fm_program.specs.Parts.{PlanParts}
 use Rattle.fm_program.specs.State.{OpenLevel}
 use Rattle.fm_program.specs.Process.{plan_lines}
 use Rattle.fm_program.specs.Fit.{PartsFit}
-use Rattle.fm_strand.specs.Course.{begun, start_place}
-use Rattle.fm_strand.specs.Timing.{level_of, levels_inside}
-use Rattle.fm_strand.proofs.BeginLemmas.{begin-fits, begin-levels, begin-position, begin-tick}
-use Rattle.fm_strand.proofs.TickLemmas.{on_tick, position-tick}
+use Rattle.fm_player.specs.Course.{begun, start_place}
+use Rattle.fm_player.specs.Timing.{level_of, levels_inside}
+use Rattle.fm_player.proofs.BeginLemmas.{begin-fits, begin-levels, begin-position, begin-tick}
+use Rattle.fm_player.proofs.TickLemmas.{on_tick, position-tick}
 use Rattle.fm_position.specs.Levels.{levels_at}
 
 -- levels of a state put a position where the frames do

@@ -15,7 +15,7 @@ most_pitches = refl
 longest_duration : MAX_LENGTH ≡ 1000000
 longest_duration = refl
 
-most_percent : MAX_PERCENT ≡ 100
+most_percent : MAX_PERCENT ≡ 400
 most_percent = refl
 
 most_rounds : MAX_INDEX ≡ 1000000

@@ -13,19 +13,16 @@ use Rattle.fm_meaning.specs.Bounds.{Totals}
 use Rattle.fm_promise.specs.InTurn.{lines_in_turn}
 use Rattle.fm_promise.proofs.Lists.{each_weaken}
 use Rattle.fm_promise.proofs.Pens.{Pen, pen_after, Numbered, IsPen, rises_after, InRange, numbered_range}
-use Rattle.fm_promise.proofs.Ordered.{ordered_times}
-use Rattle.fm_promise.proofs.Births.{Before, Paired}
+use Rattle.fm_promise.proofs.Following.{Later, InOrder, following_times}
 use Rattle.fm_promise.proofs.OneProcess.{From, Ended, Seen, other, sound, stop, seen, some_or_none, end_time, after_end, absent_sounds}
 use Rattle.fm_promise.proofs.Whole.{first_pen, IsWhole, ended_in, from_zero}
 
 -- ---- times
 
 -- marks of the process of a mark sound no earlier
-sounding_after : (births : List (List ℕ)) (p : ℕ) (m : Mark) (ms : List Mark) → m.process ≡ p → AllByRecursion (Before births m) ms
-    → From p (mark_time m) ms
-sounding_after births p m ms own before =
-    each_weaken (Before births m) (λ y. y.process ≡ p → mark_time m ≤ mark_time y)
-    (λ y b is. ordered_times m y (b.same (own ∙ sym is))) ms before
+sounding_after : (p : ℕ) (m : Mark) (ms : List Mark) → m.process ≡ p → AllByRecursion (Later m) ms → From p (mark_time m) ms
+sounding_after p m ms own later =
+    each_weaken (Later m) (λ y. y.process ≡ p → mark_time m ≤ mark_time y) (λ y b is. following_times m y (b (own ∙ sym is))) ms later
 
 -- behind its end a process has no more marks
 none_behind : (p : ℕ) (pen : Pen) (m : Mark) (ms : List Mark) → IsPen pen → Numbered pen (m ∷ ms) → m.process ≡ p → m.msg ≡ None
@@ -40,12 +37,12 @@ runs_as : (low d e : ℕ) (xs ys : List Sound) → d ≡ e → xs ≡ ys → Run
 runs_as low d e xs ys ends is runs = subst (λ t. RunsFrom low t xs) (sym ends) (subst (RunsFrom low e) (sym is) runs)
 
 -- the sounds of a process run in the order of its marks to its end
-sounds_run : (births : List (List ℕ)) (p low : ℕ) (pen : Pen) (ms : List Mark) → IsPen pen → Numbered pen ms → Paired births ms
+sounds_run : (p low : ℕ) (pen : Pen) (ms : List Mark) → IsPen pen → Numbered pen ms → InOrder ms
     → From p low ms → Ended p ms → RunsFrom low (process_end p ms) (process_sounds p ms)
-sounds_run births p low pen [] is_pen numbered paired from ended = absurd ended
-sounds_run births p low pen (m ∷ ms) is_pen numbered paired from ended =
+sounds_run p low pen [] is_pen numbered order from ended = absurd ended
+sounds_run p low pen (m ∷ ms) is_pen numbered order from ended =
     by_kind (seen p m ms) ended
-    (λ t f e. sounds_run births p t (pen_after m pen) ms (rises_after m pen is_pen).is_pen numbered.2 paired.1 f e)
+    (λ t f e. sounds_run p t (pen_after m pen) ms (rises_after m pen is_pen).is_pen numbered.2 order.1 f e)
   where
     by_kind : Seen p m ms → ((m.process ≡ p) × (m.msg ≡ None)) ⊎ Ended p ms
         → ((t : ℕ) → From p t ms → Ended p ms → RunsFrom t (process_end p ms) (process_sounds p ms))
@@ -58,7 +55,7 @@ sounds_run births p low pen (m ∷ ms) is_pen numbered paired from ended =
     by_kind (sound own x some is end) (inr later) rest =
         runs_as low (process_end p (m ∷ ms)) (process_end p ms) (process_sounds p (m ∷ ms))
         (record { time = mark_time m; msg = x } ∷ process_sounds p ms) end is
-        (from.0 own, rest (mark_time m) (sounding_after births p m ms own paired.0) later)
+        (from.0 own, rest (mark_time m) (sounding_after p m ms own order.0) later)
     by_kind (stop own none is end) _ rest =
         runs_as low (process_end p (m ∷ ms)) m.onset (process_sounds p (m ∷ ms)) [] end
         (is ∙ absent_sounds p ms (none_behind p pen m ms is_pen numbered own none))
@@ -152,11 +149,11 @@ numbers p pen (m ∷ ms) (inl before) is_pen numbered =
 -- ---- lines
 
 -- a process of a whole score has its events in the order of its marks
-pub whole_in_turn : (b : Totals) (births : List (List ℕ)) (ms : List Mark) (end : ℕ) → IsWhole b births ms end → (p : ℕ)
+pub whole_in_turn : (b : Totals) (births : List (List ℕ)) (ms : List Mark) (end : ℕ) → IsWhole b births ms end → InOrder ms → (p : ℕ)
     → p < length births → process_events p ms ≡ events_in_turn p ms
-whole_in_turn b births ms end w p within =
+whole_in_turn b births ms end w order p within =
     in_turn_events 0 p (process_end p ms) ms
-    (sounds_run births p 0 first_pen ms (omega arith) w.numbered w.paired (from_zero p ms) (ended_in b births ms end w p within))
+    (sounds_run p 0 first_pen ms (omega arith) w.numbered order (from_zero p ms) (ended_in b births ms end w p within))
     (numbers p first_pen ms (at_first p) (omega arith) w.numbered)
   where
     at_first : (p : ℕ) → (first_pen.process < p) ⊎ ((first_pen.process ≡ p) × (first_pen.index ≡ 0)) ⊎ (p < first_pen.process)
@@ -173,6 +170,6 @@ lines_same j (ps ∷ more) ms each =
 
 -- the lines of a whole score
 pub whole_lines_in_turn : (b : Totals) (births : List (List ℕ)) (ms : List Mark) (end : ℕ) → IsWhole b births ms end
-    → lines_from 0 births ms ≡ lines_in_turn 0 births ms
-whole_lines_in_turn b births ms end w =
-    lines_same 0 births ms (λ p within. whole_in_turn b births ms end w p (omega (arith, within)))
+    → InOrder ms → lines_from 0 births ms ≡ lines_in_turn 0 births ms
+whole_lines_in_turn b births ms end w order =
+    lines_same 0 births ms (λ p within. whole_in_turn b births ms end w order p (omega (arith, within)))

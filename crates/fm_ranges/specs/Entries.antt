@@ -2,11 +2,17 @@
 use Rattle.std.specs.Prelude.{◌≡◌, ℕ, List, ◌∷◌, ◌++◌}
 use Rattle.std.specs.List.{list_any}
 use Rattle.std.specs.Str.{bytes_eq}
+use Rattle.fm_names.specs.Named.{names_in}
 use Rattle.fm_warp.specs.declared.warp.TheConstants.{MAX_PARTS}
 use Rattle.fm_grammar.specs.Score as text
 use Rattle.fm_meaning.specs.Fault.{NumberedFault}
 use Rattle.fm_meaning.specs.Ranges.{Names, double_faults, each_faults, part_faults, length_spot, part_length}
 use Rattle.fm_meaning.specs.Ranges.{body_faults, stmt_faults}
+use Rattle.fm_ranges.specs.declared.known.Known.{Known}
+
+-- the names that are known, and the ticks of a whole note
+abbrev pub known_view : Known → Names
+known_view k = record { whole = k.whole; shapes = names_in k.shapes; phrases = names_in k.phrases }
 
 -- the faults of an entry
 abbrev pub entry_faults : Names → text.Entry → List NumberedFault

@@ -1,9 +1,8 @@
-//! The names that are defined before a place of the text.
+//! The names that are defined before a spot of the text.
 
 ghost use Rattle.std.specs.Prelude.{◌≡◌, [], OnOk};
 ghost use Rattle.fm_grammar.specs.View.{entry_view};
-ghost use Rattle.fm_ranges.specs.Found.{known_view};
-ghost use Rattle.fm_ranges.specs.Entries.{SameNames, behind};
+ghost use Rattle.fm_ranges.specs.Entries.{SameNames, behind, known_view};
 
 use fm_grammar::Entry;
 use fm_names::Names;

@@ -7,7 +7,6 @@
 //! to the crates beside this one.
 #![tactic(auto)]
 
-mod fault;
 mod known;
 mod lists;
 mod number;
@@ -16,5 +15,4 @@ mod statement;
 mod value;
 mod walk;
 
-pub use fault::{RangeFault, RangeWhy};
 pub use walk::first_range_fault;

@@ -14,11 +14,11 @@ ghost use Rattle.fm_meaning.specs.Ranges.{
   pitch_spot,
   empty_faults,
 };
-ghost use Rattle.fm_ranges.specs.Found.{found};
+ghost use Rattle.fm_fault.specs.Found.{found};
 
-use crate::fault::{RangeFault, out_of_range};
-use crate::number::{check_length, check_number};
+use crate::number::{check_length, check_number, out_of_range};
 use crate::value::check_pitch;
+use fm_fault::Fault;
 use fm_grammar::{Length, Number, PartText, Pitch};
 use fm_lex::Spot;
 use fm_pattern::MAX_ENTRIES;
@@ -39,7 +39,7 @@ fn spot_of_pitch(pitch: &Pitch) -> Spot
 }
 
 /// The pitches of a note.
-pub(crate) fn check_pitches(pitches: &[Pitch]) -> Result<(), RangeFault>
+pub(crate) fn check_pitches(pitches: &[Pitch]) -> Result<(), Fault>
     ensures { found result ≡ first_found (pitches_faults (map pitch_view pitches.now)) }
 {
     for (i, pitch) in pitches.iter().enumerate() {
@@ -62,7 +62,7 @@ fn spot_of_length(length: Length) -> Spot
 }
 
 /// The entries of a rhythm.
-pub(crate) fn check_lengths(whole: u32, lengths: &[Length]) -> Result<(), RangeFault>
+pub(crate) fn check_lengths(whole: u32, lengths: &[Length]) -> Result<(), Fault>
     ensures { found result
         ≡ first_found (each_faults (length_faults whole) length_spot MAX_ENTRIES lengths.now) }
 {
@@ -76,7 +76,7 @@ pub(crate) fn check_lengths(whole: u32, lengths: &[Length]) -> Result<(), RangeF
 }
 
 /// The entries of a list of numbers from `least` to `most`.
-pub(crate) fn check_numbers(numbers: &[Number], least: u32, most: u32) -> Result<(), RangeFault>
+pub(crate) fn check_numbers(numbers: &[Number], least: u32, most: u32) -> Result<(), Fault>
     ensures { found result ≡ first_found (numbers_faults least most numbers.now) }
 {
     for (i, number) in numbers.iter().enumerate() {
@@ -101,7 +101,7 @@ fn length_of_part(part: PartText) -> Length
 }
 
 // A length of at least one tick.
-fn check_stretched(whole: u32, length: Length) -> Result<(), RangeFault>
+fn check_stretched(whole: u32, length: Length) -> Result<(), Fault>
     ensures { found result
         ≡ first_found (length_faults whole length ++ empty_faults whole length) }
 {
@@ -113,7 +113,7 @@ fn check_stretched(whole: u32, length: Length) -> Result<(), RangeFault>
 }
 
 // A part of a shape.
-fn check_part(whole: u32, part: PartText) -> Result<(), RangeFault>
+fn check_part(whole: u32, part: PartText) -> Result<(), Fault>
     ensures { found result ≡ first_found (part_faults whole part) }
 {
     match part {
@@ -131,7 +131,7 @@ fn check_part(whole: u32, part: PartText) -> Result<(), RangeFault>
 }
 
 /// The parts of a shape.
-pub(crate) fn check_parts(whole: u32, parts: &[PartText]) -> Result<(), RangeFault>
+pub(crate) fn check_parts(whole: u32, parts: &[PartText]) -> Result<(), Fault>
     ensures { found result
         ≡ first_found (each_faults (part_faults whole) (λ p. length_spot (part_length p))
         MAX_PARTS parts.now) }

@@ -4,17 +4,28 @@ ghost use Rattle.std.specs.Prelude.{◌≡◌};
 ghost use Rattle.fm_meaning.specs.Faults.{first_found};
 ghost use Rattle.fm_meaning.specs.Ranges.{number_faults, share_faults, length_faults};
 ghost use Rattle.fm_meaning.specs.Ranges.{literal_faults};
-ghost use Rattle.fm_ranges.specs.Found.{found};
+ghost use Rattle.fm_fault.specs.Found.{found};
+ghost use Rattle.fm_fault.specs.declared.why.Why.TheVariants.{OutOfRange};
 
-use crate::fault::{RangeFault, RangeWhy, out_of_range};
+use fm_fault::{Fault, Why};
 use fm_grammar::{Length, Number};
 use fm_lex::Spot;
 
 /// The longest length that is written as one, in ticks.
 pub const MAX_TICKS: u32 = 1_000_000;
 
+/// A number outside its range, or an entry too many.
+pub(crate) fn out_of_range(spot: Spot) -> Fault
+    ensures { result ≡ record { why = OutOfRange; spot = spot } }
+{
+    Fault {
+        why: Why::OutOfRange,
+        spot,
+    }
+}
+
 /// A number from `least` to `most`.
-pub(crate) fn check_number(number: Number, least: u32, most: u32) -> Result<(), RangeFault>
+pub(crate) fn check_number(number: Number, least: u32, most: u32) -> Result<(), Fault>
     ensures { found result ≡ first_found (number_faults least most number) }
 {
     if number.value < least || most < number.value {
@@ -24,7 +35,7 @@ pub(crate) fn check_number(number: Number, least: u32, most: u32) -> Result<(), 
 }
 
 /// A literal from `least` to `most`.
-pub(crate) fn check_literal(value: i64, spot: Spot, least: i64, most: i64) -> Result<(), RangeFault>
+pub(crate) fn check_literal(value: i64, spot: Spot, least: i64, most: i64) -> Result<(), Fault>
     ensures { found result ≡ first_found (literal_faults least most value spot) }
 {
     if value < least || most < value {
@@ -34,7 +45,7 @@ pub(crate) fn check_literal(value: i64, spot: Spot, least: i64, most: i64) -> Re
 }
 
 // A share of a whole note.
-fn check_share(whole: u32, over: Number, under: Number) -> Result<(), RangeFault>
+fn check_share(whole: u32, over: Number, under: Number) -> Result<(), Fault>
     ensures { found result ≡ first_found (share_faults whole over under) }
 {
     if under.value == 0 {
@@ -42,8 +53,8 @@ fn check_share(whole: u32, over: Number, under: Number) -> Result<(), RangeFault
     }
     let ticks = u64::from(whole) * u64::from(over.value);
     if ticks % u64::from(under.value) != 0 {
-        return Err(RangeFault {
-            why: RangeWhy::NotTicks,
+        return Err(Fault {
+            why: Why::NotTicks,
             spot: over.spot,
         });
     }
@@ -54,7 +65,7 @@ fn check_share(whole: u32, over: Number, under: Number) -> Result<(), RangeFault
 }
 
 /// A length, where a whole note has `whole` ticks.
-pub(crate) fn check_length(whole: u32, length: Length) -> Result<(), RangeFault>
+pub(crate) fn check_length(whole: u32, length: Length) -> Result<(), Fault>
     ensures { found result ≡ first_found (length_faults whole length) }
 {
     match length {

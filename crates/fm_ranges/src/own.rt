@@ -5,14 +5,15 @@ ghost use Rattle.fm_grammar.specs.View.{item_view, name_view};
 ghost use Rattle.fm_meaning.specs.Faults.{first_found};
 ghost use Rattle.fm_meaning.specs.Ranges.{unknown_faults};
 ghost use Rattle.fm_names.specs.Named.{names_in};
-ghost use Rattle.fm_ranges.specs.Found.{found, known_view};
+ghost use Rattle.fm_fault.specs.Found.{found};
+ghost use Rattle.fm_ranges.specs.Entries.{known_view};
 ghost use Rattle.fm_ranges.specs.Own.{own_faults};
 
-use crate::fault::{RangeFault, RangeWhy};
 use crate::known::Known;
 use crate::lists::{check_lengths, check_numbers, check_pitches};
 use crate::number::{MAX_TICKS, check_number};
 use crate::value::{MAX_DATA, check_amount, check_duration, check_expr};
+use fm_fault::{Fault, Why};
 use fm_grammar::{Item, Name, What};
 use fm_names::Names;
 
@@ -23,7 +24,7 @@ pub const MAX_ROUNDS: u32 = 1_000_000;
 pub const MAX_CHANNEL: u32 = 15;
 
 /// The greatest articulation, in percent of the duration.
-pub const MAX_ARTICULATION: u32 = 100;
+pub const MAX_ARTICULATION: u32 = 400;
 
 /// The lowest bend.
 pub const LEAST_BEND: i64 = -8_192;
@@ -32,21 +33,21 @@ pub const LEAST_BEND: i64 = -8_192;
 pub const MAX_BEND: i64 = 8_191;
 
 // A name that was defined.
-fn check_name(name: &Name, names: &Names<()>) -> Result<(), RangeFault>
+fn check_name(name: &Name, names: &Names<()>) -> Result<(), Fault>
     ensures { found result
         ≡ first_found (unknown_faults (name_view name.now) (names_in names.now)) }
 {
     if names.contains(name.text) {
         return Ok(());
     }
-    Err(RangeFault {
-        why: RangeWhy::UnknownName,
+    Err(Fault {
+        why: Why::UnknownName,
         spot: name.spot,
     })
 }
 
 /// The numbers and names of the statement itself.
-pub(crate) fn check_own(item: &Item, known: &Known) -> Result<(), RangeFault>
+pub(crate) fn check_own(item: &Item, known: &Known) -> Result<(), Fault>
     ensures { found result
         ≡ first_found (own_faults (known_view known.now) (item_view item.now).what) }
 {

@@ -4,16 +4,18 @@ ghost use Rattle.std.specs.Prelude.{◌≡◌};
 ghost use Rattle.fm_grammar.specs.View.{item_view, items_view};
 ghost use Rattle.fm_meaning.specs.Faults.{first_found};
 ghost use Rattle.fm_meaning.specs.Ranges.{stmt_faults, body_faults, branches_faults};
-ghost use Rattle.fm_ranges.specs.Found.{found, known_view};
+ghost use Rattle.fm_fault.specs.Found.{found};
+ghost use Rattle.fm_ranges.specs.Entries.{known_view};
 ghost use Rattle.fm_ranges.specs.Own.{branches_view};
 
-use crate::fault::RangeFault;
 use crate::known::Known;
 use crate::own::check_own;
+use fm_fault::Fault;
 use fm_grammar::{Item, What};
 
+/// The first fault of a statement and of those inside it.
 #[cycle(statement)]
-pub(crate) fn check_item(item: &Item, known: &Known) -> Result<(), RangeFault>
+pub(crate) fn check_item(item: &Item, known: &Known) -> Result<(), Fault>
     ensures { found result
         ≡ first_found (stmt_faults (known_view known.now) (item_view item.now).what) }
 {
@@ -52,7 +54,7 @@ pub(crate) fn check_item(item: &Item, known: &Known) -> Result<(), RangeFault>
 
 /// The first fault of the statements of a block.
 #[cycle(statement)]
-pub(crate) fn check_items(items: &[Item], known: &Known) -> Result<(), RangeFault>
+pub(crate) fn check_items(items: &[Item], known: &Known) -> Result<(), Fault>
     ensures { found result
         ≡ first_found (body_faults (known_view known.now) (items_view items.now)) }
 {

@@ -6,10 +6,10 @@ ghost use Rattle.fm_meaning.specs.Faults.{first_found};
 ghost use Rattle.fm_meaning.specs.Rules.{most_data};
 ghost use Rattle.fm_meaning.specs.Ranges.{node_faults, expr_faults, amount_faults, duration_faults};
 ghost use Rattle.fm_meaning.specs.Ranges.{pitch_faults};
-ghost use Rattle.fm_ranges.specs.Found.{found};
+ghost use Rattle.fm_fault.specs.Found.{found};
 
-use crate::fault::{RangeFault, out_of_range};
-use crate::number::{MAX_TICKS, check_length, check_literal, check_number};
+use crate::number::{MAX_TICKS, check_length, check_literal, check_number, out_of_range};
+use fm_fault::Fault;
 use fm_grammar::{Amount, Duration, Pitch};
 use fm_lex::Spot;
 use fm_value::{Expr, MAX_VALUE, Node, Spot2};
@@ -18,7 +18,7 @@ use fm_value::{Expr, MAX_VALUE, Node, Spot2};
 pub const MAX_DATA: u32 = 127;
 
 // One node: a literal has a range.
-fn check_node(node: Node, spot: Spot2) -> Result<(), RangeFault>
+fn check_node(node: Node, spot: Spot2) -> Result<(), Fault>
     ensures { found result ≡ first_found (node_faults (node ∷ []) (spot ∷ [])) }
 {
     match node {
@@ -48,7 +48,7 @@ fn check_node(node: Node, spot: Spot2) -> Result<(), RangeFault>
 }
 
 // Nodes, each with its spot.
-fn check_nodes(nodes: &[Node], spots: &[Spot2]) -> Result<(), RangeFault>
+fn check_nodes(nodes: &[Node], spots: &[Spot2]) -> Result<(), Fault>
     ensures { found result ≡ first_found (node_faults nodes.now spots.now) }
 {
     for (i, node) in nodes.iter().enumerate() {
@@ -61,14 +61,14 @@ fn check_nodes(nodes: &[Node], spots: &[Spot2]) -> Result<(), RangeFault>
 }
 
 /// An expression.
-pub(crate) fn check_expr(expr: &Expr) -> Result<(), RangeFault>
+pub(crate) fn check_expr(expr: &Expr) -> Result<(), Fault>
     ensures { found result ≡ first_found (expr_faults (expr_view expr.now)) }
 {
     check_nodes(&expr.nodes, &expr.spots)
 }
 
 /// A number of a message: a literal from `least` to `most`, or an expression.
-pub(crate) fn check_amount(amount: &Amount, least: i64, most: i64) -> Result<(), RangeFault>
+pub(crate) fn check_amount(amount: &Amount, least: i64, most: i64) -> Result<(), Fault>
     ensures { found result ≡ first_found (amount_faults least most (amount_view amount.now)) }
 {
     match amount {
@@ -78,7 +78,7 @@ pub(crate) fn check_amount(amount: &Amount, least: i64, most: i64) -> Result<(),
 }
 
 /// A duration.
-pub(crate) fn check_duration(whole: u32, duration: &Duration) -> Result<(), RangeFault>
+pub(crate) fn check_duration(whole: u32, duration: &Duration) -> Result<(), Fault>
     ensures { found result
         ≡ first_found (duration_faults whole (duration_view duration.now)) }
 {
@@ -92,7 +92,7 @@ pub(crate) fn check_duration(whole: u32, duration: &Duration) -> Result<(), Rang
 }
 
 /// A pitch.
-pub(crate) fn check_pitch(pitch: &Pitch) -> Result<(), RangeFault>
+pub(crate) fn check_pitch(pitch: &Pitch) -> Result<(), Fault>
     ensures { found result ≡ first_found (pitch_faults (pitch_view pitch.now)) }
 {
     match pitch {

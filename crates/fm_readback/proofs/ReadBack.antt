@@ -12,6 +12,7 @@ use Rattle.fm_meaning.specs.Lines.{played_lines, played_piece, played_end}
 use Rattle.fm_meaning.specs.Resolve.{resolved}
 use Rattle.fm_meaning.specs.Rules.{profile_of, score_rules}
 use Rattle.fm_meaning.specs.Verdict.{Means}
+use Rattle.fm_meaning.proofs.Versions.{division_in_range}
 use Rattle.fm_msg.specs.Event.{TimedMessage}
 use Rattle.fm_msg.specs.Message.{is_in_range}
 use Rattle.fm_msg.specs.declared.profile.Profile.{Profile}
@@ -93,7 +94,7 @@ ReadsBack = (profile : Profile) (events : List TimedMessage) (end : ℕ) → Are
 -- the division of a score
 division : (s : Score) → (profile_of s).division < 2 ^ 15
 unfolding profile_of
-division s = omega arith
+division s = let within = division_in_range s in omega (arith, within.most)
 
 pub read_back : Known → ReadsBack → (text : List ℕ) (s : Score) → Means text s → IsReadBack s
 read_back known reads text s means =

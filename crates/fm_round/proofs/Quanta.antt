@@ -1,5 +1,5 @@
 -- What one quantum makes of one slot.
-use Rattle.std.proofs.Common.{◌≡◌, ◌⊎◌, ℕ, ◌+◌, ◌-◌, ◌<◌, ◌≤◌, [], length, Bool, true, false, Some, None, refl, sym, ap, ap₂, ◌∙◌, subst, inl, inr, arith, append-nil, length-append}
+use Rattle.std.proofs.Common.{◌≡◌, ◌⊎◌, ℕ, ◌+◌, ◌<◌, ◌≤◌, [], length, Bool, true, false, Some, None, refl, sym, ap, ◌∙◌, subst, inl, inr, arith, append-nil, length-append}
 use Rattle.std.proofs.lemmas.Bool.{cases_eq}
 use Rattle.std.proofs.lemmas.List.Elements.{All-append, All-nil, All-weaker}
 use Rattle.std.specs.List.{All}
@@ -9,29 +9,10 @@ use Rattle.fm_strand.specs.declared.strand.Strand.{Strand}
 use Rattle.fm_strand.specs.declared.answers.Quantum.{Quantum}
 use Rattle.fm_strand.specs.declared.answers.Quantum.TheVariants as quantum
 use Rattle.fm_strand.specs.declared.answers.TheConstants.{MAX_QUANTUM}
-use Rattle.fm_strand.specs.Course.{steps_of, standing, tick_of, to_come}
-use Rattle.fm_strand.specs.Strand.{InCourse, MakesQuantum, QuantumIs, clock_of, rest, steps_left}
+use Rattle.fm_strand.specs.Strand.{MakesQuantum, QuantumIs, clock_of, rest, steps_left}
 use Rattle.fm_round.specs.declared.slot.Slot.{Slot}
 use Rattle.fm_round.specs.Slots.{CanRun, IsSlotOf, IsStrandOf, Runs, has_ended, live_clock, load, run_load}
 use Rattle.fm_round.proofs.StrandFacts.{clock_at_event, put_early}
-
--- ---- no step, no change
-
-same_steps : (p : PlanParts) (s t : Strand) → InCourse p s → InCourse p t → t.process ≡ s.process
-    → steps_left p s ≡ steps_left p t → t.made ≡ s.made
-unfolding steps_left
-same_steps p s t at_s at_t process steps =
-    let of_t : steps_of p t.process ≡ steps_of p s.process = ap (steps_of p) process in
-    let within_s = at_s.within in
-    let within_t = at_t.within in omega arith
-
-same_clock : (p : PlanParts) (s t : Strand) → t.process ≡ s.process → t.made ≡ s.made → clock_of p t ≡ clock_of p s
-unfolding clock_of
-same_clock p s t process made = ap₂ (λ (j n : ℕ). tick_of (standing p j n)) process made
-
-same_rest : (p : PlanParts) (s t : Strand) → t.process ≡ s.process → t.made ≡ s.made → rest p t ≡ rest p s
-unfolding rest
-same_rest p s t process made = ap₂ (λ (j n : ℕ). to_come p j n) process made
 
 -- ---- one quantum
 
@@ -41,14 +22,11 @@ module _ (p : PlanParts) (j limit : ℕ) (old new : Slot) (s t : Strand) (answer
     (now : new.strand ≡ Some t) (ended : new.ended ≡ has_ended answer) where
   -- a quantum without a step leaves the clock and the queue as they were
   still_clock : makes.made ≡ 0 → clock_of p t ≡ clock_of p s
-  still_clock none =
-      let steps = makes.steps in
-      same_clock p s t makes.process (same_steps p s t run.course makes.course makes.process (omega arith))
+  still_clock none = ap (clock_of p) (makes.still none)
 
   still_queue : makes.made ≡ 0 → length new.outbox.events ≡ length old.outbox.events
   still_queue none =
-      let steps = makes.steps in
-      let same = same_rest p s t makes.process (same_steps p s t run.course makes.course makes.process (omega arith)) in
+      let same = ap (rest p) (makes.still none) in
       omega (
         arith,
         ap length makes.events,

@@ -1,6 +1,6 @@
 //! Two voices that start together and end at different times, played in both ways.
 use crate::{Played, Rounds};
-use fm_edge::{MemorySink, OpenGate};
+use fm_edge::{MeetGate, MemorySink, OpenGate};
 use fm_msg::Profile;
 use fm_program::{Draw, Op, Plan, Program, Scopes, Span, Stock, Turn};
 use std::alloc::{AllocError, Global};
@@ -131,4 +131,35 @@ fn a_plan_with_running_status_has_these_bytes(rt: HostRuntime) -> Result<(), Fai
     };
     let plan = plan_of_two_voices(rt.alloc(), profile)?;
     plays_alone(&rt, plan, &RUNNING)
+}
+
+// Plays two voices on four threads and a gate that holds process 1 until process 2 has begun so
+// many slices, for so many turns. Says whether they met.
+fn meets_in_rounds<R: Abort + AllocGlobal + Threads + Sync>(
+    rt: &R,
+    laps: u32,
+    turns: u32,
+) -> Result<bool, Fail> {
+    let alloc = rt.alloc();
+    let gate = MeetGate::new(1, 2, laps, turns);
+    let plan = plan_of_two_voices(alloc, Profile::first())?;
+    let mut sink = MemorySink::new(alloc, 100, Vec::new(alloc))?;
+    let rounds = Rounds::open(alloc, plan, 32, 7_680)?;
+    let played = rounds.play(rt, 4, &gate, &mut sink).ok();
+    has_played(rt, played, FILE.len());
+    assert_eq!(rt; sink.content(), FILE.as_slice());
+    Ok(gate.met())
+}
+
+#[test]
+fn threads_of_one_round_meet(rt: HostRuntime) -> Result<(), Fail> {
+    assert!(&rt; meets_in_rounds(&rt, 1, 67_108_864)?);
+    Ok(())
+}
+
+// A round has one slice of each process.
+#[test]
+fn no_process_has_two_slices_in_a_round(rt: HostRuntime) -> Result<(), Fail> {
+    assert!(&rt; !meets_in_rounds(&rt, 2, 1_000)?);
+    Ok(())
 }

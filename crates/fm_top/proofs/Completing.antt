@@ -15,7 +15,7 @@ use Rattle.fm_top.specs.Tasks.{most_of, number_of}
 use Rattle.fm_top.specs.Telling.{TellsEnd, fault_status, fault_text, told, untold}
 use Rattle.fm_top.specs.Outcome.{WritesScore, Does, Stops, Holds, RunEnds, does, stops, Completes}
 use Rattle.fm_top.proofs.Judged.{told_is, told_longer}
-use Rattle.fm_top.proofs.Verdicts.{OneVerdict}
+use Rattle.fm_top.specs.Verdicts.{OneVerdict}
 
 -- ---- what is told
 
@@ -67,31 +67,30 @@ module _ {S K : Type 0} (left : S → Option (List ℕ)) (source_faults : S → 
 
   -- ---- the sink that is sure
 
-  stops_quiet : OneVerdict → (t : Task) (input : List ℕ) (m : Product) (f : RunFault)
+  stops_quiet : (t : Task) (input : List ℕ) (f : RunFault)
       → Stops left source_faults content sure faults source source' sink sink' t f
-      → offered (number_of t) (left source) ≡ Some input → Makes t input m
-      → HasRoom (content sink) (sure sink) (size_of m.work) → faults sink' ≡ faults sink
-  stops_quiet one t input m run.Words h tells makes room = absurd h
-  stops_quiet one t input m run.Read h tells makes room = ap faults h.2
-  stops_quiet one t input m (run.Score spot n) h tells makes room = ap faults h.1
-  stops_quiet one t input m (run.File p n) h tells makes room = ap faults h.1
-  stops_quiet one t input m run.NoProcess h tells makes room = ap faults h.1
-  stops_quiet one t input m run.Memory h tells makes room = ap faults h
-  stops_quiet one t input m run.Write h tells makes room =
+      → offered (number_of t) (left source) ≡ Some input
+      → ((m : Product) → Makes t input m → HasRoom (content sink) (sure sink) (size_of m.work)) → faults sink' ≡ faults sink
+  stops_quiet t input run.Words h tells room = absurd h
+  stops_quiet t input run.Read h tells room = ap faults h.2
+  stops_quiet t input (run.Score spot n) h tells room = ap faults h.1
+  stops_quiet t input (run.File p n) h tells room = ap faults h.1
+  stops_quiet t input (run.Record p n) h tells room = ap faults h.1
+  stops_quiet t input run.NoProcess h tells room = ap faults h.1
+  stops_quiet t input run.Memory h tells room = ap faults h
+  stops_quiet t input run.Write h tells room =
       let given : input ≡ h.input = input_told _ _ _ h.input input h.all tells in
-      let same : m ≡ h.made = one.made t h.input m h.made (subst (λ z. Makes t z m) given makes) h.makes in
       cut_quiet content sure faults sink sink' h.made.work h.cut
-      (subst (λ (z : Product). HasRoom (content sink) (sure sink) (size_of z.work)) same room)
+      (room h.made (subst (λ z. Makes t z h.made) (sym given) h.makes))
 
-  does_quiet : OneVerdict → (t : Task) (input : List ℕ) (m : Product) (line : Option (List ℕ))
+  does_quiet : (t : Task) (input : List ℕ) (line : Option (List ℕ))
       → Does left source_faults content sure faults source source' sink sink' t line
-      → offered (number_of t) (left source) ≡ Some input → Makes t input m
-      → HasRoom (content sink) (sure sink) (size_of m.work) → faults sink' ≡ faults sink
-  does_quiet one t input m line d tells makes room =
+      → offered (number_of t) (left source) ≡ Some input
+      → ((m : Product) → Makes t input m → HasRoom (content sink) (sure sink) (size_of m.work)) → faults sink' ≡ faults sink
+  does_quiet t input line d tells room =
       let given : input ≡ d.input = input_told _ _ _ d.input input d.all tells in
-      let same : m ≡ d.made = one.made t d.input m d.made (subst (λ z. Makes t z m) given makes) d.makes in
       done_quiet content sure faults sink sink' d.made.work d.done
-      (subst (λ (z : Product). HasRoom (content sink) (sure sink) (size_of z.work)) same room)
+      (room d.made (subst (λ z. Makes t z d.made) (sym given) d.makes))
 
   -- ---- an input of which something is made
 
@@ -105,6 +104,8 @@ module _ {S K : Type 0} (left : S → Option (List ℕ)) (source_faults : S → 
   made_stops one t input m (run.Score spot n) status h tells makes still quiet is =
       absurd (one.apart t input m _ makes (fault_told one t _ _ input _ h.0 tells))
   made_stops one t input m (run.File p n) status h tells makes still quiet is =
+      absurd (one.apart t input m _ makes (fault_told one t _ _ input _ h.0 tells))
+  made_stops one t input m (run.Record p n) status h tells makes still quiet is =
       absurd (one.apart t input m _ makes (fault_told one t _ _ input _ h.0 tells))
   made_stops one t input m run.NoProcess status h tells makes still quiet is =
       absurd (one.apart t input m _ makes (fault_told one t _ _ input _ h.0 tells))
@@ -133,6 +134,8 @@ module _ {S K : Type 0} (left : S → Option (List ℕ)) (source_faults : S → 
         inl (refused_same _ g status (one.fault t input _ g (fault_told one t _ _ input _ h.0 tells) refuses) is all)
     refused_stops one t input (run.File p n) g status h tells refuses still is all =
         inl (refused_same _ g status (one.fault t input _ g (fault_told one t _ _ input _ h.0 tells) refuses) is all)
+    refused_stops one t input (run.Record p n) g status h tells refuses still is all =
+        inl (refused_same _ g status (one.fault t input _ g (fault_told one t _ _ input _ h.0 tells) refuses) is all)
     refused_stops one t input run.NoProcess g status h tells refuses still is all =
         inl (refused_same _ g status (one.fault t input _ g (fault_told one t _ _ input _ h.0 tells) refuses) is all)
     refused_stops one t input run.Write g status h tells refuses still is all =
@@ -159,6 +162,7 @@ module _ {S K : Type 0} (left : S → Option (List ℕ)) (source_faults : S → 
     words_end status run.Read h is = absurd h
     words_end status (run.Score spot n) h is = absurd h
     words_end status (run.File p n) h is = absurd h
+    words_end status (run.Record p n) h is = absurd h
     words_end status run.NoProcess h is = absurd h
     words_end status run.Write h is = absurd h
 
@@ -177,22 +181,22 @@ module _ {S K : Type 0} (left : S → Option (List ℕ)) (source_faults : S → 
           let wrong : Refuses t input f = subst (λ z. Refuses z input f) same refuses in
           let has : input ≡ d.input = input_told _ _ _ d.input input d.all known in
           absurd (one.apart t d.input d.made f d.makes (subst (λ z. Refuses t z f) has wrong));
-      quiet = λ u input m given tells makes space.
+      quiet = λ u input given tells space.
           let same : u ≡ t = cc in
-          does_quiet one t input m line d (subst (λ z. offered (number_of z) (left source) ≡ Some input) same tells)
-          (subst (λ z. Makes z input m) same makes) space;
+          does_quiet t input line d (subst (λ z. offered (number_of z) (left source) ≡ Some input) same tells)
+          (subst (λ z. (m : Product) → Makes z input m → HasRoom (content sink) (sure sink) (size_of m.work)) same space);
     }
     completes_of one None status (stops f h (told is all)) = record {
       unaccepted = λ none silent. words_end status f h is;
       made = λ u input m given tells makes still quiet silent. cc;
       refused = λ u input g given tells refuses still silent. cc;
-      quiet = λ u input m given tells makes space. cc;
+      quiet = λ u input given tells space. cc;
     }
     completes_of one None status (stops f h (untold five breaks)) = record {
       unaccepted = λ none silent. absurd (silent breaks.rose);
       made = λ u input m given tells makes still quiet silent. cc;
       refused = λ u input g given tells refuses still silent. cc;
-      quiet = λ u input m given tells makes space. cc;
+      quiet = λ u input given tells space. cc;
     }
     completes_of one (Some t) status (stops f h (told is all)) = record {
       unaccepted = λ none silent. cc;
@@ -204,17 +208,17 @@ module _ {S K : Type 0} (left : S → Option (List ℕ)) (source_faults : S → 
           let same : u ≡ t = cc in
           refused_stops one t input f g status h (subst (λ z. offered (number_of z) (left source) ≡ Some input) same tells)
           (subst (λ z. Refuses z input g) same refuses) still is all;
-      quiet = λ u input m given tells makes space.
+      quiet = λ u input given tells space.
           let same : u ≡ t = cc in
-          stops_quiet one t input m f h (subst (λ z. offered (number_of z) (left source) ≡ Some input) same tells)
-          (subst (λ z. Makes z input m) same makes) space;
+          stops_quiet t input f h (subst (λ z. offered (number_of z) (left source) ≡ Some input) same tells)
+          (subst (λ z. (m : Product) → Makes z input m → HasRoom (content sink) (sure sink) (size_of m.work)) same space);
     }
     completes_of one (Some t) status (stops f h (untold five breaks)) = record {
       unaccepted = λ none silent. absurd (silent breaks.rose);
       made = λ u input m given tells makes still quiet silent. absurd (silent breaks.rose);
       refused = λ u input g given tells refuses still silent. absurd (silent breaks.rose);
-      quiet = λ u input m given tells makes space.
+      quiet = λ u input given tells space.
           let same : u ≡ t = cc in
-          stops_quiet one t input m f h (subst (λ z. offered (number_of z) (left source) ≡ Some input) same tells)
-          (subst (λ z. Makes z input m) same makes) space;
+          stops_quiet t input f h (subst (λ z. offered (number_of z) (left source) ≡ Some input) same tells)
+          (subst (λ z. (m : Product) → Makes z input m → HasRoom (content sink) (sure sink) (size_of m.work)) same space);
     }

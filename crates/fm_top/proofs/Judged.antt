@@ -38,6 +38,7 @@ judged_taken left faults asked old new text slice (run.Score spot number) all sa
   holds = subst (λ z. HasFault z spot.line spot.column number) same judged;
 }
 judged_taken left faults asked old new text slice (run.File at number) all same judged = absurd judged
+judged_taken left faults asked old new text slice (run.Record at number) all same judged = absurd judged
 judged_taken left faults asked old new text slice run.NoProcess all same judged = absurd judged
 judged_taken left faults asked old new text slice run.Write all same judged = judged
 judged_taken left faults asked old new text slice run.Memory all same judged = tt

@@ -7,7 +7,11 @@ pub mod Splitting
 pub mod Excerpting
 pub mod Listed
 pub mod Locating
+pub mod TextVerdicts
+pub mod RecordVerdicts
 pub mod Verdicts
+pub mod Auditing
+pub mod OnRecord
 pub mod Causes
 pub mod Completing
 pub mod Schedules

@@ -81,4 +81,5 @@ list_refused left source_faults content sure faults source source' sink bytes ru
 list_refused left source_faults content sure faults source source' sink bytes (run.Score s n) all refused = absurd refused
 list_refused left source_faults content sure faults source source' sink bytes run.NoProcess all refused = absurd refused
 list_refused left source_faults content sure faults source source' sink bytes run.Write all refused = absurd refused
+list_refused left source_faults content sure faults source source' sink bytes (run.Record at n) all refused = absurd refused
 list_refused left source_faults content sure faults source source' sink bytes run.Memory all refused = absurd refused

@@ -65,6 +65,7 @@ module _ {S K : Type 0} (left : S → Option (List ℕ)) (source_faults : S → 
   unlocated run.Read taken = (taken.0, taken.1, refl)
   unlocated (run.Score spot n) taken = (taken, refl)
   unlocated (run.File at n) none = absurd none
+  unlocated (run.Record at n) none = absurd none
   unlocated run.NoProcess taken = (taken, refl)
   unlocated run.Write none = absurd none
   unlocated run.Memory taken = refl

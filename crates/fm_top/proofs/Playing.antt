@@ -43,7 +43,7 @@ pub lines_taken : PlansPlay → (o n : Option (List ℕ)) (plan : PlanParts) (t 
 lines_taken plays o n plan t = ap plan_lines t.planned.planned ∙ plays t.text t.planned.score t.planned.means
 
 -- the plan of a score has the score's profile
-plan_profile : (s : tree.Score) → (score_plan s).profile ≡ profile_of s
+pub plan_profile : (s : tree.Score) → (score_plan s).profile ≡ profile_of s
 plan_profile s = refl
 
 -- so has a plan that was taken
@@ -111,6 +111,7 @@ module _ {S K : Type 0} (left : S → Option (List ℕ)) (source_faults : S → 
   play_stopped run.Read none = absurd none
   play_stopped (run.Score spot n) none = absurd none
   play_stopped (run.File at n) none = absurd none
+  play_stopped (run.Record at n) none = absurd none
   play_stopped run.NoProcess none = absurd none
   play_stopped run.Memory untouched = untouched
   play_stopped run.Write broken = record {

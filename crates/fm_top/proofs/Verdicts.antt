@@ -1,11 +1,7 @@
 -- An input has one verdict of a task: one product, or one fault, and not both.
 use Rattle.std.proofs.Common.{◌≡◌, ◌<◌, ◌≤◌, ℕ, List, length, Some, None, Ok, refl, sym, ap, ap₂, ◌∙◌, subst, arith}
 use Rattle.std.proofs.lemmas.Bool.{lt-ltb, le-ltb}
-use Rattle.fm_grammar.specs.Score as tree
 use Rattle.fm_lex.specs.declared.lexer.TheConstants.{MAX_TEXT}
-use Rattle.fm_lex.specs.declared.spot.Spot.{Spot}
-use Rattle.fm_meaning.specs.Fault.{NumberedFault}
-use Rattle.fm_meaning.specs.Verdict.{Accepted, Cause, HasFault, Means, finds, too_much, trips}
 use Rattle.fm_expansion.specs.Numbering.{score_plan}
 use Rattle.fm_meaning.specs.Lines.{played_lines}
 use Rattle.fm_meaning.specs.Resolve.{resolved}
@@ -18,79 +14,11 @@ use Rattle.fm_top.specs.declared.run_fault.RunFault.{RunFault}
 use Rattle.fm_top.specs.declared.run_fault.RunFault.TheVariants as run
 use Rattle.fm_top.specs.declared.task.Task.{Task}
 use Rattle.fm_top.specs.declared.task.Task.TheVariants as task
-use Rattle.fm_top.specs.Products.{IsFaultOfFile, IsFaultOfPosition, IsFaultOfText, Makes, MakesOfScore, MakesPosition, Product, Refuses, file_fault, listed, only_told, part_of, performance, split, too_large}
+use Rattle.fm_top.specs.Products.{IsFaultOfFile, IsFaultOfPosition, Makes, MakesPosition, Product, Refuses, file_fault, listed, only_told, part_of, performance, split, too_large}
 use Rattle.fm_top.specs.Tasks.{most_of}
-
--- what is known of the verdict of a text: it is one
-pub record TextVerdict : Type 0 where
-  pub fault : (text : List ℕ) (line column number k c n : ℕ) → HasFault text line column number → HasFault text k c n
-      → (line ≡ k) × (column ≡ c) × (number ≡ n)
-  pub apart : (text : List ℕ) (line column number : ℕ) → Accepted text → HasFault text line column number → ⊥
-  pub score : (text : List ℕ) (s t : tree.Score) → Means text s → Means text t → s ≡ t
-
--- what is known of the verdict of a task
-pub record OneVerdict : Type 0 where
-  pub made : (t : Task) (input : List ℕ) (m n : Product) → Makes t input m → Makes t input n → m ≡ n
-  pub apart : (t : Task) (input : List ℕ) (m : Product) (f : RunFault) → Makes t input m → Refuses t input f → ⊥
-  pub fault : (t : Task) (input : List ℕ) (f g : RunFault) → Refuses t input f → Refuses t input g → f ≡ g
-  pub longer : (t : Task) (input told : List ℕ) (f : RunFault) → most_of t < length input → length input ≤ length told
-      → Refuses t input f → Refuses t told f
-
--- ---- of texts
-
-abbrev spot_at : ℕ → ℕ → Spot
-spot_at line column = record { line = line; column = column }
-
-same_spot : (s t : Spot) → s.line ≡ t.line → s.column ≡ t.column → s ≡ t
-same_spot s t line column = ap₂ spot_at line column
-
-text_fault : TextVerdict → (text : List ℕ) (f g : RunFault) → IsFaultOfText text f → IsFaultOfText text g → f ≡ g
-text_fault one text (run.Score s n) (run.Score t k) a b =
-    let same = one.fault text s.line s.column n t.line t.column k a b in
-    rw (same_spot s t same.0 same.1, same.2) refl
-text_fault one text (run.Score s n) run.Words a b = absurd b
-text_fault one text (run.Score s n) run.Read a b = absurd b
-text_fault one text (run.Score s n) (run.File p k) a b = absurd b
-text_fault one text (run.Score s n) run.NoProcess a b = absurd b
-text_fault one text (run.Score s n) run.Write a b = absurd b
-text_fault one text (run.Score s n) run.Memory a b = absurd b
-text_fault one text run.Words g a b = absurd a
-text_fault one text run.Read g a b = absurd a
-text_fault one text (run.File p k) g a b = absurd a
-text_fault one text run.NoProcess g a b = absurd a
-text_fault one text run.Write g a b = absurd a
-text_fault one text run.Memory g a b = absurd a
-
-text_apart : TextVerdict → (text : List ℕ) (s : tree.Score) (f : RunFault) → Means text s → IsFaultOfText text f → ⊥
-text_apart one text s (run.Score spot n) means fault =
-    one.apart text spot.line spot.column n (record { score = s; means = means }) fault
-text_apart one text s run.Words means fault = fault
-text_apart one text s run.Read means fault = fault
-text_apart one text s (run.File p k) means fault = fault
-text_apart one text s run.NoProcess means fault = fault
-text_apart one text s run.Write means fault = fault
-text_apart one text s run.Memory means fault = fault
-
--- a text past the limit has one fault, whatever follows
-cause_longer : (text told : List ℕ) (f : NumberedFault) → MAX_TEXT < length text → length text ≤ length told → Cause text f → Cause told f
-cause_longer text told f long le (too_much _ is) = too_much (omega (arith, long, le)) is
-cause_longer text told f long le (trips short why t is) = absurd (omega (arith, long, short))
-cause_longer text told f long le (finds short s r is) = absurd (omega (arith, long, short))
-
-text_longer : (text told : List ℕ) (f : RunFault) → MAX_TEXT < length text → length text ≤ length told → IsFaultOfText text f
-    → IsFaultOfText told f
-text_longer text told (run.Score spot n) long le fault = record { cause = cause_longer text told _ long le fault.cause }
-text_longer text told run.Words long le fault = fault
-text_longer text told run.Read long le fault = fault
-text_longer text told (run.File p k) long le fault = fault
-text_longer text told run.NoProcess long le fault = fault
-text_longer text told run.Write long le fault = fault
-text_longer text told run.Memory long le fault = fault
-
--- what is made of a score is one product
-score_made : TextVerdict → (product : tree.Score → Product) (text : List ℕ) (m n : Product) → MakesOfScore product text m
-    → MakesOfScore product text n → m ≡ n
-score_made one product text m n a b = a.is ∙ ap product (one.score text a.score b.score a.means b.means) ∙ sym b.is
+use Rattle.fm_top.specs.Verdicts.{HasOneProduct, OneVerdict}
+use Rattle.fm_top.proofs.TextVerdicts.{TextVerdict, score_made, text_apart, text_fault, text_longer}
+use Rattle.fm_top.proofs.RecordVerdicts.{record_apart, record_longer, record_made, record_same}
 
 -- ---- of files
 
@@ -106,12 +34,14 @@ file_same bytes (run.File p k) run.Read a b = absurd b
 file_same bytes (run.File p k) (run.Score s n) a b = absurd b
 file_same bytes (run.File p k) run.NoProcess a b = absurd b
 file_same bytes (run.File p k) run.Write a b = absurd b
+file_same bytes (run.File p k) (run.Record q i) a b = absurd b
 file_same bytes (run.File p k) run.Memory a b = absurd b
 file_same bytes run.Words g a b = absurd a
 file_same bytes run.Read g a b = absurd a
 file_same bytes (run.Score s n) g a b = absurd a
 file_same bytes run.NoProcess g a b = absurd a
 file_same bytes run.Write g a b = absurd a
+file_same bytes (run.Record q i) g a b = absurd a
 file_same bytes run.Memory g a b = absurd a
 
 -- a file within the limit that is read has no fault
@@ -127,6 +57,7 @@ file_apart bytes c run.Read short is fault = fault
 file_apart bytes c (run.Score s n) short is fault = fault
 file_apart bytes c run.NoProcess short is fault = fault
 file_apart bytes c run.Write short is fault = fault
+file_apart bytes c (run.Record q i) short is fault = fault
 file_apart bytes c run.Memory short is fault = fault
 
 -- too many bytes have one fault, whatever follows
@@ -144,6 +75,7 @@ file_longer bytes told run.Read long le fault = fault
 file_longer bytes told (run.Score s n) long le fault = fault
 file_longer bytes told run.NoProcess long le fault = fault
 file_longer bytes told run.Write long le fault = fault
+file_longer bytes told (run.Record q i) long le fault = fault
 file_longer bytes told run.Memory long le fault = fault
 
 -- ---- of positions
@@ -171,6 +103,7 @@ position_apart one tick process text m run.Words a fault = fault
 position_apart one tick process text m run.Read a fault = fault
 position_apart one tick process text m (run.File p k) a fault = fault
 position_apart one tick process text m run.Write a fault = fault
+position_apart one tick process text m (run.Record q i) a fault = fault
 position_apart one tick process text m run.Memory a fault = fault
 
 position_same : TextVerdict → (process : ℕ) (text : List ℕ) (f g : RunFault) → IsFaultOfPosition process text f
@@ -185,16 +118,19 @@ position_same one process text run.NoProcess run.Words a b = absurd b
 position_same one process text run.NoProcess run.Read a b = absurd b
 position_same one process text run.NoProcess (run.File p k) a b = absurd b
 position_same one process text run.NoProcess run.Write a b = absurd b
+position_same one process text run.NoProcess (run.Record q i) a b = absurd b
 position_same one process text run.NoProcess run.Memory a b = absurd b
 position_same one process text (run.Score s n) run.Words a b = absurd b
 position_same one process text (run.Score s n) run.Read a b = absurd b
 position_same one process text (run.Score s n) (run.File p k) a b = absurd b
 position_same one process text (run.Score s n) run.Write a b = absurd b
+position_same one process text (run.Score s n) (run.Record q i) a b = absurd b
 position_same one process text (run.Score s n) run.Memory a b = absurd b
 position_same one process text run.Words g a b = absurd a
 position_same one process text run.Read g a b = absurd a
 position_same one process text (run.File p k) g a b = absurd a
 position_same one process text run.Write g a b = absurd a
+position_same one process text (run.Record q i) g a b = absurd a
 position_same one process text run.Memory g a b = absurd a
 
 position_longer : (process : ℕ) (text told : List ℕ) (f : RunFault) → MAX_TEXT < length text → length text ≤ length told
@@ -206,6 +142,7 @@ position_longer process text told run.Words long le fault = fault
 position_longer process text told run.Read long le fault = fault
 position_longer process text told (run.File p k) long le fault = fault
 position_longer process text told run.Write long le fault = fault
+position_longer process text told (run.Record q i) long le fault = fault
 position_longer process text told run.Memory long le fault = fault
 
 -- ---- of tasks
@@ -213,12 +150,14 @@ position_longer process text told run.Memory long le fault = fault
 pub one_verdict : TextVerdict → ToldOnce → OneVerdict
 one_verdict one once = record { made = made; apart = apart; fault = fault; longer = longer }
   where
-    made : (t : Task) (input : List ℕ) (m n : Product) → Makes t input m → Makes t input n → m ≡ n
-    made (task.Play number) input m n a b = score_made one (performance number) input m n a b
-    made (task.Split number) input m n a b = score_made one (split number) input m n a b
-    made (task.Excerpt number begin until) input m n a b = score_made one (part_of number begin until) input m n a b
-    made (task.Locate number tick process) input m n a b = position_made one once tick process input m n a b
-    made task.List input m n a b =
+    made : (t : Task) (input : List ℕ) (m n : Product) → HasOneProduct t → Makes t input m → Makes t input n → m ≡ n
+    made (task.Play number) input m n single a b = score_made one (performance number) input m n a b
+    made (task.Split number) input m n single a b = score_made one (split number) input m n a b
+    made (task.Excerpt number begin until) input m n single a b = score_made one (part_of number begin until) input m n a b
+    made (task.Locate number tick process) input m n single a b = position_made one once tick process input m n a b
+    made (task.Record number workers room lead) input m n single a b = absurd single
+    made task.Audit input m n single a b = record_made one input m n a b
+    made task.List input m n single a b =
         let same : ◌≡◌ {A = Read Contents} (Ok a.found) (Ok b.found) = sym a.is_read ∙ b.is_read in
         let found : a.found ≡ b.found = cc in
         a.is ∙ ap listed found ∙ sym b.is
@@ -228,6 +167,8 @@ one_verdict one once = record { made = made; apart = apart; fault = fault; longe
     apart (task.Split number) input m f a b = text_apart one input a.score f a.means b
     apart (task.Excerpt number begin until) input m f a b = text_apart one input a.score f a.means b
     apart (task.Locate number tick process) input m f a b = position_apart one tick process input m f a b
+    apart (task.Record number workers room lead) input m f a b = text_apart one input a.score f a.means b
+    apart task.Audit input m f a b = record_apart one input m f a b
     apart task.List input m f a b = file_apart input a.found f a.short a.is_read b
 
     fault : (t : Task) (input : List ℕ) (f g : RunFault) → Refuses t input f → Refuses t input g → f ≡ g
@@ -235,6 +176,8 @@ one_verdict one once = record { made = made; apart = apart; fault = fault; longe
     fault (task.Split number) input f g a b = text_fault one input f g a b
     fault (task.Excerpt number begin until) input f g a b = text_fault one input f g a b
     fault (task.Locate number tick process) input f g a b = position_same one process input f g a b
+    fault (task.Record number workers room lead) input f g a b = text_fault one input f g a b
+    fault task.Audit input f g a b = record_same one input f g a b
     fault task.List input f g a b = file_same input f g a b
 
     longer : (t : Task) (input told : List ℕ) (f : RunFault) → most_of t < length input → length input ≤ length told
@@ -243,4 +186,6 @@ one_verdict one once = record { made = made; apart = apart; fault = fault; longe
     longer (task.Split number) input told f long le refuses = text_longer input told f long le refuses
     longer (task.Excerpt number begin until) input told f long le refuses = text_longer input told f long le refuses
     longer (task.Locate number tick process) input told f long le refuses = position_longer process input told f long le refuses
+    longer (task.Record number workers room lead) input told f long le refuses = text_longer input told f long le refuses
+    longer task.Audit input told f long le refuses = record_longer input told f long le refuses
     longer task.List input told f long le refuses = file_longer input told f long le refuses

@@ -1,9 +1,12 @@
 pub mod Tasks
 pub mod Judging
+pub mod Records
 pub mod Products
+pub mod Audits
 pub mod Taking
 pub mod Telling
 pub mod Outcome
 pub mod Summing
 pub mod TellingRows
 pub mod Schedules
+pub mod Verdicts

@@ -78,6 +78,7 @@ module _ {S K : Type 0} (left : S → Option (List ℕ)) (source_faults : S → 
       Stops run.Read = (number_of t ≡ None) × Rose (source_faults source) (source_faults source') × (sink' ≡ sink)
       Stops (run.Score spot number) = IsRefused (run.Score spot number) × (sink' ≡ sink)
       Stops (run.File at number) = IsRefused (run.File at number) × (sink' ≡ sink)
+      Stops (run.Record at number) = IsRefused (run.Record at number) × (sink' ≡ sink)
       Stops run.NoProcess = IsRefused run.NoProcess × (sink' ≡ sink)
       Stops run.Write = BreaksOff
       Stops run.Memory = sink' ≡ sink
@@ -107,14 +108,15 @@ module _ {S K : Type 0} (left : S → Option (List ℕ)) (source_faults : S → 
       pub read : status ≡ READ_FAULT → Rose (source_faults source) (source_faults source')
       pub of_source : status ≡ READ_FAULT → (t : Task) × (asked ≡ Some t) × (number_of t ≡ None)
       pub refused : status ≡ SCORE_REFUSED
-          → (t : Task) × (fault : RunFault) × (asked ≡ Some t) × IsRefused source source' sink sink' t fault
+          → (t : Task) × (fault : RunFault) × (asked ≡ Some t) × (fault_status fault ≡ status)
+          × IsRefused source source' sink sink' t fault
       pub write : status ≡ WRITE_FAULT → (t : Task) × (asked ≡ Some t) × BreaksOff source source' sink sink' t
       pub missing : status ≡ NO_PROCESS
           → (t : Task) × (asked ≡ Some t) × IsRefused source source' sink sink' t run.NoProcess
       pub untold : status ≡ CONSOLE_FAULT → Rose (console_faults console) (console_faults console')
 
     -- which status comes, where the console's count did not rise: of refused words; of an input that is told, where the
-    -- counts of source and sink did not rise; and a sink that is sure of the length counts no fault
+    -- counts of source and sink did not rise; and a sink that is sure of the length of each product counts no fault
     pub record Completes : Type 0 where
       pub unaccepted : asked ≡ None → (Rose (console_faults console) (console_faults console') → ⊥)
           → (status ≡ WORDS_REFUSED) ⊎ (status ≡ OUT_OF_MEMORY)
@@ -128,6 +130,6 @@ module _ {S K : Type 0} (left : S → Option (List ℕ)) (source_faults : S → 
           → (Rose (console_faults console) (console_faults console') → ⊥)
           → ((status ≡ fault_status fault) × Puts said room console_faults console console' (fault_text fault))
           ⊎ (status ≡ OUT_OF_MEMORY)
-      pub quiet : (t : Task) (input : List ℕ) (m : Product) → asked ≡ Some t
-          → offered (number_of t) (left source) ≡ Some input → Makes t input m
-          → HasRoom (content sink) (sure sink) (size_of m.work) → faults sink' ≡ faults sink
+      pub quiet : (t : Task) (input : List ℕ) → asked ≡ Some t → offered (number_of t) (left source) ≡ Some input
+          → ((m : Product) → Makes t input m → HasRoom (content sink) (sure sink) (size_of m.work))
+          → faults sink' ≡ faults sink

@@ -1,5 +1,5 @@
 -- What a task makes of its input, and which inputs it refuses. A task more has a line more in `Makes` and in `Refuses`.
-use Rattle.std.specs.Prelude.{◌≡◌, ℕ, ◌<◌, ◌≤◌, nat_lt, if◌then◌else◌, List, length, map, Option, Some, None, Ok, option_map}
+use Rattle.std.specs.Prelude.{◌≡◌, ℕ, ◌+◌, ◌<◌, ◌≤◌, ◌++◌, nat_lt, if◌then◌else◌, List, length, map, Option, Some, None, Ok, option_map}
 use Rattle.fm_edge.specs.Runs.{Puts, Breaks}
 use Rattle.fm_excerpt.specs.Excerpt.{excerpt_end, excerpt_events}
 use Rattle.fm_expansion.specs.Numbering.{score_plan}
@@ -19,8 +19,11 @@ use Rattle.fm_read.specs.Fault.{kind_number}
 use Rattle.fm_read.specs.Files.{Contents, contents, place}
 use Rattle.fm_read.specs.Written.{as_message}
 use Rattle.fm_read.specs.declared.limits.TheConstants.{MAX_FILE}
+use Rattle.fm_record.specs.Head.{head_bytes}
+use Rattle.fm_record.specs.StepBytes.{AreSteps}
 use Rattle.fm_smf.specs.File.{file}
 use Rattle.fm_smf.specs.Writing.{IsFinished, IsBroken}
+use Rattle.fm_top.specs.Records.{IsAccepted, IsFaultOfRecord}
 use Rattle.fm_top.specs.declared.run_fault.RunFault.{RunFault}
 use Rattle.fm_top.specs.declared.run_fault.RunFault.TheVariants as run
 use Rattle.fm_top.specs.declared.task.Task.{Task}
@@ -112,6 +115,13 @@ part_of number begin until score = record {
   told = option_map (λ _. summary_line (totals_with (length (score_excerpt begin until score)) score)) number;
 }
 
+-- a score that is played on record, which has these bytes; of a large score its totals are told
+abbrev pub on_record : Option ℕ → List ℕ → tree.Score → Product
+on_record number bytes score = record {
+  work = puts bytes;
+  told = option_map (λ _. summary_line (score_summary score)) number;
+}
+
 -- a line that is told, and nothing else
 abbrev pub only_told : List ℕ → Product
 only_told line = record { work = leaves; told = Some line }
@@ -144,12 +154,29 @@ pub record MakesPosition (tick process : ℕ) (text : List ℕ) (made : Product)
   pub located : IsLocated (score_plan score) process tick line
   pub is : made ≡ only_told line
 
--- what a task makes of an input
+-- the record is accepted, and this is the file of its score
+pub record MakesAudited (bytes : List ℕ) (made : Product) : Type 0 where
+  pub score : tree.Score
+  pub accepted : IsAccepted bytes score
+  pub is : made ≡ performance None score
+
+-- the text means a score that is played, and this is a record with that text: one seat more than there are workers, the
+-- room and the lead, and some steps
+pub record MakesRecord (number : Option ℕ) (workers room lead : ℕ) (text : List ℕ) (made : Product) : Type 0 where
+  pub score : tree.Score
+  pub means : Means text score
+  pub steps : List ℕ
+  pub are_steps : AreSteps steps
+  pub is : made ≡ on_record number (head_bytes (workers + 1) room lead text ++ steps) score
+
+-- what a task makes of an input; but for a record, one product
 abbrev pub Makes : Task → List ℕ → Product → Type 0
 Makes (task.Play number) input made = MakesOfScore (performance number) input made
 Makes (task.Split number) input made = MakesOfScore (split number) input made
 Makes (task.Excerpt number begin until) input made = MakesOfScore (part_of number begin until) input made
 Makes task.List input made = MakesListing input made
+Makes (task.Record number workers room lead) input made = MakesRecord number workers room lead input made
+Makes task.Audit input made = MakesAudited input made
 Makes (task.Locate number tick process) input made = MakesPosition tick process input made
 
 -- ---- what is refused
@@ -192,4 +219,6 @@ Refuses (task.Play number) input fault = IsFaultOfText input fault
 Refuses (task.Split number) input fault = IsFaultOfText input fault
 Refuses (task.Excerpt number begin until) input fault = IsFaultOfText input fault
 Refuses task.List input fault = IsFaultOfFile input fault
+Refuses (task.Record number workers room lead) input fault = IsFaultOfText input fault
+Refuses task.Audit input fault = IsFaultOfRecord input fault
 Refuses (task.Locate number tick process) input fault = IsFaultOfPosition process input fault

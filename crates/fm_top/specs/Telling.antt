@@ -3,7 +3,7 @@ use Rattle.std.specs.Prelude.{◌≡◌, ℕ, List, ◌++◌, codes, decimal, Op
 use Rattle.fm_edge.specs.Runs.{Puts, Breaks}
 use Rattle.fm_top.specs.declared.status.TheConstants.{DONE, WORDS_REFUSED, READ_FAULT, SCORE_REFUSED, WRITE_FAULT, CONSOLE_FAULT, OUT_OF_MEMORY, NO_PROCESS}
 use Rattle.fm_top.specs.declared.run_fault.RunFault.{RunFault}
-use Rattle.fm_top.specs.declared.run_fault.RunFault.TheVariants.{Words, Read, Score, File, NoProcess, Write, Memory}
+use Rattle.fm_top.specs.declared.run_fault.RunFault.TheVariants.{Words, Read, Score, File, Record, NoProcess, Write, Memory}
 
 -- the status of a fault
 abbrev pub fault_status : RunFault → ℕ
@@ -11,6 +11,7 @@ fault_status Words = WORDS_REFUSED
 fault_status Read = READ_FAULT
 fault_status (Score spot number) = SCORE_REFUSED
 fault_status (File at number) = SCORE_REFUSED
+fault_status (Record at number) = SCORE_REFUSED
 fault_status NoProcess = NO_PROCESS
 fault_status Write = WRITE_FAULT
 fault_status Memory = OUT_OF_MEMORY
@@ -21,10 +22,17 @@ place_text line column number =
     codes "formula: score refused: " ++ decimal line ++ codes ":" ++ decimal column
     ++ codes " fault " ++ decimal number ++ codes "\n"
 
+-- the text for a refusal that has one number as its place, and the number of its fault
+abbrev pub placed_text : (front : List ℕ) (at number : ℕ) → List ℕ
+placed_text front at number = front ++ decimal at ++ codes " fault " ++ decimal number ++ codes "\n"
+
 -- the text for a refused file: the byte, from 0, and the number of its fault
 abbrev pub byte_text : (at number : ℕ) → List ℕ
-byte_text at number =
-    codes "formula: file refused: byte " ++ decimal at ++ codes " fault " ++ decimal number ++ codes "\n"
+byte_text at number = placed_text (codes "formula: file refused: byte ") at number
+
+-- the text for a refused record: the byte, the step or the number of steps, and the number of its fault
+abbrev pub record_text : (at number : ℕ) → List ℕ
+record_text at number = placed_text (codes "formula: record refused: ") at number
 
 -- the text for a fault
 unfoldable pub fault_text : RunFault → List ℕ
@@ -32,6 +40,7 @@ fault_text Words = codes "formula: words refused\n"
 fault_text Read = codes "formula: read fault\n"
 fault_text (Score spot number) = place_text spot.line spot.column number
 fault_text (File at number) = byte_text at number
+fault_text (Record at number) = record_text at number
 fault_text NoProcess = codes "formula: no such process\n"
 fault_text Write = codes "formula: write fault\n"
 fault_text Memory = codes "formula: out of memory\n"

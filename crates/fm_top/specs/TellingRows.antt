@@ -1,7 +1,7 @@
 -- Worked examples of the texts on the console.
 use Rattle.std.specs.Prelude.{◌≡◌, ℕ, codes, refl}
 use Rattle.fm_top.specs.declared.run_fault.RunFault.{RunFault}
-use Rattle.fm_top.specs.declared.run_fault.RunFault.TheVariants.{Words, Read, Score, File, NoProcess, Write, Memory}
+use Rattle.fm_top.specs.declared.run_fault.RunFault.TheVariants.{Words, Read, Score, File, Record, NoProcess, Write, Memory}
 use Rattle.fm_top.specs.Telling.{fault_status, fault_text}
 
 abbrev at : ℕ → ℕ → ℕ → RunFault
@@ -38,6 +38,9 @@ status-of_score = refl
 
 status-of_file : fault_status (File 41 23) ≡ 3
 status-of_file = refl
+
+status-of_record : fault_status (Record 22 43) ≡ 3
+status-of_record = refl
 
 status-of_no_process : fault_status NoProcess ≡ 7
 status-of_no_process = refl

@@ -1,13 +1,14 @@
 //! The whole command over whatever source, sink, console and gate it is handed.
 //!
 //! `formula` reads the words and does what they ask for: it plays a text or a large score, whole,
-//! with a track for each channel or in part, lists a file, or locates a tick. It tells the console
-//! of each run that stops before, and answers with an exit status. Its clause `done` is the main
-//! theorem: after status 0 of a run that plays, the sink holds exactly the Standard MIDI File of
-//! what the text means. Its clause `ends` says each end (`specs/Outcome.antt`). What files hold is
-//! left out.
+//! with a track for each channel, in part or on record, lists a file, audits a record of a run, or
+//! locates a tick. It tells the console of each run that stops before, and answers with an exit
+//! status. Its clause `done` is the main theorem: after status 0 of a run that plays, the sink
+//! holds exactly the Standard MIDI File of what the text means. Its clause `ends` says each end
+//! (`specs/Outcome.antt`). What files hold is left out.
 #![tactic(auto)]
 
+mod audits;
 mod excerpt;
 mod input;
 mod judge;
@@ -23,6 +24,7 @@ mod run;
 mod run_fault;
 mod score;
 mod status;
+mod taping;
 mod task;
 mod tell;
 #[cfg(test)]
@@ -31,5 +33,5 @@ mod told;
 mod top;
 
 pub use fm_words::{WordsFault, names};
-pub use laws::same_file_for_every_schedule;
+pub use laws::{each_input_has_one_verdict, same_file_for_every_schedule};
 pub use top::formula;

@@ -6,17 +6,20 @@ ghost use Rattle.fm_tick.specs.declared.tick.TheConstants.{MAX_TICK};
 ghost use Rattle.fm_words.specs.Settings.{settings_of};
 ghost use Rattle.fm_words.specs.View.{HasRanges, options_view};
 ghost use Rattle.fm_top.specs.Taking.{Takes, IsLeftAlone};
-ghost use Rattle.fm_top.specs.Tasks.{most_asked, most_of, number_asked, number_of, task_asked, tick_of};
+ghost use Rattle.fm_top.specs.Tasks.{CanDo, most_asked, most_of, number_asked, number_of};
+ghost use Rattle.fm_top.specs.Tasks.{task_asked, tick_of};
 ghost use Rattle.fm_top.specs.Outcome.{Does, Stops, Holds};
 ghost use Rattle.fm_top.specs.Summing.{told_text};
 ghost use Rattle.fm_top.specs.declared.task.Task.{Task as What};
 
+use crate::audits::audit_record;
 use crate::excerpt::excerpt_score;
 use crate::listing::list_file;
 use crate::parts::split_score;
 use crate::perform::perform;
 use crate::positions::locate_tick;
 use crate::run_fault::RunFault;
+use crate::taping::record_score;
 use crate::task::{Task, task_of};
 use crate::told::Told;
 use fm_edge::{Gate, Sink, Source};
@@ -73,6 +76,7 @@ fn run_task<R: Threads + Wait + Sync, S: Source, K: Sink, G: Gate + Sync>(
     requires ranges { HasRanges (options_view options.now) }
     requires number { IfSome (number_of task) (λ n. n ≤ MAX_NUMBER) }
     requires tick { IfSome (tick_of task) (λ n. n ≤ MAX_TICK) }
+    requires limits { CanDo task }
     requires new { IsNew (K.content sink.old) }
     ensures takes { Takes S.left S.faults (most_of task) source.old source.new }
     ensures unread { IsLeftAlone (number_of task) source.old source.new }
@@ -93,6 +97,16 @@ fn run_task<R: Threads + Wait + Sync, S: Source, K: Sink, G: Gate + Sync>(
         ),
         Task::List => {
             list_file(alloc, source, sink)?;
+            Ok(Told::Nothing)
+        }
+        Task::Record {
+            generate,
+            workers,
+            room,
+            lead,
+        } => record_score(rt, alloc, generate, workers, room, lead, source, sink, gate),
+        Task::Audit => {
+            audit_record(alloc, source, sink)?;
             Ok(Told::Nothing)
         }
         Task::Locate {

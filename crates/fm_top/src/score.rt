@@ -2,6 +2,7 @@
 ghost use Rattle.std.specs.Prelude.{◌≡◌, ◌≤◌, None, IfOk, IfErr, IfSome, IsErrOf};
 ghost use Rattle.fm_edge.specs.Causes.{Rose};
 ghost use Rattle.fm_lex.specs.declared.lexer.TheConstants.{MAX_TEXT};
+ghost use Rattle.fm_top.specs.Judging.{IsPlanned};
 ghost use Rattle.fm_top.specs.Taking.{Takes, TakesAll, TakesLong, TakesPlan, IsTaken};
 ghost use Rattle.fm_top.specs.Taking.{IsLeftAlone, offered, remaining};
 
@@ -36,6 +37,25 @@ pub fn read_score<S: Source>(
     ensures stopped { IfErr result (λ fault.
         IsTaken S.left S.faults asked source.old source.new fault) }
 {
+    let (_, plan) = read_text_and_plan(alloc, asked, source)?;
+    Ok(plan)
+}
+
+/// The same with the text.
+pub fn read_text_and_plan<S: Source>(
+    alloc: Global,
+    asked: Option<u32>,
+    source: &mut S,
+) -> Result<(Vec<u8>, Plan), RunFault>
+    requires { IfSome asked (λ number. number ≤ MAX_NUMBER) }
+    ensures takes { Takes S.left S.faults MAX_TEXT source.old source.new }
+    ensures unread { IsLeftAlone asked source.old source.new }
+    ensures text { IfOk result (λ r. TakesAll MAX_TEXT
+        (offered asked (S.left source.old)) (remaining asked (S.left source.new)) r.0.items) }
+    ensures planned { IfOk result (λ r. IsPlanned r.0.items r.1) }
+    ensures stopped { IfErr result (λ fault.
+        IsTaken S.left S.faults asked source.old source.new fault) }
+{
     let text = match take_text(alloc, asked, source) {
         Ok(text) => text,
         Err(ReadFault::Failed) => return Err(RunFault::Read),
@@ -47,7 +67,10 @@ pub fn read_score<S: Source>(
         }
         Err(ReadFault::Memory) => return Err(RunFault::Memory),
     };
-    judge(alloc, &text)
+    match judge(alloc, &text) {
+        Ok(plan) => Ok((text, plan)),
+        Err(fault) => Err(fault),
+    }
 }
 
 // The text of the large score that is asked for by its number, or the text of the source.

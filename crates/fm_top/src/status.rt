@@ -9,7 +9,7 @@ pub const WORDS_REFUSED: u8 = 1;
 /// A read failed.
 pub const READ_FAULT: u8 = 2;
 
-/// The text is refused.
+/// The text, the file or the record is refused.
 pub const SCORE_REFUSED: u8 = 3;
 
 /// A write failed.

@@ -6,7 +6,8 @@ ghost use Rattle.fm_top.specs.Tasks.{task_of};
 use fm_words::Options;
 
 /// What a run is asked to do. Where several of the later options stand, the first counts of
-/// `--list`, `--locate`, `--parts`, and `--from` with `--to`; where none does, a score is played.
+/// `--audit`, `--list`, `--record`, `--locate`, `--parts`, and `--from` with `--to`; where none
+/// does, a score is played.
 #[derive(Clone, Copy, Debug, PartialEq, Eq)]
 pub enum Task {
     /// A score is played: that of the source, or the large score of a number.
@@ -25,6 +26,15 @@ pub enum Task {
     },
     /// A Standard MIDI File is listed.
     List,
+    /// A score is played on record, by so many workers, with this room and lead.
+    Record {
+        generate: Option<u32>,
+        workers: u32,
+        room: u32,
+        lead: u64,
+    },
+    /// A record of a run is audited, and the file of its score is written.
+    Audit,
     /// A tick is located in the levels that are open where a process starts.
     Locate {
         generate: Option<u32>,
@@ -38,8 +48,23 @@ pub fn task_of(options: &Options) -> Task
     ensures { result ≡ task_of (options_view options.now) }
 {
     let generate = options.generate;
+    if options.audited {
+        return Task::Audit;
+    }
     if options.list {
         return Task::List;
+    }
+    if options.recorded {
+        return Task::Record {
+            generate,
+            workers: if options.workers == 0 {
+                1
+            } else {
+                options.workers
+            },
+            room: options.room,
+            lead: options.lead,
+        };
     }
     if let Some(tick) = options.locate {
         return Task::Locate {

@@ -1,7 +1,7 @@
 //! What the console is told of a run, and the exit status.
 ghost use Rattle.std.specs.Prelude.{◌≡◌, ◌+◌, ◌≤◌, ◌++◌, length, decimal};
 ghost use Rattle.arrayvec.specs.ArrayVec.{array_vec_len};
-ghost use Rattle.fm_top.specs.Telling.{fault_status, place_text, byte_text, fault_text, Tells};
+ghost use Rattle.fm_top.specs.Telling.{fault_status, place_text, placed_text, fault_text, Tells};
 ghost use Rattle.fm_top.specs.Telling.{TellsEnd};
 ghost use Rattle.fm_top.specs.Summing.{told_text};
 
@@ -57,12 +57,13 @@ fn text_at(line: u32, column: u32, number: u8) -> Text
     text
 }
 
-// The line of a refused file, with the byte and the number of its fault.
-fn text_at_byte(place: u32, number: u8) -> Text
-    ensures { result.items ≡ byte_text place number }
+// The line of a refused file or record, with the place and the number of its fault.
+fn text_at_place(front: &[u8], place: u32, number: u8) -> Text
+    requires { length front.now ≤ 28 }
+    ensures { result.items ≡ placed_text front.now place number }
 {
     let mut text = Text::new();
-    push_bytes(&mut text, b"formula: file refused: byte ");
+    push_bytes(&mut text, front);
     push_decimal(&mut text, place);
     push_bytes(&mut text, b" fault ");
     push_decimal(&mut text, u32::from(number));
@@ -89,7 +90,12 @@ fn text_of(fault: RunFault) -> Text
         RunFault::Words => fixed_text(b"formula: words refused\n"),
         RunFault::Read => fixed_text(b"formula: read fault\n"),
         RunFault::Score { spot, number } => text_at(spot.line, spot.column, number),
-        RunFault::File { place, number } => text_at_byte(place, number),
+        RunFault::File { place, number } => {
+            text_at_place(b"formula: file refused: byte ", place, number)
+        }
+        RunFault::Record { place, number } => {
+            text_at_place(b"formula: record refused: ", place, number)
+        }
         RunFault::NoProcess => fixed_text(b"formula: no such process\n"),
         RunFault::Write => fixed_text(b"formula: write fault\n"),
         RunFault::Memory => fixed_text(b"formula: out of memory\n"),
@@ -103,7 +109,7 @@ fn status_of(fault: RunFault) -> u8
     match fault {
         RunFault::Words => WORDS_REFUSED,
         RunFault::Read => READ_FAULT,
-        RunFault::Score { .. } | RunFault::File { .. } => SCORE_REFUSED,
+        RunFault::Score { .. } | RunFault::File { .. } | RunFault::Record { .. } => SCORE_REFUSED,
         RunFault::NoProcess => NO_PROCESS,
         RunFault::Write => WRITE_FAULT,
         RunFault::Memory => OUT_OF_MEMORY,

@@ -1,5 +1,6 @@
 mod large;
 mod lines;
+mod records;
 mod rows;
 mod scripted;
 mod tasks;

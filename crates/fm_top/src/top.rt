@@ -8,11 +8,10 @@ ghost use Rattle.fm_top.specs.Taking.{Takes, IsLeftAlone};
 ghost use Rattle.fm_top.specs.Tasks.{most_asked, number_asked, task_asked};
 ghost use Rattle.fm_top.specs.Outcome.{WritesScore, RunEnds, StatusCause, Completes};
 
+use crate::laws::each_input_has_one_verdict;
 use crate::run::run;
 use crate::tell::{tell, tell_end};
 use fm_edge::{Console, Gate, Sink, Source};
-use fm_meaning::each_text_has_one_verdict;
-use fm_position::ticks_are_told_once;
 use std::alloc::Global;
 use std::sync::Wait;
 use std::thread::Threads;
@@ -20,10 +19,12 @@ use std::thread::Threads;
 /// Reads the words, does what they ask for with the source and the new sink, and answers with an
 /// exit status from 0 to 7. Without the later options the text of the source, or the large score
 /// that the words ask for, is played, and its file written. With `--parts` that file has a track
-/// for each channel, and with `--from` or `--to` it is an excerpt. With `--list` a Standard MIDI
-/// File is listed; with `--locate` a tick is located. The console is told in one line of each run
-/// that does not end with that, of each large score that is played, and of a tick. Threads pass
-/// the gate round each time slice; a run with 0 workers has none.
+/// for each channel, and with `--from` or `--to` it is an excerpt; with `--record` the record of
+/// the performance is put. With `--list` a Standard MIDI File is listed; with `--audit` the record
+/// of a run is audited, and the file of its score written; with `--locate` a tick is located. The
+/// console is told in one line of each run that does not end with that, of each large score that
+/// is played, and of a tick. Threads pass the gate round each time slice; a run with 0 workers has
+/// none, but for a record, which takes one worker at least.
 pub fn formula<R: Threads + Wait + Sync, S: Source, K: Sink, C: Console, G: Gate + Sync>(
     rt: &R,
     alloc: Global,
@@ -63,8 +64,7 @@ pub fn formula<R: Threads + Wait + Sync, S: Source, K: Sink, C: Console, G: Gate
         C.content C.sure C.faults (task_asked (settings_of (map string_bytes words.now)))
         source.old source.new sink.old sink.new console.old console.new result }
 {
-    each_text_has_one_verdict();
-    ticks_are_told_once();
+    each_input_has_one_verdict();
     match run(rt, alloc, words, source, sink, gate) {
         Ok(told) => tell_end(told, console),
         Err(fault) => tell(fault, console),

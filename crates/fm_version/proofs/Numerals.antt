@@ -1,17 +1,18 @@
--- What version 1 fixes, in numbers.
-use Rattle.std.proofs.Common.{◌≡◌, refl}
-use Rattle.fm_grammar.specs.Score.{Score}
-use Rattle.fm_meaning.specs.Rules.{version_number, score_rules}
-use Rattle.fm_version.specs.declared.rules.TheConstants.{VERSION}
+-- What each version fixes, in numbers.
+use Rattle.std.proofs.Common.{◌≡◌, true, false, refl}
+use Rattle.fm_meaning.specs.Rules.{first_version, last_version, first_rules, last_rules}
+use Rattle.fm_version.specs.declared.rules.TheConstants.{FIRST_VERSION, LAST_VERSION}
 
-version : VERSION ≡ version_number
-version = refl
+first : FIRST_VERSION ≡ first_version
+first = refl
 
-ticks_of_a_whole_note : (s : Score) → (score_rules s).whole_note ≡ 1920
-ticks_of_a_whole_note s = refl
+last : LAST_VERSION ≡ last_version
+last = refl
 
-ticks_of_a_quarter_note : (s : Score) → (score_rules s).profile.division ≡ 480
-ticks_of_a_quarter_note s = refl
+-- in version 1 a whole note has 1,920 ticks
+first_rules_are : first_rules ≡ record { profile = record { running = false; division = 480 }; whole_note = 1920; most_processes = 4096 }
+first_rules_are = refl
 
-most_processes : (s : Score) → (score_rules s).most_processes ≡ 4096
-most_processes s = refl
+-- in version 2 it has four times the ticks that the score states
+last_rules_are : last_rules 96 ≡ record { profile = record { running = true; division = 96 }; whole_note = 384; most_processes = 16384 }
+last_rules_are = refl

@@ -13,5 +13,5 @@ mod shape;
 mod tests;
 
 pub use length::{ticks, ticks_of};
-pub use rules::{Rules, VERSION, rules_of};
+pub use rules::{FIRST_VERSION, LAST_VERSION, Rules, rules_of};
 pub use shape::warp_of;

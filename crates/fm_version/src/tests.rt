@@ -1,4 +1,4 @@
-use crate::{VERSION, rules_of, ticks_of};
+use crate::{FIRST_VERSION, LAST_VERSION, rules_of, ticks_of};
 use fm_grammar::{Length, Number, Score};
 use fm_lex::Spot;
 
@@ -19,7 +19,8 @@ const fn share(over: u32, under: u32) -> Length {
 #[test]
 fn first_version(rt: HostRuntime) {
     let score = Score {
-        version: number(VERSION),
+        version: number(FIRST_VERSION),
+        division: None,
         seed: None,
         entries: Vec::new(rt.alloc()),
     };
@@ -28,6 +29,23 @@ fn first_version(rt: HostRuntime) {
     assert_eq!(rt; rules.profile.division, 480);
     assert_eq!(rt; rules.whole_note, 1_920);
     assert_eq!(rt; rules.most_processes, 4_096);
+}
+
+#[test]
+fn last_version(rt: HostRuntime) {
+    let mut score = Score {
+        version: number(LAST_VERSION),
+        division: Some(number(96)),
+        seed: None,
+        entries: Vec::new(rt.alloc()),
+    };
+    let rules = rules_of(&score);
+    assert!(rt; rules.profile.running);
+    assert_eq!(rt; rules.profile.division, 96);
+    assert_eq!(rt; rules.whole_note, 384);
+    assert_eq!(rt; rules.most_processes, 16_384);
+    score.division = None;
+    assert_eq!(rt; rules_of(&score).profile.division, 480);
 }
 
 #[test]

@@ -31,6 +31,8 @@ asked source target workers lead room rounds = Some (record {
   process = 0;
   from = None;
   to = None;
+  recorded = false;
+  audited = false;
 })
 
 -- no word at all

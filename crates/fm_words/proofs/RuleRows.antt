@@ -1,16 +1,9 @@
--- The rules at work: with a larger table, what some lines are cut into, and whether they keep them.
+-- The rules at work: what some lines are cut into, and whether they keep them.
 -- A `|` stands between two words.
-use Rattle.std.proofs.Common.{◌≡◌, List, [], ◌∷◌, Some, None, true, false, refl, codes, map, replicate}
+use Rattle.std.proofs.Common.{◌≡◌, [], ◌∷◌, Some, None, true, false, refl, codes, map, replicate}
 use Rattle.fm_words.specs.Asked.{flagged, numbered, options, settings_by_rules}
-use Rattle.fm_words.specs.Rules.{Choice, file, flag, is_table, keeps_rules, number_within, parts_after, parts_of, stray, unvalued, valued}
+use Rattle.fm_words.specs.Rules.{file, flag, is_table, keeps_rules, number_within, parts_after, parts_of, stray, unvalued, valued}
 use Rattle.fm_words.proofs.Rows.{asked, words_in}
-
--- options with a flag more
-abbrev larger : List Choice
-larger = flagged (codes "record") ∷ options
-
-larger_is_a_table : is_table larger ≡ true
-larger_is_a_table = refl
 
 -- two options of one name, and an option with the name of a file
 no_tables : map is_table (
@@ -19,7 +12,7 @@ no_tables : map is_table (
     ≡ replicate 2 false
 no_tables = refl
 
-some_parts : map (λ line. parts_of larger (words_in line)) (
+some_parts : map (λ line. parts_of options (words_in line)) (
     codes "a|--from|5|b|--list" ∷
     codes "--from=5|--to=|--list=1|--to" ∷
     codes "--from|--list|-|--|--list|-5" ∷
@@ -32,7 +25,7 @@ some_parts : map (λ line. parts_of larger (words_in line)) (
 unfolding parts_after
 some_parts = refl
 
-kept : map (λ line. keeps_rules larger (parts_of larger (words_in line))) (
+kept : map (λ line. keeps_rules options (parts_of options (words_in line))) (
     codes "a|b" ∷
     codes "a|--from|1099511627776|b|--list" ∷
     codes "--process=16383|--|-a|--" ∷
@@ -42,7 +35,7 @@ unfolding parts_after
 kept = refl
 
 -- one name, three, an option twice, a number past its range, no number, no value, another word
-broken : map (λ line. keeps_rules larger (parts_of larger (words_in line))) (
+broken : map (λ line. keeps_rules options (parts_of options (words_in line))) (
     codes "a" ∷
     codes "a|b|c" ∷
     codes "a|b|--list|--list" ∷
@@ -65,7 +58,7 @@ some_numbers = refl
 some_settings : map (λ line. settings_by_rules (words_in line)) (
     codes "a|--lead=+5|b|--rounds" ∷
     codes "--room|64|a|--|--" ∷
-    codes "a|b|--record" ∷ [])
+    codes "a|b|--records" ∷ [])
     ≡ asked (codes "a") (codes "b") 4 5 32 true ∷ asked (codes "a") (codes "--") 4 7680 64 false ∷ None ∷ []
 unfolding parts_after settings_by_rules
 some_settings = refl

@@ -93,6 +93,8 @@ made parts workers lead room generate locate process first last = record {
   process = process;
   from = first;
   to = last;
+  recorded = has_flag_named (codes "record") parts;
+  audited = has_flag_named (codes "audit") parts;
 }
 
 -- eight numbers one after the other, each none where its test fails
@@ -136,6 +138,8 @@ module _ (words : List Word) where
         finds.flags (codes "rounds") refl,
         finds.flags (codes "list") refl,
         finds.flags (codes "parts") refl,
+        finds.flags (codes "record") refl,
+        finds.flags (codes "audit") refl,
         or_default 0 MAX_WORKERS DEFAULT_WORKERS (text_for (codes "workers") parts) (omega arith),
         or_default 0 MAX_LEAD DEFAULT_LEAD (text_for (codes "lead") parts) (omega arith),
         or_default MIN_ROOM MAX_ROOM DEFAULT_ROOM (text_for (codes "room") parts) (omega arith),

@@ -91,3 +91,34 @@ no_excerpts : map (λ line. settings_of (words_in line)) (
     ≡ replicate 9 None
 unfolding clap_on_literals command settings_in settings_of
 no_excerpts = refl
+
+-- whether a record is made, and whether one is audited
+abbrev records : Settings → Bool × Bool
+records s = (s.recorded, s.audited)
+
+some_records : map (λ line. option_map records (settings_of (words_in line))) (
+    codes "a|b" ∷
+    codes "a|b|--record" ∷
+    codes "--audit|a|b" ∷
+    codes "--record|a|--list|--audit|b" ∷
+    codes "--|--record|--audit" ∷ [])
+    ≡ (
+    Some (false, false) ∷
+    Some (true, false) ∷
+    Some (false, true) ∷
+    Some (true, true) ∷
+    Some (false, false) ∷ [])
+unfolding clap_on_literals command settings_in settings_of
+some_records = refl
+
+-- flags of records that are refused
+no_records : map (λ line. settings_of (words_in line)) (
+    codes "a|b|--record=" ∷
+    codes "a|b|--record|--record" ∷
+    codes "a|b|--records" ∷
+    codes "a|b|--audit=1" ∷
+    codes "a|b|--audit|--record|--audit" ∷
+    codes "a|--audit" ∷ [])
+    ≡ replicate 6 None
+unfolding clap_on_literals command settings_in settings_of
+no_records = refl

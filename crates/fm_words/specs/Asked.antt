@@ -27,6 +27,8 @@ options = numbered (codes "workers") 0 MAX_WORKERS
     ∷ numbered (codes "process") 0 MAX_PROCESS
     ∷ numbered (codes "from") 0 MAX_TICK_ASKED
     ∷ numbered (codes "to") 0 MAX_TICK_ASKED
+    ∷ flagged (codes "record")
+    ∷ flagged (codes "audit")
     ∷ []
 
 -- the number that is given for an option
@@ -49,6 +51,8 @@ settings_in_parts parts = record {
   process = unwrap_or (number_for (codes "process") parts) DEFAULT_PROCESS;
   from = number_for (codes "from") parts;
   to = number_for (codes "to") parts;
+  recorded = has_flag_named (codes "record") parts;
+  audited = has_flag_named (codes "audit") parts;
 }
 
 -- what words ask for; none where they break a rule

@@ -21,16 +21,17 @@ flag_named id = record (new_rule id) { long = Some id; action = Some SetTrue }
 abbrev pub bare_command : App
 bare_command = on_top (λ s. record s { no_binary_name = true; disable_help_flag = true }) (new_app (codes "formula"))
 
--- two texts, eight options and three flags
+-- two texts, eight options and five flags
 unfoldable pub command : App
 command = with_rule (with_rule (with_rule (with_rule (with_rule (with_rule (with_rule (with_rule
-    (with_rule (with_rule (with_rule (with_rule (with_rule bare_command
+    (with_rule (with_rule (with_rule (with_rule (with_rule (with_rule (with_rule bare_command
     (text_named (codes "IN"))) (text_named (codes "OUT")))
     (option_named (codes "workers"))) (option_named (codes "lead"))) (option_named (codes "room")))
     (option_named (codes "generate"))) (flag_named (codes "rounds")))
     (flag_named (codes "list"))) (flag_named (codes "parts")))
     (option_named (codes "locate"))) (option_named (codes "process")))
-    (option_named (codes "from"))) (option_named (codes "to"))
+    (option_named (codes "from"))) (option_named (codes "to")))
+    (flag_named (codes "record"))) (flag_named (codes "audit"))
 
 -- an option of a table
 abbrev pub option_of : Choice → Rule

@@ -11,7 +11,7 @@ use Rattle.fm_words.specs.Command.{command}
 use Rattle.fm_words.specs.declared.limits.TheConstants.{DEFAULT_LEAD, DEFAULT_PROCESS, DEFAULT_ROOM, DEFAULT_WORKERS, MAX_GENERATE, MAX_LEAD, MAX_PROCESS, MAX_ROOM, MAX_TICK_ASKED, MAX_WORKERS, MIN_ROOM}
 
 -- what the words ask for: two names of files, three numbers, the number of a large score or none,
--- three flags, a tick to locate or none, the number of a process, and the ticks where an excerpt begins
+-- five flags, a tick to locate or none, the number of a process, and the ticks where an excerpt begins
 -- and ends, each a tick or none
 pub record Settings : Type 0 where
   pub source : Text
@@ -27,6 +27,8 @@ pub record Settings : Type 0 where
   pub process : ℕ
   pub from : Option ℕ
   pub to : Option ℕ
+  pub recorded : Bool
+  pub audited : Bool
 
 -- the number that a text spells, digits with at most one `+` before them, where it lies in the range
 abbrev pub number_in : ℕ → ℕ → Text → Option ℕ
@@ -68,6 +70,8 @@ settings_in rows =
       process = process;
       from = from;
       to = to;
+      recorded = has_flag (first_of (codes "record") rows);
+      audited = has_flag (first_of (codes "audit") rows);
     })
     (number_if_any 0 MAX_TICK_ASKED (first_of (codes "to") rows)))
     (number_if_any 0 MAX_TICK_ASKED (first_of (codes "from") rows)))

@@ -24,6 +24,8 @@ options_view o = record {
   process = o.process;
   from = o.from;
   to = o.to;
+  recorded = o.recorded;
+  audited = o.audited;
 }
 
 -- the settings that are lent from the words
@@ -42,6 +44,8 @@ chosen_view c = record {
   process = c.process;
   from = c.from;
   to = c.to;
+  recorded = c.recorded;
+  audited = c.audited;
 }
 
 -- the numbers lie in their ranges

@@ -32,6 +32,8 @@ pub struct Chosen<'a> {
     pub process: u32,
     pub from: Option<u64>,
     pub to: Option<u64>,
+    pub recorded: bool,
+    pub audited: bool,
 }
 
 /// What the command finds in the words.
@@ -79,6 +81,8 @@ pub fn chosen_in<'a>(matches: &ArgMatches<'a>) -> Option<Chosen<'a>>
     let process = number_of(matches, "process", 0, MAX_PROCESS, DEFAULT_PROCESS)?;
     let from = number_if_given(matches, "from", MAX_TICK_ASKED)?;
     let to = number_if_given(matches, "to", MAX_TICK_ASKED)?;
+    let recorded = flag_of(matches, "record");
+    let audited = flag_of(matches, "audit");
     Some(Chosen {
         source,
         target,
@@ -93,6 +97,8 @@ pub fn chosen_in<'a>(matches: &ArgMatches<'a>) -> Option<Chosen<'a>>
         process: process as u32,
         from,
         to,
+        recorded,
+        audited,
     })
 }
 

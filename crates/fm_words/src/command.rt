@@ -6,7 +6,7 @@ ghost use Rattle.fm_words.specs.Command.{bare_command, command, flag_named, opti
 use clap::{Arg, ArgAction, Command};
 use std::alloc::{AllocError, Global};
 
-/// The command: two texts, eight options with a value, and three flags; no help and no version.
+/// The command: two texts, eight options with a value, and five flags; no help and no version.
 pub fn formula_command<'a>(alloc: Global) -> Result<Command<'a>, AllocError>
     ensures { IfOk result (λ c. app_of c ≡ command) }
 {
@@ -23,7 +23,9 @@ pub fn formula_command<'a>(alloc: Global) -> Result<Command<'a>, AllocError>
         .arg(option(alloc, "locate"))?
         .arg(option(alloc, "process"))?
         .arg(option(alloc, "from"))?
-        .arg(option(alloc, "to"))
+        .arg(option(alloc, "to"))?
+        .arg(flag(alloc, "record"))?
+        .arg(flag(alloc, "audit"))
 }
 
 // The command without words, whose list of words begins after the program's name.

@@ -1,5 +1,6 @@
 //! The words of the command line: `IN OUT [--workers N] [--lead T] [--room K] [--generate N]
-//! [--rounds] [--list] [--parts] [--locate T] [--process P] [--from A] [--to B]`.
+//! [--rounds] [--list] [--parts] [--locate T] [--process P] [--from A] [--to B] [--record]
+//! [--audit]`.
 //!
 //! `read_options` reads the words after the program's name, and gives [`Options`] whose numbers lie
 //! in their ranges; `names` gives the two file names alone. Both refuse the same words, which are

@@ -38,6 +38,10 @@ pub struct Options {
     pub from: Option<u64>,
     /// The tick before which an excerpt ends, 0 to 2^40; else none.
     pub to: Option<u64>,
+    /// Whether a record of the run is written in place of the file.
+    pub recorded: bool,
+    /// Whether a record is read and audited in place of a performance of a text.
+    pub audited: bool,
 }
 
 /// Reads the words after the program's name. The first text is the file that is read and the second
@@ -69,6 +73,8 @@ pub fn read_options(alloc: Global, words: &[String]) -> Result<Options, WordsFau
         process: chosen.process,
         from: chosen.from,
         to: chosen.to,
+        recorded: chosen.recorded,
+        audited: chosen.audited,
     })
 }
 

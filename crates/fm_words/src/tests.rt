@@ -78,6 +78,12 @@ const REFUSED: &[&str] = &[
     "a|b|--to|-5",
     "a|b|--to=5|--to=6",
     "a|b|--from-to|5",
+    "a|b|--record=",
+    "a|b|--record|--record",
+    "a|b|--records",
+    "a|b|--audit=1",
+    "a|b|--audit|--record|--audit",
+    "a|--audit",
     "--|a|b|--",
     "a|b|c",
     "a",
@@ -173,6 +179,15 @@ const EXCERPTS: &[(&str, Option<u64>, Option<u64>)] = &[
     ("--|--from|--to", None, None),
 ];
 
+/// Lines of words, and whether they ask for a record to be made and for one to be audited.
+const RECORDS: &[(&str, bool, bool)] = &[
+    ("a|b", false, false),
+    ("a|b|--record", true, false),
+    ("--audit|a|b", false, true),
+    ("--record|a|--list|--audit|b", true, true),
+    ("--|--record|--audit", false, false),
+];
+
 fn words_of(alloc: Global, line: &str) -> Result<Vec<String>, AllocError> {
     let mut words = Vec::new(alloc);
     for word in line.split('|') {
@@ -232,6 +247,16 @@ fn words_ask_for_the_ticks_round_an_excerpt(rt: HostRuntime) -> Result<(), Fail>
     for (line, first, last) in EXCERPTS {
         let o = read_options(alloc, &words_of(alloc, line)?)?;
         assert_eq!(rt; (o.from, o.to), (*first, *last), "{line}");
+    }
+    Ok(())
+}
+
+#[test]
+fn words_ask_for_records_and_audits(rt: HostRuntime) -> Result<(), Fail> {
+    let alloc = rt.alloc();
+    for (line, recorded, audited) in RECORDS {
+        let o = read_options(alloc, &words_of(alloc, line)?)?;
+        assert_eq!(rt; (o.recorded, o.audited), (*recorded, *audited), "{line}");
     }
     Ok(())
 }

@@ -15,6 +15,7 @@ syntax match formulaIndex /\<n\([0-9]\|1[0-5]\)\>/
 syntax match formulaNumber /\<[0-9]\{1,9}\>/
 syntax match formulaSymbol /[;{}()\[\],=\/+*%-]/
 syntax keyword formulaHead formula seed
+syntax match formulaHead /\<division\>\ze[ \t\r\n]\+[0-9]/
 syntax keyword formulaDefinition shape phrase
 syntax keyword formulaStatement note play rest skip control program bend set do
 syntax keyword formulaBlock if else repeat par branch warp channel volume gate rhythm artic loud

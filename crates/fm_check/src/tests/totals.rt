@@ -17,9 +17,10 @@ const TOTALS: &[(&str, u32, u32, u64, u32, u32)] = &[
         4,
         9,
     ),
+    // Notes that overlap count as others do.
     (
         "formula 1; shape w = flat 1/4 by 1000, pause ticks 120; \
-             gate 100 { warp w { note c4 1/4; note d4 1/4; } }",
+             gate 400 { warp w { note c4 1/4; note d4 1/4; } }",
         1,
         6,
         1080,
@@ -43,6 +44,16 @@ const TOTALS: &[(&str, u32, u32, u64, u32, u32)] = &[
         0,
         4096,
     ),
+    // The totals of version 2 go by its division, and allow for more processes.
+    (
+        "formula 2; repeat 5461 { par { branch { } branch { } } }",
+        16384,
+        21846,
+        0,
+        0,
+        16384,
+    ),
+    ("formula 2; division 96; rest 1/1;", 1, 2, 384, 0, 2),
     (
         "formula 1; repeat 1000000 { rest ticks 1000000; } \
              repeat 99511 { rest ticks 1000000; } rest ticks 627776;",
@@ -96,6 +107,12 @@ const LIMITS: &[Row] = &[
         (0, 0, 0),
     ),
     ("formula 1; repeat 2048 { par { branch { } } }", (13, 1, 12)),
+    // In version 2, 16,384 and one more.
+    (
+        "formula 2; repeat 5461 { par { branch { } branch { } } }",
+        (0, 0, 0),
+    ),
+    ("formula 2; repeat 8192 { par { branch { } } }", (13, 1, 12)),
     // 2^40 ticks and one more.
     (
         "formula 1; repeat 1000000 { rest ticks 1000000; } \

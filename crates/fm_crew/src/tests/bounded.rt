@@ -8,7 +8,7 @@ ghost use Rattle.fm_crew.specs.Workers.{AreWorkers, IsWorker};
 
 use super::{FILE, plan_of_three_voices};
 use crate::playing::work_all;
-use crate::{Calls, conduct, open, worker};
+use crate::{Calls, Work, conduct, open, worker};
 use fm_board::{Berth, Board, BoardSeat, Claim, Seen, Started};
 use fm_buffer::Gather;
 use fm_core::Floor;
@@ -77,7 +77,7 @@ impl<R: Abort> Calls for Bounded<'_, R> {
         self.board.record(seat, berth);
     }
 
-    fn give(&self, seat: &mut BoardSeat, berth: Berth) {
+    fn give(&self, seat: &mut BoardSeat, berth: Berth, _work: Work) {
         self.count();
         self.board.give(seat, berth);
     }

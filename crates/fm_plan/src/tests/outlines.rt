@@ -21,6 +21,7 @@ fn outlines_a_rest(rt: HostRuntime) -> Result<(), AllocError> {
     })?;
     let score = Score {
         version: number(1, 9),
+        division: None,
         seed: Some(number(7, 17)),
         entries,
     };
@@ -71,6 +72,7 @@ fn a_fork_in_a_phrase_is_found_in_a_loop(rt: HostRuntime) -> Result<(), AllocErr
     entries.push(Entry::Play { item: looped })?;
     let score = Score {
         version: Number { value: 1, spot },
+        division: None,
         seed: None,
         entries,
     };

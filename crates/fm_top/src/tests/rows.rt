@@ -108,6 +108,24 @@ const PLAYED: &[Piece] = &[
             0xFF, 0x2F, 0,
         ],
     ),
+    // version 2: a status byte that the event before has is left out
+    (
+        FILES,
+        "formula 2; note c4, e4 1/4;",
+        &[
+            0, 0x90, 0x3C, 0x40, 0, 0x40, 0x40, 0x83, 0x30, 0x80, 0x3C, 0x40, 0, 0x40, 0x40, 0x30,
+            0xFF, 0x2F, 0,
+        ],
+    ),
+    // but not behind a filler
+    (
+        FILES,
+        "formula 2; control 7 1; repeat 300 { rest ticks 1000000; } control 7 2;",
+        &[
+            0, 0xB0, 7, 1, 0xFF, 0xFF, 0xFF, 0x7F, 0xFF, 1, 0, 0x8F, 0x86, 0xC6, 1, 0xB0, 7, 2, 0,
+            0xFF, 0x2F, 0,
+        ],
+    ),
     // controls and bends
     (
         FILES,
@@ -156,7 +174,7 @@ const REFUSED: &[(&str, &str)] = &[
         "formula 1; repeat 1000000 { note c4, d4, e4 ticks 0; } skip;",
         "1:56 fault 10",
     ),
-    ("formula 2;", "1:9 fault 7"),
+    ("formula 3;", "1:9 fault 7"),
     ("formula 1; note c4 1/7;", "1:20 fault 8"),
     (
         "formula 1; repeat (pick(4)) max 4 { par { branch { } } }",

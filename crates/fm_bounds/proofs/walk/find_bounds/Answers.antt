@@ -1,7 +1,8 @@
 use Rattle.std.proofs.Common.{◌≡◌, ◌+◌, ◌∙◌, Err, map, drop, ap, sym, arith}
 use Rattle.std.proofs.lemmas.Result.{err_from_is_err_and}
 use Rattle.fm_grammar.specs.View.{score_view, entry_view}
-use Rattle.fm_bounds.specs.declared.fault.BoundsFault.TheVariants.{Refused}
+use Rattle.fm_fault.specs.declared.fault.CheckFault.TheVariants.{Refused}
+use Rattle.fm_meaning.proofs.Versions.{few_processes}
 use Rattle.fm_bounds.proofs.WalkLemmas.{begun, at_end, at_entry, ends}
 use Rattle.fm_bounds.proofs.walk.find_bounds.Goals as goal
 
@@ -34,7 +35,7 @@ overflow_cast-result c =
     let all = rw c.deref-entry-items.ensures.value at c.loop-entry-test.false in
     let left = at_end score walk c.args.score.now.entries.items c.loop-entry.entry-index all c.loop-entry.invariant in
     let e = ends score walk c.whole-whole.result c.whole-whole.ensures left in
-    omega (arith, e.processes)
+    omega (arith, e.processes, few_processes score)
 
 pub overflow_cast-result-2 : goal.overflow_cast-result-2
 overflow_cast-result-2 c =

@@ -7,7 +7,7 @@ use Rattle.fm_grammar.specs.View.{score_view}
 use Rattle.fm_grammar.specs.Within.{limits}
 use Rattle.fm_grammar.specs.Reads.{Reads, Fault}
 use Rattle.fm_grammar.specs.Rules.{whole}
-use Rattle.fm_grammar.specs.Table.{first_fault}
+use Rattle.fm_grammar.specs.Table.{is_divided, first_fault}
 use Rattle.fm_parse.specs.declared.fault.ParseFault.{ParseFault}
 use Rattle.fm_parse.specs.Follow.{At}
 use Rattle.fm_parse.specs.Whole.{IsFault, WholeRead, Closes}
@@ -15,19 +15,19 @@ use Rattle.fm_parse.proofs.Verdicts.{answered, refused_with, all_read, all_trip,
 use Rattle.fm_parse.proofs.text.parse.Goals as goal
 
 whole_ok : (text : List ℕ) (l : List Lexed) (r : Result code_score.Score ParseFault) → l ≡ tokens text
-    → IfOk r (λ s. WholeRead (score_view s) l) → ((F : Option Fault) → At F 0 whole l → Closes F r)
+    → IfOk r (λ s. WholeRead (score_view s) l) → ((F : Option Fault) → At F 0 (whole (is_divided l)) l → Closes F r)
     → IfOk r (λ s. Reads limits (tokens text) (score_view s))
 whole_ok text l r is read closes =
     all_read text r (subst (λ (y : List Lexed). IfOk r (λ s. WholeRead (score_view s) y)) is read)
-    (closes (first_fault (tokens text)) (subst (λ (y : List Lexed). At (first_fault (tokens text)) 0 whole y) (sym is)
-    (at_start (tokens text))))
+    (closes (first_fault (tokens text)) (subst (λ (y : List Lexed). At (first_fault (tokens text)) 0 (whole (is_divided y)) y)
+    (sym is) (at_start (tokens text))))
 
 whole_err : (text : List ℕ) (l : List Lexed) (r : Result code_score.Score ParseFault) → l ≡ tokens text
-    → ((F : Option Fault) → At F 0 whole l → Closes F r) → IfErr r (λ e. IsFault e (tokens text))
+    → ((F : Option Fault) → At F 0 (whole (is_divided l)) l → Closes F r) → IfErr r (λ e. IsFault e (tokens text))
 whole_err text l r is closes =
     all_trip (tokens text) r
-    (closes (first_fault (tokens text)) (subst (λ (y : List Lexed). At (first_fault (tokens text)) 0 whole y) (sym is)
-    (at_start (tokens text))))
+    (closes (first_fault (tokens text)) (subst (λ (y : List Lexed). At (first_fault (tokens text)) 0 (whole (is_divided y)) y)
+    (sym is) (at_start (tokens text))))
 
 pub returns-in-Ok-clause-reads : goal.returns-in-Ok-clause-reads
 returns-in-Ok-clause-reads c = whole_ok c.args.source.now _ _ c.in-Ok.ensures.ok c.read_score.ensures.text

@@ -4,7 +4,8 @@ use Rattle.fm_grammar.specs.Score as text
 use Rattle.fm_grammar.specs.View.{item_view, items_view}
 use Rattle.fm_grammar.specs.declared.item.Item.{the_lemmas}
 use Rattle.fm_meaning.specs.Faults.{first_found}
-use Rattle.fm_places.specs.Found.{found, numbered, needs_at, depths_view, branches_view}
+use Rattle.fm_fault.specs.Found.{found, numbered}
+use Rattle.fm_places.specs.Found.{needs_at, depths_view, branches_view}
 use Rattle.fm_places.specs.Statements.{inner_places, body_places}
 use Rattle.fm_places.proofs.LoopLemmas.{map_twice}
 use Rattle.fm_places.proofs.FirstLemmas.{first_of_both, first_of_second, item_clean, item_fault, branch_clean, branch_fault}

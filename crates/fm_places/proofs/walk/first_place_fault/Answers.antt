@@ -5,7 +5,7 @@ use Rattle.fm_meaning.specs.Fault.{NumberedFault}
 use Rattle.fm_meaning.specs.Faults.{first_found}
 use Rattle.fm_meaning.specs.Rules.{score_rules}
 use Rattle.fm_meaning.specs.Resolve as meaning
-use Rattle.fm_places.specs.Found.{numbered}
+use Rattle.fm_fault.specs.Found.{numbered}
 use Rattle.fm_places.specs.Statements.{entries_places, nothing_known}
 use Rattle.fm_places.proofs.TextNeeds.{knows_nothing}
 use Rattle.fm_places.proofs.FirstPlaces.{entries_first}

@@ -1,7 +1,7 @@
 use Rattle.std.proofs.Common.{◌<◌, ℕ, List, All, length, refl, sym, ◌∙◌, ap, subst, arith}
 use Rattle.fm_nest.specs.declared.place.Place.{Place}
 use Rattle.fm_program.specs.Parts.{process_program}
-use Rattle.fm_strand.proofs.BeginLemmas.{begin-depth, begin-limited, named-all, opens}
+use Rattle.fm_player.proofs.BeginLemmas.{begin-depth, begin-limited, named-all, opens}
 use Rattle.fm_warp.specs.declared.part.Part.{Part}
 use Rattle.fm_position.specs.declared.position.Position.{Position}
 use Rattle.fm_position.proofs.LevelLemmas.{IsFound-start, length-levels_at}

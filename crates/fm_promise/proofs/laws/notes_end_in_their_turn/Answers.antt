@@ -6,4 +6,4 @@ pub returns-clause-lines : goal.returns-clause-lines
 returns-clause-lines c = text_in_turn
 
 pub returns-clause-marks : goal.returns-clause-marks
-returns-clause-marks c = λ t s m. sym (text_by_till t s m)
+returns-clause-marks c = λ t s m set. sym (text_by_till t s m set)

@@ -2,7 +2,7 @@ use Rattle.std.proofs.Common.{◌≡◌, drop}
 use Rattle.fm_grammar.specs.View.{item_view, items_view}
 use Rattle.fm_meaning.specs.Faults.{first_found}
 use Rattle.fm_meaning.specs.Ranges.{stmt_faults, body_faults, branches_faults}
-use Rattle.fm_ranges.specs.Found.{known_view}
+use Rattle.fm_ranges.specs.Entries.{known_view}
 use Rattle.fm_ranges.specs.Own.{branches_view}
 use Rattle.fm_ranges.proofs.statement.+statement.Given as goal
 

@@ -21,5 +21,7 @@ returns c =
     let ten = c.in_ok-arg-10.ensures.shape (search rules) ∙ ap₂ with_rule nine c.option-5.ensures.rule in
     let eleven = c.in_ok-arg-11.ensures.shape (search rules) ∙ ap₂ with_rule ten c.option-6.ensures.rule in
     let twelve = c.in_ok-arg-12.ensures.shape (search rules) ∙ ap₂ with_rule eleven c.option-7.ensures.rule in
-    IfOk-weaker c.arg-13.result _ (λ (m : Command). app_of m ≡ command)
-    (λ m h. h.shape (search rules) ∙ ap₂ with_rule twelve c.option-8.ensures.rule) c.arg-13.ensures
+    let thirteen = c.in_ok-arg-13.ensures.shape (search rules) ∙ ap₂ with_rule twelve c.option-8.ensures.rule in
+    let fourteen = c.in_ok-arg-14.ensures.shape (search rules) ∙ ap₂ with_rule thirteen c.flag-4.ensures.rule in
+    IfOk-weaker c.arg-15.result _ (λ (m : Command). app_of m ≡ command)
+    (λ m h. h.shape (search rules) ∙ ap₂ with_rule fourteen c.flag-5.ensures.rule) c.arg-15.ensures

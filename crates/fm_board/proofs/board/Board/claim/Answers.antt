@@ -49,7 +49,7 @@ unreachable-requires c =
     let hit = (c.compare_exchange-found.ensures.told c.args.process c.place_of.ensures).0 c.if-found-old.false e.tag e.clock e.seat
     e.fits.few c.word_of-old.ensures in
     no_strand _ c.in-Some.room hit.strand hit.box c.in-Some.is
-    (taken_out _ c.args.process _ _ _ _ c.exchange.ensures.was hit.out) c.in-None-strand.is
+    (taken_out _ c.args.process _ _ _ _ c.exchange.ensures.was hit.out) (sym c.runner.ensures ∙ c.in-None-runner.is)
 
 pub unreachable-requires-in-None : goal.unreachable-requires-in-None
 unreachable-requires-in-None c =
@@ -73,7 +73,7 @@ returns c =
     let hit = (c.compare_exchange-found.ensures.told c.args.process c.place_of.ensures).0 c.if-found-old.false e.tag e.clock e.seat
     e.fits.few c.word_of-old.ensures in
     hands_as _ c.args.self.now.table.shared.table_id _ _ _ c.args.process _ e c.seat.inside.token.me _ _ _ c.in-Some.room
-    c.in-Some-strand.strand _
+    c.in-Some-runner.strand _
     c.requires.ours (c.if-found-old.false ∙ c.word_of-old.ensures) hit c.exchange.ensures.is c.in-Some.is
-    (taken_out _ c.args.process _ _ _ _ c.exchange.ensures.was hit.out) c.in-Some-strand.is
+    (taken_out _ c.args.process _ _ _ _ c.exchange.ensures.was hit.out) (sym c.runner.ensures ∙ c.in-Some-runner.is)
     c.exchange.ensures.kept.0 c.compare_exchange-found.ensures.kept.0 c.seat.view_is

@@ -1,7 +1,15 @@
-use Rattle.std.proofs.Common.{arith, ap}
+use Rattle.std.proofs.Common.{arith, ap, ◌∙◌, ◌∷◌, Option, Some}
+use Rattle.atomic_table.specs.Table.{rest}
+use Rattle.fm_buffer.specs.Outbox.{EventQueue}
+use Rattle.fm_strand.specs.declared.strand.Strand.{Strand}
 use Rattle.fm_board.specs.Seats.{Sight}
+use Rattle.fm_board.specs.declared.room.Room.{Room}
 use Rattle.fm_board.proofs.Returns.{clock_low, gave_as, gave_tidy, gives_at}
 use Rattle.fm_board.proofs.board.Board.give.Goals as goal
+
+-- a slot with this in it
+abbrev holding : Option Strand → EventQueue → Room
+holding strand box = record { strand = strand; outbox = box }
 
 pub word_of-new-requires : goal.word_of-new-requires
 word_of-new-requires c = (
@@ -12,12 +20,15 @@ word_of-new-requires c = (
 
 pub store-requires-clause-may : goal.store-requires-clause-may
 store-requires-clause-may c =
+    let me = c.seat.inside.token.me in
+    let brought = c.exchange.ensures.is
+    ∙ ap (λ (o : Option Strand). (me.0, (c.args.berth.process, Some (holding o c.args.berth.outbox)) ∷ rest me.1)) c.of.ensures in
     gives_at _ c.args.self.now.about _ _ _ c.args.berth.process _ c.len.result _ _ _ _ _ _ c.seat.inside.token.me _ c.args.berth.strand
     c.args.berth.outbox c.args.seat.now
     c.args.self.now.same.0 (ap (λ (x : Sight). x.mind) c.seat.view_is) c.place_of.ensures c.requires.may c.len.ensures.bound.within
     c.seat.invariant
     c.home_tag-tag.ensures c.len.ensures.value (c.clock-clock.ensures c.args.self.now.about.plan c.requires.may.strand.course)
-    c.word_of-new.ensures c.exchange.ensures.is
+    c.word_of-new.ensures brought
 
 pub invariant_of-seat : goal.invariant_of-seat
 invariant_of-seat c =

@@ -6,8 +6,8 @@ use Rattle.fm_grammar.specs.declared.item.Item.{out-Item, the_lemmas}
 use Rattle.fm_meaning.specs.Rules.{VersionRules, score_rules}
 use Rattle.fm_meaning.specs.Resolve.{play_of, resolved}
 use Rattle.fm_meaning.specs.Bounds.{score_totals, bounds_of, forks, limit_faults}
-use Rattle.fm_bounds.specs.declared.excess.Excess.{Excess}
-use Rattle.fm_bounds.specs.Excess.{excess_at}
+use Rattle.fm_fault.specs.declared.why.Why.{Why}
+use Rattle.fm_fault.specs.Why.{fault_at}
 use Rattle.fm_bounds.proofs.LimitLemmas.{empty_list}
 use Rattle.fm_bounds.proofs.WalkLemmas.{after, play_reached, play_refused}
 use Rattle.fm_bounds.proofs.walk.Walk.play.Goals as goal
@@ -24,7 +24,7 @@ returns-in-None-clause-ok c = λ score rest r.
     (c.whole.ensures (after r) (r.forks || forks p) sums) in
     play_reached score c.args.self.now c.plus-self.result i.spot i.what rest r sums
     (empty_list (limit_faults (score_rules score) i.spot (score_totals (after r)))
-    (found ∙ ap (option_map (excess_at i.spot)) c.in-None.is))
+    (found ∙ ap (option_map (fault_at i.spot)) c.in-None.is))
 
 pub returns-in-Some-clause-refused : goal.returns-in-Some-clause-refused
 returns-in-Some-clause-refused c = λ why spot is score rest r.
@@ -40,6 +40,6 @@ returns-in-Some-clause-refused c = λ why spot is score rest r.
     let stands_at : i.spot ≡ (out-Item c.args.item.now).spot = search (rules, the_lemmas) in
     let same : (out-Item c.args.item.now).spot ≡ spot = cc in
     let same_spot = stands_at ∙ same in
-    play_refused score c.args.self.now i.spot i.what rest (excess_at i.spot c.in-Some.why) r
-    (found ∙ ap (option_map (excess_at i.spot)) c.in-Some.is)
-    ∙ ap₂ (λ (s : Spot) (w : Excess). Some (excess_at s w)) same_spot same_why
+    play_refused score c.args.self.now i.spot i.what rest (fault_at i.spot c.in-Some.why) r
+    (found ∙ ap (option_map (fault_at i.spot)) c.in-Some.is)
+    ∙ ap₂ (λ (s : Spot) (w : Why). Some (fault_at s w)) same_spot same_why

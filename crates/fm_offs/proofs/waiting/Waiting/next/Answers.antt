@@ -1,8 +1,8 @@
-use Rattle.std.proofs.Common.{◌≤◌, ◌<◌, ◌+◌, length, sym, subst, arith, List}
+use Rattle.std.proofs.Common.{All, ◌≤◌, ◌<◌, ◌+◌, length, sym, subst, arith, List}
 use Rattle.fm_line.specs.Sounds.{Sound, most_waiting}
 use Rattle.fm_offs.specs.declared.note_off.NoteOff.{NoteOff}
-use Rattle.fm_offs.specs.Stack.{HasRoom, IsEarliest, LetsOut, off_sound, off_sounds, no_off, tick_at}
-use Rattle.fm_offs.proofs.StackLemmas.{lets-due, lets-cut, lets-none}
+use Rattle.fm_offs.specs.Stack.{HasRoom, IsEarliest, IsOff, LetsOut, off_sound, off_sounds, no_off, tick_at}
+use Rattle.fm_offs.proofs.StackLemmas.{lets-due, lets-cut, lets-none, remove-all}
 use Rattle.fm_offs.proofs.waiting.Waiting.next.Goals as goal
 
 pub returns-then-deref-first-clause-some : goal.returns-then-deref-first-clause-some
@@ -46,3 +46,16 @@ returns-clause-none c =
     omega (arith, c.len.ensures.value, c.if-len-pitches-gt-MOST_WAITING.false) in
     subst (HasRoom c.args.tick c.args.pitches) c.self.view_is
     (lets-none c.args.tick c.args.pitches first xs no_off early late few)
+
+pub invariant_of-self : goal.invariant_of-self
+invariant_of-self c = (
+  omega (arith, c.remove.ensures.len, c.self.invariant.0),
+  subst (All IsOff) (sym c.remove.ensures.items) (remove-all IsOff c.self.inside.offs.items c.earliest-first.result c.self.invariant.1),
+)
+
+pub invariant_of-self-then-len-pitches-gt-MOST_WAITING :
+    goal.invariant_of-self-then-len-pitches-gt-MOST_WAITING
+invariant_of-self-then-len-pitches-gt-MOST_WAITING c = (
+  omega (arith, c.remove-off.ensures.len, c.self.invariant.0),
+  subst (All IsOff) (sym c.remove-off.ensures.items) (remove-all IsOff c.self.inside.offs.items 0 c.self.invariant.1),
+)

@@ -1,0 +1,278 @@
+//! The calls of a board that are steps of the core, with a tape beside it. Each does what the
+//! board's call does, whatever becomes of the tape.
+ghost use Rattle.std.specs.Prelude.{◌≡◌, ◌&&◌, ◌<◌, ℕ, length, None, Option, Some, IfSome, if◌then◌else◌, nat_eq, slice_index_or, true};
+ghost use Rattle.fm_core.specs.Floors.{floor_eq, floor_of};
+ghost use Rattle.fm_core.specs.Sweep.{least};
+ghost use Rattle.fm_core.specs.Tags.{is_claimable};
+ghost use Rattle.fm_core.specs.Taking.{due_of, is_due};
+ghost use Rattle.fm_core.specs.declared.due.Due.TheVariants.{Nothing};
+ghost use Rattle.fm_core.specs.declared.floor.Floor.TheVariants.{At};
+ghost use Rattle.fm_core.specs.declared.limits.TheConstants.{MAX_SEATS};
+ghost use Rattle.fm_core.specs.declared.step.Step.TheVariants as step;
+ghost use Rattle.fm_record.specs.StepBytes.{HasFields};
+ghost use Rattle.fm_strand.specs.Strand.{clock_of};
+ghost use Rattle.fm_board.specs.Answers.{Claims, Found, Gave};
+ghost use Rattle.fm_board.specs.Calls.{MayGive, MayRecord, Releases};
+ghost use Rattle.fm_board.specs.Plays.{viewing};
+ghost use Rattle.fm_board.specs.Seats.{IsOurs, seeing};
+ghost use Rattle.fm_board.specs.Starting.{Starts};
+ghost use Rattle.fm_board.specs.View.{InTurn, looked, noted, processes, published, released, was_visited};
+ghost use Rattle.fm_crew.specs.Keeping.{Keeps, claim_step, is_news, look_step, pace_step, start_step};
+
+use crate::Work;
+use crate::known::{Known, is_same_floor};
+use fm_board::{Berth, Board, BoardSeat, Claim, Seen, Started};
+use fm_buffer::Gather;
+use fm_core::{Floor, MAX_SEATS, Step};
+use fm_record::Tape;
+
+/// A look. Of seat 0 it is kept where it changes what the core keeps; of a worker it never is.
+#[tactic(auto, using(crate::proofs::Tapes::small_process))]
+pub fn look(
+    board: &Board,
+    tape: &mut Tape,
+    known: &mut Known,
+    seat: &mut BoardSeat,
+    process: u32,
+) -> Seen
+    requires ours { IsOurs board.now.table.shared.table_id board.now.about seat.old }
+    requires turn { InTurn seat.old.mind.view process }
+    ensures found { Found seat.old process result
+        (looked seat.old.mind.view process result.tag result.clock) seat.new }
+    ensures kept { Keeps tape.old
+        (look_step seat.old.mind.view.number known.old.look process result) tape.new }
+{
+    let number = seat.number();
+    let seen = board.look(seat, process);
+    let step = step_of_look(number, known, process, &seen);
+    keep(tape, step);
+    seen
+}
+
+/// A pace. It is kept where it finds another floor than the seat found before.
+pub fn pace(board: &Board, tape: &mut Tape, known: &mut Known, seat: &mut BoardSeat) -> Floor
+    requires ours { IsOurs board.now.table.shared.table_id board.now.about seat.old }
+    ensures paced { seat.new ≡ seeing seat.old (record seat.old.mind.view { paced = result }) }
+    ensures kept { seat.old.mind.view.number < MAX_SEATS → Keeps tape.old
+        (pace_step seat.old.mind.view.number
+        (slice_index_or known.old.floors seat.old.mind.view.number (At 0)) result) tape.new }
+{
+    let number = number_of(seat);
+    let floor = board.pace(seat);
+    let before = known.note_pace(number, floor);
+    let step = step_of_pace(number, before, floor);
+    keep(tape, step);
+    floor
+}
+
+/// A claim. It is kept where it takes the process.
+#[tactic(auto, using(crate::proofs::Tapes::small_process))]
+pub fn claim(
+    board: &Board,
+    tape: &mut Tape,
+    seat: &mut BoardSeat,
+    process: u32,
+    expected: &Seen,
+) -> Claim
+    requires ours { IsOurs board.now.table.shared.table_id board.now.about seat.old }
+    requires there { process < processes seat.old.mind.view }
+    requires idle { seat.old.mind.view.holds ≡ None }
+    requires tag { is_claimable seat.old.mind.view.number expected.now.tag ≡ true }
+    ensures claims { Claims board.now.about seat.old process expected.now result seat.new }
+    ensures kept { seat.old.mind.view.number < MAX_SEATS
+        → Keeps tape.old (claim_step seat.old.mind.view.number process result) tape.new }
+{
+    let number = number_of(seat);
+    let claim = board.claim(seat, process, expected);
+    let step = step_of_claim(number, process, &claim);
+    keep(tape, step);
+    claim
+}
+
+/// A start. It is kept where it takes the process.
+#[tactic(auto, using(crate::proofs::Tapes::small_process))]
+pub fn start(board: &Board, tape: &mut Tape, seat: &mut BoardSeat, process: u32) -> Started
+    requires ours { IsOurs board.now.table.shared.table_id board.now.about seat.old }
+    requires there { process < processes seat.old.mind.view }
+    requires idle { seat.old.mind.view.holds ≡ None }
+    ensures starts { Starts board.now.about seat.old process result seat.new }
+    ensures kept { seat.old.mind.view.number < MAX_SEATS
+        → Keeps tape.old (start_step seat.old.mind.view.number process result) tape.new }
+{
+    let number = number_of(seat);
+    let started = board.start(seat, process);
+    let step = step_of_start(number, process, &started);
+    keep(tape, step);
+    started
+}
+
+/// A record, which is always kept.
+#[tactic(auto, using(crate::proofs::Tapes::small_recorded))]
+pub fn record(board: &Board, tape: &mut Tape, seat: &mut BoardSeat, berth: &Berth)
+    requires ours { IsOurs board.now.table.shared.table_id board.now.about seat.old }
+    requires may { MayRecord board.now.about seat.old.mind.view
+        berth.now.process berth.now.strand }
+    ensures seat { seat.new ≡ record seat.old {
+      mind = viewing seat.old.mind (noted seat.old.mind.view);
+    } }
+    ensures kept { seat.old.mind.view.number < MAX_SEATS → Keeps tape.old
+        (Some (step.Record seat.old.mind.view.number berth.now.process)) tape.new }
+{
+    let step = Step::Record {
+        seat: number_of(seat),
+        process: berth.process,
+    };
+    board.record(seat, berth);
+    keep(tape, Some(step));
+}
+
+/// A give, which is always kept, with what the seat did with the process.
+pub fn give(board: &Board, tape: &mut Tape, seat: &mut BoardSeat, berth: Berth, work: Work)
+    requires ours { IsOurs board.now.table.shared.table_id board.now.about seat.old }
+    requires may { MayGive board.now.about seat.old.mind.view
+        berth.process berth.strand berth.outbox }
+    ensures gave { Gave board.now.about seat.old berth seat.new }
+    ensures kept { seat.old.mind.view.number < MAX_SEATS → Keeps tape.old
+        (Some (step.Give seat.old.mind.view.number berth.process work.taken work.computed
+        (clock_of board.now.about.plan berth.strand) work.ended)) tape.new }
+{
+    let number = number_of(seat);
+    let clock = berth.strand.clock();
+    let step = step_of_give(number, berth.process, clock, work);
+    board.give(seat, berth);
+    keep(tape, Some(step));
+}
+
+/// A publish, which is always kept. The next look of seat 0 begins a sweep.
+pub fn publish(
+    board: &Board,
+    tape: &mut Tape,
+    known: &mut Known,
+    seat: &mut BoardSeat,
+    floor: Floor,
+)
+    requires ours { IsOurs board.now.table.shared.table_id board.now.about seat.old }
+    requires conductor { seat.old.mind.view.number ≡ 0 }
+    requires swept { length seat.old.mind.view.sweep ≡ processes seat.old.mind.view }
+    requires settled { seat.old.mind.view.due ≡ Nothing }
+    requires floor { floor ≡ floor_of (least seat.old.mind.view.sweep) }
+    ensures seat { seat.new ≡ seeing seat.old
+        (published seat.old.mind.view floor (due_of (least seat.old.mind.view.sweep))) }
+    ensures kept { Keeps tape.old (Some step.Publish) tape.new }
+    ensures begins { known.new.look ≡ None }
+{
+    board.publish(seat, floor);
+    known.note_publish();
+    keep(tape, Some(Step::Publish));
+}
+
+/// A release, which is always kept, with how many events it settles.
+pub fn release(board: &Board, tape: &mut Tape, seat: &mut BoardSeat, gather: &mut Gather)
+    requires ours { IsOurs board.now.table.shared.table_id board.now.about seat.old }
+    requires conductor { seat.old.mind.view.number ≡ 0 }
+    requires due { is_due seat.old.mind.view.due ≡ true }
+    requires visited { (p : ℕ) → p < processes seat.old.mind.view
+        → was_visited seat.old.mind.view p ≡ true }
+    requires taken { gather.old.events ≡ seat.old.mind.view.gathered }
+    ensures seat { seat.new ≡ seeing seat.old
+        (released seat.old.mind.view (length gather.new.events)) }
+    ensures gather { Releases seat.old.mind.view gather.new.events }
+    ensures capacity { gather.new.capacity ≡ gather.old.capacity }
+    ensures kept { Keeps tape.old (Some (step.Release (length gather.new.events))) tape.new }
+{
+    board.release(seat, gather);
+    let count = gather.events().len() as u32;
+    keep(tape, Some(Step::Release { count }));
+}
+
+// Puts a step on a tape, if there is one.
+fn keep(tape: &mut Tape, step: Option<Step>)
+    requires { IfSome step HasFields }
+    ensures { Keeps tape.old step tape.new }
+{
+    if let Some(step) = step {
+        match tape.push(&step) {
+            Ok(()) => {}
+            Err(_) => {}
+        }
+    }
+}
+
+// The number of a seat, which is below the most seats.
+fn number_of(seat: &BoardSeat) -> u32
+    ensures number { seat.now.mind.view.number < MAX_SEATS
+        → result ≡ seat.now.mind.view.number }
+    ensures low { result < MAX_SEATS }
+{
+    seat.number().min(MAX_SEATS - 1)
+}
+
+// The step of a look. Seat 0's is noted.
+fn step_of_look(number: u32, known: &mut Known, process: u32, seen: &Seen) -> Option<Step>
+    requires { process < 65536 }
+    ensures step { result ≡ look_step number known.old.look process seen.now }
+    ensures fits { IfSome result HasFields }
+{
+    if number == 0 && known.note_look(process, seen) {
+        Some(Step::Look { seat: 0, process })
+    } else {
+        None
+    }
+}
+
+// The step of a pace that found these floors, one after the other.
+fn step_of_pace(seat: u32, before: Floor, floor: Floor) -> Option<Step>
+    requires { seat < MAX_SEATS }
+    ensures step { result ≡ pace_step seat before floor }
+    ensures fits { IfSome result HasFields }
+{
+    if is_same_floor(before, floor) {
+        None
+    } else {
+        Some(Step::Pace { seat })
+    }
+}
+
+// The step of a claim.
+fn step_of_claim(seat: u32, process: u32, claim: &Claim) -> Option<Step>
+    requires seat { seat < MAX_SEATS }
+    requires process { process < 65536 }
+    ensures step { result ≡ claim_step seat process claim.now }
+    ensures fits { IfSome result HasFields }
+{
+    match claim {
+        Claim::Held(_) => Some(Step::Claim { seat, process }),
+        Claim::Busy { .. } => None,
+    }
+}
+
+// The step of a start.
+fn step_of_start(seat: u32, process: u32, started: &Started) -> Option<Step>
+    requires seat { seat < MAX_SEATS }
+    requires process { process < 65536 }
+    ensures step { result ≡ start_step seat process started.now }
+    ensures fits { IfSome result HasFields }
+{
+    match started {
+        Started::Held(_) => Some(Step::Start { seat, process }),
+        Started::NotYet { .. } | Started::Busy { .. } => None,
+    }
+}
+
+// The step of a give.
+fn step_of_give(seat: u32, process: u32, clock: u64, work: Work) -> Step
+    requires seat { seat < MAX_SEATS }
+    requires process { process < 65536 }
+    requires clock { clock < 281474976710656 }
+    ensures step { result ≡ step.Give seat process work.taken work.computed clock work.ended }
+    ensures fits { HasFields result }
+{
+    Step::Give {
+        seat,
+        process,
+        taken: u32::from(work.taken),
+        computed: u32::from(work.computed),
+        clock,
+        ended: work.ended,
+    }
+}
