@@ -1,0 +1,54 @@
+"""The grammar for editors that read TextMate's, on every example that plays."""
+import json
+import os
+import re
+import unittest
+
+TOP = os.path.dirname(os.path.dirname(os.path.dirname(os.path.abspath(__file__))))
+GRAMMAR = os.path.join(TOP, "editors", "vscode", "syntaxes", "formula.tmLanguage.json")
+FOLDERS = [os.path.join(TOP, "examples", name) for name in ("scores", "tutorial", "long")]
+
+
+def scopes(patterns, line):
+    """Each token of a line with its scope: the leftmost match, of several there the first pattern's."""
+    at = 0
+    while at < len(line):
+        found = [(match.start(), number, match) for number, (_, pattern) in enumerate(patterns)
+                 for match in [pattern.search(line, at)] if match and match.group()]
+        if not found:
+            return
+        _, number, match = min(found)
+        yield patterns[number][0].split(".formula-score")[0], match.group()
+        at = match.end()
+
+
+class Editors(unittest.TestCase):
+    def setUp(self):
+        with open(GRAMMAR, encoding="utf-8") as file:
+            self.patterns = [(one["name"], re.compile(one["match"])) for one in json.load(file)["patterns"]]
+
+    def test_each_example_has_scopes_for_all_it_holds(self):
+        tried = 0
+        for folder in FOLDERS:
+            for name in sorted(os.listdir(folder)) if os.path.isdir(folder) else []:
+                if not name.endswith(".score"):
+                    continue
+                tried += 1
+                with open(os.path.join(folder, name), encoding="utf-8") as file:
+                    for number, line in enumerate(file, 1):
+                        for scope, token in scopes(self.patterns, line.rstrip("\n")):
+                            self.assertFalse(scope.startswith("invalid"), f"{name}:{number}: {token}")
+        self.assertGreater(tried, 20)
+
+    def test_words_have_the_scopes_of_their_kind(self):
+        line = "formula 2; division 96; phrase division { note cs4, bb3 1/4; } # division 96"
+        self.assertEqual(
+            [scope for scope, _ in scopes(self.patterns, line)],
+            ["keyword.other", "constant.numeric", "punctuation", "keyword.other", "constant.numeric", "punctuation",
+             "storage.type", "entity.name", "punctuation", "support.function", "constant.other.pitch", "punctuation",
+             "constant.other.pitch", "constant.numeric", "keyword.operator", "constant.numeric", "punctuation",
+             "punctuation", "comment.line.number-sign"])
+
+
+if __name__ == "__main__":
+    unittest.main()
