@@ -129,7 +129,7 @@ fn earliest(offs: &[NoteOff]) -> usize
 
 fn crosses_threads<T: Send + Sync>(_value: &T) {}
 
-/// Threads may send and share what waits.
+// Threads may send and share what waits.
 fn waiting_crosses_threads(waiting: &Waiting) {
     crosses_threads(waiting);
 }

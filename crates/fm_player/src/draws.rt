@@ -87,7 +87,7 @@ impl Draws {
         )
     }
 
-    /// The indices of the slots of a scope, in turn.
+    // The indices of the slots of a scope, in turn.
     fn indices(&self, stock: &Stock, scope: u32) -> ArrayVec<u32, MAX_LOOPS>
         requires stock { stock_fits (stock_parts stock.now) ≡ true }
         requires frames { All (IsFrame (stock_parts stock.now)) self.now.frames.items }
@@ -106,7 +106,7 @@ impl Draws {
         indices
     }
 
-    /// The index that a slot gives.
+    // The index that a slot gives.
     fn index(&self, stock: &Stock, slot: Slot) -> u32
         requires frames { All (IsFrame (stock_parts stock.now)) self.now.frames.items }
         requires slot { slot_fits slot ≡ true }
@@ -120,7 +120,7 @@ impl Draws {
         }
     }
 
-    /// The next entry of the list that a frame is.
+    // The next entry of the list that a frame is.
     fn entry(&mut self, stock: &Stock, frame: u32) -> u32
         requires stock { stock_fits (stock_parts stock.now) ≡ true }
         requires frames { All (IsFrame (stock_parts stock.now)) self.old.frames.items }
@@ -186,7 +186,7 @@ impl Draws {
         }
     }
 
-    /// The keys of a note, from left to right.
+    // The keys of a note, from left to right.
     fn keys(&mut self, stock: &Stock, pitches: &[Draw], scope: u32) -> ArrayVec<u8, MAX_PITCHES>
         requires stock { stock_fits (stock_parts stock.now) ≡ true }
         requires frames { All (IsFrame (stock_parts stock.now)) self.old.frames.items }

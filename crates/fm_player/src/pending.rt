@@ -159,7 +159,7 @@ impl Pending {
         }
     }
 
-    /// The time of the next event where one is left.
+    // The time of the next event where one is left.
     fn next_time(&self) -> u64
         ensures { result ≡ next_time self.now }
     {
@@ -170,7 +170,7 @@ impl Pending {
         }
     }
 
-    /// The next message.
+    // The next message.
     fn msg(&self) -> Msg
         requires pending { IsPending self.now }
         requires left { self.now.given < 2 * length self.now.keys.items }

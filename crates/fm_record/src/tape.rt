@@ -145,7 +145,7 @@ fn push_head(
 
 fn crosses_threads<T: Send + Sync>(_value: &T) {}
 
-/// Threads may send and share a tape.
+// Threads may send and share a tape.
 fn tape_crosses_threads(tape: &Tape) {
     crosses_threads(tape);
 }
