@@ -11,10 +11,10 @@ use Rattle.fm_grammar.specs.Reads.{Fault, too_nested}
 use Rattle.fm_grammar.specs.Signs.{open_brace, close_brace, open_bracket, close_bracket}
 use Rattle.fm_grammar.specs.Rules.{Sym, one, stmts, entries, otherwise, branches, counted, any_number, lengths, numbers, expr, with_commas, kind_code, rules_of, inside}
 use Rattle.fm_grammar.specs.Table.{taking, one_less, opened_by, opened, peak, need, want}
-use Rattle.fm_parse.specs.Reader.{tail, first_kind}
-use Rattle.fm_parse.specs.Follow.{At, IsThere}
+use Rattle.fm_terms.specs.Reader.{tail, first_kind}
+use Rattle.fm_terms.specs.Follow.{At, IsThere}
 use Rattle.fm_parse.specs.Statements.{begins, starter, stmt_rest, stmt_syms, braces_needed, IsMain}
-use Rattle.fm_parse.proofs.Steps.{begun, nested, skipped}
+use Rattle.fm_terms.proofs.Steps.{begun, nested, skipped}
 use Rattle.fm_parse.proofs.StmtRules.{definitions, stmt_rule, no_stmt_rule}
 
 -- ---- the symbols of statements

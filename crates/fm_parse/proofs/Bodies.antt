@@ -17,8 +17,8 @@ use Rattle.fm_grammar.specs.Reads.{Fault}
 use Rattle.fm_grammar.specs.Rules.{Sym, one, stmts, branches, block as blocked}
 use Rattle.fm_lex.specs.declared.kind.Kind.TheVariants as kinds
 use Rattle.fm_grammar.specs.Table.{opened}
-use Rattle.fm_parse.specs.declared.fault.ParseFault.{ParseFault}
-use Rattle.fm_parse.specs.Follow.{At, Spelt}
+use Rattle.fm_terms.specs.declared.fault.ParseFault.{ParseFault}
+use Rattle.fm_terms.specs.Follow.{At, Spelt}
 use Rattle.fm_parse.specs.Statements.{placed_tree, fork_text, fork_tree, bodies_view}
 
 -- ---- the block behind an else

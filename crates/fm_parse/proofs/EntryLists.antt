@@ -15,14 +15,14 @@ use Rattle.fm_grammar.specs.Standing.{entry_tree, entries_tree}
 use Rattle.fm_grammar.specs.Reads.{Fault}
 use Rattle.fm_grammar.specs.Rules.{Sym, one, entries, parts, with_commas, block}
 use Rattle.fm_grammar.specs.Table.{opened}
-use Rattle.fm_parse.specs.declared.fault.ParseFault.{ParseFault}
-use Rattle.fm_parse.specs.Reader.{first_kind}
-use Rattle.fm_parse.specs.Follow.{At, Says, Spelt, IsThere}
+use Rattle.fm_terms.specs.declared.fault.ParseFault.{ParseFault}
+use Rattle.fm_terms.specs.Reader.{first_kind}
+use Rattle.fm_terms.specs.Follow.{At, Says, Spelt, IsThere}
 use Rattle.fm_parse.specs.Statements.{starter}
 use Rattle.fm_parse.specs.Whole.{EntryLeads, shape_syms, phrase_syms}
-use Rattle.fm_parse.proofs.Steps.{begun, skipped}
+use Rattle.fm_terms.proofs.Steps.{begun, skipped}
 use Rattle.fm_parse.proofs.StmtRules.{no_entry_rule}
-use Rattle.fm_parse.proofs.Lengths.{part_more}
+use Rattle.fm_terms.proofs.Lengths.{part_more}
 use Rattle.fm_parse.proofs.StmtLengths.{listed_more, block_more, stmt_more}
 
 -- an answer that hands a fault on

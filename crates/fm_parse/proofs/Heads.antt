@@ -10,7 +10,7 @@ use Rattle.fm_grammar.specs.Standing.{num_tree}
 use Rattle.fm_grammar.specs.Reads.{Fault}
 use Rattle.fm_grammar.specs.Rules.{behind_version}
 use Rattle.fm_grammar.specs.Table.{says_division, is_divided}
-use Rattle.fm_parse.specs.Follow.{At}
+use Rattle.fm_terms.specs.Follow.{At}
 use Rattle.fm_parse.specs.Whole.{states}
 
 -- behind the version, the test of the text is the one of the tokens that are left

@@ -1,14 +1,5 @@
-pub mod Steps
 pub mod StmtRules
-pub mod Opening
-pub mod Marks
-pub mod Insides
-pub mod Drafting
-pub mod Pieces
-pub mod CountForms
-pub mod Ways
-pub mod Lengths
-pub mod Growing
+pub mod LoopForms
 pub mod ItemViews
 pub mod SortLemmas
 pub mod Beginnings

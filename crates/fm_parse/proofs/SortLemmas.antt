@@ -8,7 +8,7 @@ use Rattle.fm_grammar.specs.Signs.{semicolon, open_bracket, close_bracket}
 use Rattle.fm_grammar.specs.Spelling.{sending_word, scoping_word, cycling_word}
 use Rattle.fm_grammar.specs.Reads.{Fault}
 use Rattle.fm_grammar.specs.Rules.{Sym, one, any_number, numbers, amount, block, with_commas}
-use Rattle.fm_parse.specs.Follow.{At}
+use Rattle.fm_terms.specs.Follow.{At}
 use Rattle.fm_parse.specs.Statements.{stmt_syms}
 
 module _ (F : Option Fault) (u : ℕ) (below : List Sym) (l : List Lexed) (w : Keyword) where

@@ -6,7 +6,7 @@ use Rattle.fm_grammar.specs.Grammar.{Mores, no_more, more, Listed, DurationForm,
 use Rattle.fm_grammar.specs.Grammar as forms
 use Rattle.fm_grammar.specs.Signs.{semicolon, close_brace, close_bracket, close_parenthesis, tok, key, num}
 use Rattle.fm_grammar.specs.Spelling.{mores_text, listed_text, num_text, length_text, duration_text, pitch_text, stmts_text, block_text, else_text, branches_text, stmt_text}
-use Rattle.fm_parse.proofs.Lengths.{expr_more, amount_more, pitch_more, length_more, num_more}
+use Rattle.fm_terms.proofs.Lengths.{expr_more, amount_more, pitch_more, length_more, num_more}
 
 mores_more : {A : Type 0} (text : A → List Lexed → List Lexed) → ((x : A) (next : List Lexed) → length next ≤ length
     (text x next))

@@ -1,5 +1,5 @@
 -- What the reading of a whole text says of it.
-use Rattle.std.proofs.Common.{◌≡◌, ℕ, inl, inr, List, [], ◌∷◌, Option, None, Result, Ok, Err, refl, sym, ap, ◌∙◌, subst, arith}
+use Rattle.std.proofs.Common.{◌≡◌, ℕ, inl, inr, List, [], ◌∷◌, Option, None, Result, Ok, Err, refl, sym, ap, ◌∙◌, subst}
 use Rattle.std.specs.Prelude.{IfOk, IfErr, ◌⊎◌}
 use Rattle.fm_lex.specs.declared.kind.Kind.TheVariants.{End}
 use Rattle.fm_lex.specs.Tokens.{Lexeme, Lexed, tokens}
@@ -18,12 +18,12 @@ use Rattle.fm_grammar.proofs.Scores.{whole_alive, trips_with}
 use Rattle.fm_grammar.proofs.OneTrip.{one_trip_fault, trips_excludes_reads}
 use Rattle.fm_grammar.proofs.Texts.{text_verdict, found_fault, one_score}
 use Rattle.fm_grammar.proofs.UniqueScore.{unique_score}
-use Rattle.fm_parse.specs.declared.fault.ParseFault.{ParseFault}
-use Rattle.fm_parse.specs.declared.fault.ParseFault.TheVariants.{Lex, Expected, TooNested, Memory}
-use Rattle.fm_parse.specs.Reader.{tail}
-use Rattle.fm_parse.specs.Follow.{At, Says, IsLexical}
+use Rattle.fm_terms.specs.declared.fault.ParseFault.{ParseFault}
+use Rattle.fm_terms.specs.declared.fault.ParseFault.TheVariants.{Lex, Expected, TooNested, Memory}
+use Rattle.fm_terms.specs.Reader.{tail}
+use Rattle.fm_terms.specs.Follow.{At, Says, IsLexical}
 use Rattle.fm_parse.specs.Whole.{Closes, IsFault, Answers, Refuses, WholeRead, Head, fault_of}
-use Rattle.fm_parse.proofs.Steps.{takes_one, lexical_here}
+use Rattle.fm_terms.proofs.Steps.{takes_one, lexical_here}
 
 -- a text starts at the symbols of the whole
 pub at_start : (ts : List Lexed) → At (first_fault ts) 0 (whole (is_divided ts)) ts

@@ -15,7 +15,7 @@ use Rattle.fm_grammar.specs.Signs.{semicolon, equals, open_brace, close_brace, o
 use Rattle.fm_grammar.specs.Rules.{Sym, one, any_number, any_register, pitches, lengths, numbers, amount, duration, counted, branches, otherwise, stmts, entries, expr, block, with_commas}
 use Rattle.fm_grammar.specs.Grammar.{StmtForm, BlockForm, BranchesForm}
 use Rattle.fm_grammar.specs.View.{PlacedStmt, items_view, branches_of}
-use Rattle.fm_parse.specs.Counts.{CountTree, fixed_tree, drawn_tree}
+use Rattle.fm_terms.specs.Counts.{CountTree, fixed_tree, drawn_tree}
 use Rattle.fm_grammar.specs.Spelling.{block_text, branches_text}
 use Rattle.fm_grammar.specs.Standing.{stmt_spot, stmt_tree, block_tree, branches_tree}
 

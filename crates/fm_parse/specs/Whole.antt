@@ -16,10 +16,10 @@ use Rattle.fm_grammar.specs.Standing.{num_tree, division_tree, seed_tree, entry_
 use Rattle.fm_grammar.specs.Reads.{Fault, lexical, expected, too_nested, TripsWith}
 use Rattle.fm_grammar.specs.Rules.{Sym, one, entries, parts, with_commas, block}
 use Rattle.fm_grammar.specs.Table.{says_division}
-use Rattle.fm_parse.specs.declared.fault.ParseFault.{ParseFault}
-use Rattle.fm_parse.specs.declared.fault.ParseFault.TheVariants.{Lex, Expected, TooNested, Memory}
+use Rattle.fm_terms.specs.declared.fault.ParseFault.{ParseFault}
+use Rattle.fm_terms.specs.declared.fault.ParseFault.TheVariants.{Lex, Expected, TooNested, Memory}
 use Rattle.fm_parse.specs.declared.head.Head as code_head
-use Rattle.fm_parse.specs.Follow.{At, Says, Spelt}
+use Rattle.fm_terms.specs.Follow.{At, Says, Spelt}
 
 -- an entry was read, or none begins there
 abbrev pub EntryRead : Option code_entry.Entry → List Lexed → List Lexed → Type 0

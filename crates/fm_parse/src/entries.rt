@@ -8,20 +8,16 @@ ghost use Rattle.fm_grammar.specs.Spelling.{entries_text};
 ghost use Rattle.fm_grammar.specs.Standing.{entries_tree};
 ghost use Rattle.fm_grammar.specs.Rules.{Sym, entries as entry_list};
 ghost use Rattle.fm_grammar.specs.Table.{opened};
-ghost use Rattle.fm_parse.specs.Follow.{At, FollowsIn, Spelt};
+ghost use Rattle.fm_terms.specs.Follow.{At, FollowsIn, Spelt};
 ghost use Rattle.fm_parse.specs.Statements.{begins};
-ghost use Rattle.fm_parse.specs.Reader.{first_kind};
+ghost use Rattle.fm_terms.specs.Reader.{first_kind};
 ghost use Rattle.fm_parse.specs.Whole.{EntryRead, EntryLeads, shape_syms, phrase_syms};
 
-use crate::fault::ParseFault;
 use crate::items::{read_block, read_statement};
-use crate::lists::read_parts;
-use crate::push::push;
-use crate::reader::Reader;
-use crate::token::{expect, read_name};
 use crate::words::starter_of;
 use fm_grammar::Entry;
 use fm_lex::{Keyword, Kind};
+use fm_terms::{ParseFault, Reader, expect, push, read_name, read_parts};
 use std::alloc::Global;
 
 const SHAPE: Kind = Kind::Keyword(Keyword::Shape);

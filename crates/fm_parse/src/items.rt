@@ -10,27 +10,23 @@ ghost use Rattle.fm_grammar.specs.Spelling.{stmt_text, stmts_text, block_text, e
 ghost use Rattle.fm_grammar.specs.Standing.{stmts_tree, block_tree, else_tree};
 ghost use Rattle.fm_grammar.specs.Rules.{Sym, one, stmts as statements, otherwise, branches as further, block};
 ghost use Rattle.fm_grammar.specs.Table.{opened};
-ghost use Rattle.fm_parse.specs.Counts.{count_view};
-ghost use Rattle.fm_parse.specs.Reader.{first_kind};
-ghost use Rattle.fm_parse.specs.Follow.{At, Leads, FollowsIn, IsThere, IsDeep, Spelt};
+ghost use Rattle.fm_terms.specs.Counts.{count_view};
+ghost use Rattle.fm_terms.specs.Reader.{first_kind};
+ghost use Rattle.fm_terms.specs.Follow.{At, Leads, FollowsIn, IsThere, IsDeep, Spelt};
 ghost use Rattle.fm_parse.specs.Sorts.{scoping, cycling};
 ghost use Rattle.fm_parse.specs.Statements.{placed, loop_view, begins, stmt_syms, placed_tree, braces_needed, IsMain, fork_text, fork_tree, bodies_view};
 
-use crate::count::Count;
-use crate::expr::read_expr;
-use crate::fault::ParseFault;
-use crate::lists::{read_lengths, read_numbers};
-use crate::push::push;
-use crate::reader::Reader;
 use crate::simple::{
     read_control, read_do, read_note, read_play, read_rest, read_sent, read_set, read_skip,
 };
 use crate::sorts::{Cycle, Scope, Sent};
-use crate::token::{check_limit, expect, read_name, read_number};
-use crate::value::read_count;
 use crate::words::{braces_of, starter_of};
 use fm_grammar::{Item, What};
 use fm_lex::{Keyword, Kind, Spot};
+use fm_terms::{
+    Count, ParseFault, Reader, check_limit, expect, push, read_count, read_expr, read_lengths,
+    read_name, read_number, read_numbers,
+};
 use fm_value::Expr;
 use std::alloc::Global;
 

@@ -4,19 +4,17 @@ ghost use Rattle.std.specs.Prelude.{◌≡◌, [], ◌∷◌, ◌++◌, IfOk};
 ghost use Rattle.fm_lex.specs.declared.keyword.Keyword.TheVariants.{Note, Play, Rest, Skip, Control, Set, Do};
 ghost use Rattle.fm_grammar.specs.View.{item_view};
 ghost use Rattle.fm_grammar.specs.Spelling.{stmt_text, sending_word};
-ghost use Rattle.fm_parse.specs.Follow.{FollowsStack, Spelt};
+ghost use Rattle.fm_terms.specs.Follow.{FollowsStack, Spelt};
 ghost use Rattle.fm_parse.specs.Statements.{stmt_syms, placed_tree};
 ghost use Rattle.fm_parse.specs.Sorts.{sending};
 
-use crate::expr::read_expr;
-use crate::fault::ParseFault;
-use crate::lists::read_pitches;
-use crate::reader::Reader;
 use crate::sorts::Sent;
-use crate::token::{expect, read_name, read_number, read_register};
-use crate::value::{read_amount, read_duration};
 use fm_grammar::{Item, What};
 use fm_lex::{Keyword, Kind};
+use fm_terms::{
+    ParseFault, Reader, expect, read_amount, read_duration, read_expr, read_name, read_number,
+    read_pitches, read_register,
+};
 use std::alloc::Global;
 
 const SEMICOLON: Kind = Kind::Symbol(b';');

@@ -12,16 +12,14 @@ ghost use Rattle.fm_grammar.specs.Reads.{Fault, Reads, TripsWith};
 ghost use Rattle.fm_grammar.specs.Within.{limits};
 ghost use Rattle.fm_grammar.specs.Rules.{one, entries, seeded, undivided, behind_version, whole as whole_text};
 ghost use Rattle.fm_grammar.specs.Table.{is_divided};
-ghost use Rattle.fm_parse.specs.Follow.{At, Leads, FollowsStack, Spelt};
+ghost use Rattle.fm_terms.specs.Follow.{At, Leads, FollowsStack, Spelt};
 ghost use Rattle.fm_parse.specs.Whole.{Closes, states, head_text, head_tree, head_view, IsFault, Answers, Refuses, WholeRead};
 
 use crate::entries::read_entries;
-use crate::fault::ParseFault;
 use crate::head::Head;
-use crate::reader::Reader;
-use crate::token::{expect, read_name, read_number};
 use fm_grammar::{Number, Score};
 use fm_lex::{Keyword, Kind, MAX_TEXT, Token};
+use fm_terms::{ParseFault, Reader, expect, read_name, read_number};
 use std::alloc::Global;
 
 const FORMULA: Kind = Kind::Keyword(Keyword::Formula);

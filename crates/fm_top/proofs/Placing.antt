@@ -17,8 +17,8 @@ use Rattle.fm_bounds.specs.declared.bounds.Bounds.{Bounds}
 use Rattle.fm_fault.specs.declared.fault.CheckFault.{CheckFault}
 use Rattle.fm_fault.specs.declared.fault.CheckFault.TheVariants.{Refused, Memory}
 use Rattle.fm_top.specs.Judging.{IsFirst}
-use Rattle.fm_parse.specs.declared.fault.ParseFault.{ParseFault}
-use Rattle.fm_parse.specs.declared.fault.ParseFault.TheVariants.{Expected, TooNested}
+use Rattle.fm_terms.specs.declared.fault.ParseFault.{ParseFault}
+use Rattle.fm_terms.specs.declared.fault.ParseFault.TheVariants.{Expected, TooNested}
 use Rattle.fm_parse.specs.Whole.{IsFault}
 
 -- the tokens trip

@@ -8,7 +8,7 @@ use Rattle.fm_lex.specs.Tokens.{Lexed}
 use Rattle.fm_grammar.specs.Reads.{Fault}
 use Rattle.fm_grammar.specs.Rules.{Sym, entries}
 use Rattle.fm_parse.specs.Whole.{EntryRead, EntryLeads}
-use Rattle.fm_parse.proofs.Steps.{passed, handed, no_memory, outer_zero}
+use Rattle.fm_terms.proofs.Steps.{passed, handed, no_memory, outer_zero}
 use Rattle.fm_parse.proofs.EntryLists.{one_entered, entry_more}
 use Rattle.fm_parse.proofs.entries.read_entries.Goals as goal
 

@@ -5,7 +5,7 @@ use Rattle.fm_grammar.specs.Score as tree
 use Rattle.fm_grammar.specs.View.{PlacedStmt}
 use Rattle.fm_parse.proofs.EntryLists.{entry_stopped}
 use Rattle.fm_grammar.specs.Rules.{entries}
-use Rattle.fm_parse.proofs.Steps.{passed}
+use Rattle.fm_terms.proofs.Steps.{passed}
 use Rattle.fm_parse.proofs.entries.read_played.Goals as goal
 
 pub returns-in_err-item-clause-follows : goal.returns-in_err-item-clause-follows

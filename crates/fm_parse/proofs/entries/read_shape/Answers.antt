@@ -4,8 +4,8 @@ use Rattle.fm_grammar.specs.Grammar as forms
 use Rattle.fm_grammar.specs.Score as tree
 use Rattle.fm_grammar.specs.View.{name_view}
 use Rattle.fm_parse.proofs.EntryLists.{entry_stopped}
-use Rattle.fm_parse.specs.Follow.{leaf_at}
-use Rattle.fm_parse.proofs.Steps.{passed}
+use Rattle.fm_terms.specs.Follow.{leaf_at}
+use Rattle.fm_terms.proofs.Steps.{passed}
 use Rattle.fm_parse.proofs.entries.read_shape.Goals as goal
 
 pub returns-in_err-expect-clause-follows : goal.returns-in_err-expect-clause-follows

@@ -2,17 +2,17 @@
 use Rattle.std.proofs.Common.{[], ◌∷◌, ◌++◌, refl, sym, ap, ap₂, ◌∙◌, arith}
 use Rattle.fm_grammar.specs.Signs.{open_brace, close_brace}
 use Rattle.fm_grammar.specs.Grammar as forms
-use Rattle.fm_parse.proofs.Steps.{passed, handed}
+use Rattle.fm_terms.proofs.Steps.{passed, handed}
 use Rattle.std.proofs.Common.{length}
 use Rattle.fm_grammar.specs.Score as tree
 use Rattle.fm_grammar.specs.View.{name_view, items_view}
 use Rattle.fm_grammar.specs.Rules.{one, stmts, otherwise, branches}
-use Rattle.fm_parse.specs.Follow.{leaf_at}
+use Rattle.fm_terms.specs.Follow.{leaf_at}
 use Rattle.fm_parse.specs.Statements.{starter, bodies_view, placed}
-use Rattle.fm_parse.proofs.Steps.{no_memory, deep_says, kind_there, outer_zero}
-use Rattle.fm_parse.proofs.Ways.{at_else, without_else, at_branch, without_branch}
+use Rattle.fm_terms.proofs.Steps.{no_memory, deep_says, kind_there, outer_zero}
+use Rattle.fm_terms.proofs.Ways.{at_else, without_else, at_branch, without_branch}
 use Rattle.fm_parse.proofs.Beginnings.{at_word, stmt_begun, stmt_deep, opened_main, no_other, no_statement}
-use Rattle.fm_parse.proofs.CountForms.{loop_form, loop_spells, loop_stands}
+use Rattle.fm_parse.proofs.LoopForms.{loop_form, loop_spells, loop_stands}
 use Rattle.fm_parse.proofs.StmtLengths.{block_more, stmt_more}
 use Rattle.fm_parse.proofs.Bodies.{else_read, one_stated, one_branched, branched}
 use Rattle.fm_parse.proofs.ItemViews.{choice_stands, warp_view, par_view, rhythm_view}

@@ -1,8 +1,8 @@
 -- The two forms of a loop.
 use Rattle.std.proofs.Common.{refl, sym, ap, ◌∙◌}
 use Rattle.fm_grammar.specs.View.{items_view}
-use Rattle.fm_parse.specs.declared.count.Count.{Count}
-use Rattle.fm_parse.specs.Counts.{count_view}
+use Rattle.fm_terms.specs.declared.count.Count.{Count}
+use Rattle.fm_terms.specs.Counts.{count_view}
 use Rattle.fm_parse.specs.Statements.{loop_view}
 use Rattle.fm_parse.proofs.ItemViews.{repeat_view, again_view}
 use Rattle.fm_parse.proofs.items.loop_of.Goals as goal

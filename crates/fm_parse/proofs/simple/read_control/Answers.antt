@@ -1,9 +1,9 @@
 -- A control change.
 use Rattle.std.proofs.Common.{refl}
 use Rattle.fm_grammar.specs.Grammar as forms
-use Rattle.fm_parse.proofs.Steps.{passed, handed}
+use Rattle.fm_terms.proofs.Steps.{passed, handed}
 use Rattle.fm_parse.proofs.ItemViews.{control_view}
-use Rattle.fm_parse.specs.Follow.{leaf_at}
+use Rattle.fm_terms.specs.Follow.{leaf_at}
 use Rattle.fm_parse.proofs.simple.read_control.Goals as goal
 
 pub returns-in_err-spot-clause-follows : goal.returns-in_err-spot-clause-follows

@@ -2,9 +2,9 @@
 use Rattle.std.proofs.Common.{refl}
 use Rattle.fm_grammar.specs.Grammar as forms
 use Rattle.fm_grammar.specs.View.{name_view}
-use Rattle.fm_parse.proofs.Steps.{passed, handed}
+use Rattle.fm_terms.proofs.Steps.{passed, handed}
 use Rattle.fm_parse.proofs.ItemViews.{call_view}
-use Rattle.fm_parse.specs.Follow.{leaf_at}
+use Rattle.fm_terms.specs.Follow.{leaf_at}
 use Rattle.fm_parse.proofs.simple.read_do.Goals as goal
 
 pub returns-in_err-spot-clause-follows : goal.returns-in_err-spot-clause-follows

@@ -1,9 +1,9 @@
 -- A program change or a pitch bend.
 use Rattle.std.proofs.Common.{refl, ap, ◌∙◌}
 use Rattle.fm_grammar.specs.Grammar as forms
-use Rattle.fm_parse.proofs.Steps.{passed, handed}
+use Rattle.fm_terms.proofs.Steps.{passed, handed}
 use Rattle.fm_parse.proofs.SortLemmas.{at_sent}
-use Rattle.fm_parse.specs.Follow.{leaf_at}
+use Rattle.fm_terms.specs.Follow.{leaf_at}
 use Rattle.fm_parse.specs.Statements.{placed}
 use Rattle.fm_parse.specs.Sorts.{sending}
 use Rattle.fm_grammar.specs.Standing.{sending_tree}

@@ -2,9 +2,9 @@
 use Rattle.std.proofs.Common.{refl}
 use Rattle.fm_grammar.specs.Signs.{semicolon}
 use Rattle.fm_grammar.specs.Grammar as forms
-use Rattle.fm_parse.proofs.Steps.{passed, handed}
+use Rattle.fm_terms.proofs.Steps.{passed, handed}
 use Rattle.fm_parse.proofs.ItemViews.{set_view}
-use Rattle.fm_parse.specs.Follow.{leaf_at}
+use Rattle.fm_terms.specs.Follow.{leaf_at}
 use Rattle.fm_parse.proofs.simple.read_set.Goals as goal
 
 pub returns-in_err-spot-clause-follows : goal.returns-in_err-spot-clause-follows

@@ -2,8 +2,8 @@
 use Rattle.std.proofs.Common.{[], ap, ◌∙◌}
 use Rattle.fm_lex.specs.declared.kind.Kind.TheVariants as kinds
 use Rattle.fm_grammar.proofs.Telling.{tells_end}
-use Rattle.fm_parse.specs.Reader.{first_kind}
-use Rattle.fm_parse.proofs.Steps.{refuses_one}
+use Rattle.fm_terms.specs.Reader.{first_kind}
+use Rattle.fm_terms.proofs.Steps.{refuses_one}
 use Rattle.fm_parse.proofs.Verdicts.{at_end}
 use Rattle.fm_parse.proofs.text.check_end.Goals as goal
 

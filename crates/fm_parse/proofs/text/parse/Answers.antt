@@ -8,8 +8,8 @@ use Rattle.fm_grammar.specs.Within.{limits}
 use Rattle.fm_grammar.specs.Reads.{Reads, Fault}
 use Rattle.fm_grammar.specs.Rules.{whole}
 use Rattle.fm_grammar.specs.Table.{is_divided, first_fault}
-use Rattle.fm_parse.specs.declared.fault.ParseFault.{ParseFault}
-use Rattle.fm_parse.specs.Follow.{At}
+use Rattle.fm_terms.specs.declared.fault.ParseFault.{ParseFault}
+use Rattle.fm_terms.specs.Follow.{At}
 use Rattle.fm_parse.specs.Whole.{IsFault, WholeRead, Closes}
 use Rattle.fm_parse.proofs.Verdicts.{answered, refused_with, all_read, all_trip, at_start, lexical_start}
 use Rattle.fm_parse.proofs.text.parse.Goals as goal

@@ -4,8 +4,8 @@ use Rattle.fm_grammar.specs.Grammar as forms
 use Rattle.fm_parse.proofs.Heads.{as_tested}
 use Rattle.fm_grammar.specs.View.{name_view}
 use Rattle.fm_parse.specs.Whole.{states}
-use Rattle.fm_parse.specs.Follow.{leaf_at}
-use Rattle.fm_parse.proofs.Steps.{passed, handed}
+use Rattle.fm_terms.specs.Follow.{leaf_at}
+use Rattle.fm_terms.proofs.Steps.{passed, handed}
 use Rattle.fm_parse.proofs.text.read_division.Goals as goal
 
 pub returns-in_err-read_name-clause-follows : goal.returns-in_err-read_name-clause-follows

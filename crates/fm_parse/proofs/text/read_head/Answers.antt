@@ -1,8 +1,8 @@
 -- The head of a score.
 use Rattle.std.proofs.Common.{refl}
+use Rattle.fm_terms.proofs.Steps.{passed, handed}
+use Rattle.fm_terms.specs.Follow.{leaf_at}
 use Rattle.fm_parse.proofs.Heads.{divides, as_tested}
-use Rattle.fm_parse.proofs.Steps.{passed, handed}
-use Rattle.fm_parse.specs.Follow.{leaf_at}
 use Rattle.fm_parse.proofs.text.read_head.Goals as goal
 
 pub returns-in_err-expect-clause-follows : goal.returns-in_err-expect-clause-follows

@@ -3,7 +3,7 @@ use Rattle.std.proofs.Common.{[], ◌∷◌, refl, ap₂}
 use Rattle.fm_lex.specs.declared.kind.Kind.TheVariants as kinds
 use Rattle.fm_parse.proofs.Verdicts.{closed_err, score_from}
 use Rattle.fm_grammar.specs.Rules.{one}
-use Rattle.fm_parse.proofs.Steps.{passed}
+use Rattle.fm_terms.proofs.Steps.{passed}
 use Rattle.fm_parse.proofs.text.read_score.Goals as goal
 
 pub returns-in_err-head-clause-follows : goal.returns-in_err-head-clause-follows

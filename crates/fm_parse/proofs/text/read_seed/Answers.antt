@@ -1,9 +1,9 @@
 -- A seed, or none.
 use Rattle.std.proofs.Common.{Some, refl, ap}
 use Rattle.fm_grammar.specs.Grammar as forms
-use Rattle.fm_parse.proofs.Steps.{passed, handed}
-use Rattle.fm_parse.proofs.Ways.{at_seed, without_seed}
-use Rattle.fm_parse.specs.Follow.{leaf_at}
+use Rattle.fm_terms.proofs.Steps.{passed, handed}
+use Rattle.fm_terms.proofs.Ways.{at_seed, without_seed}
+use Rattle.fm_terms.specs.Follow.{leaf_at}
 use Rattle.fm_parse.proofs.text.read_seed.Goals as goal
 
 pub returns-in_err-expect-clause-follows : goal.returns-in_err-expect-clause-follows

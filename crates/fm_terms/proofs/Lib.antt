@@ -1,0 +1,10 @@
+pub mod Steps
+pub mod Opening
+pub mod Marks
+pub mod Insides
+pub mod Drafting
+pub mod Pieces
+pub mod CountForms
+pub mod Ways
+pub mod Lengths
+pub mod Growing

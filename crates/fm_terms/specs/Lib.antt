@@ -1,0 +1,5 @@
+pub mod Reader
+pub mod Follow
+pub mod Drafts
+pub mod Counts
+pub mod Stretches

@@ -1,0 +1,40 @@
+//! Pushing onto the lists of a tree.
+
+ghost use Rattle.std.specs.Prelude.{◌≡◌, [], ◌∷◌, ◌++◌, OnOk, IfErr};
+ghost use Rattle.fm_grammar.specs.View.{expr_view};
+ghost use Rattle.fm_terms.specs.Drafts.{spotted, extended};
+
+use crate::fault::ParseFault;
+use fm_lex::Spot;
+use fm_value::{Expr, Node, Spot2};
+
+/// Puts an item at the end of a list. The first one takes room for itself alone, since most lists
+/// of a score have one entry.
+pub fn push<T: Drop>(items: &mut Vec<T>, item: T) -> Result<(), ParseFault>
+    ensures ok { OnOk result (items.new.items ≡ items.old.items ++ item ∷ []) }
+    ensures memory { IfErr result (λ e. e ≡ ParseFault.Memory) }
+{
+    if items.is_empty() && items.reserve_exact(1).is_err() {
+        return Err(ParseFault::Memory);
+    }
+    match items.push(item) {
+        Ok(()) => Ok(()),
+        Err(_) => Err(ParseFault::Memory),
+    }
+}
+
+/// Puts a node with its spot at the end of an expression.
+pub fn push_node(draft: &mut Expr, node: Node, spot: Spot) -> Result<(), ParseFault>
+    ensures ok { OnOk result
+        (expr_view draft.new ≡ extended (expr_view draft.old) (spotted node spot ∷ [])) }
+    ensures memory { IfErr result (λ e. e ≡ ParseFault.Memory) }
+{
+    push(&mut draft.nodes, node)?;
+    push(
+        &mut draft.spots,
+        Spot2 {
+            line: spot.line,
+            column: spot.column,
+        },
+    )
+}
