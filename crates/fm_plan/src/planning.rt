@@ -11,7 +11,7 @@ ghost use Rattle.fm_expansion.specs.Numbering.{score_plan};
 ghost use Rattle.fm_plan.specs.Seen.{outline_plan};
 
 use crate::expanding::{Expanded, expand};
-use fm_expansion::{plans_fit, plans_play_the_score};
+use fm_fidelity::{plans_fit, plans_play_the_score};
 use fm_grammar::Score;
 use fm_outline::{Outline, Tables, outline_of};
 use fm_program::{Plan, Stock};

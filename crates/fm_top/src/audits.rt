@@ -13,7 +13,7 @@ use crate::read_fault::ReadFault;
 use crate::run_fault::RunFault;
 use fm_audit::{AuditFault, MAX_RECORD, audit, header, lines};
 use fm_edge::{Sink, Source};
-use fm_expansion::plans_play_the_score;
+use fm_fidelity::plans_play_the_score;
 use fm_promise::{accepted_lines_are_valid, scores_end_with_their_last_line};
 use std::alloc::Global;
 

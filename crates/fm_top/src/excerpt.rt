@@ -16,7 +16,7 @@ use crate::score::read_score;
 use crate::told::Told;
 use fm_edge::{Gate, Sink, Source};
 use fm_excerpt::excerpt;
-use fm_expansion::plans_play_the_score;
+use fm_fidelity::plans_play_the_score;
 use fm_play::Played;
 use fm_promise::{accepted_pieces_can_be_written, scores_end_with_their_last_line};
 use fm_readback::accepted_files_are_read;

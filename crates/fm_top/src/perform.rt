@@ -15,7 +15,7 @@ use crate::run_fault::RunFault;
 use crate::score::read_score;
 use crate::told::Told;
 use fm_edge::{Gate, Sink, Source};
-use fm_expansion::plans_play_the_score;
+use fm_fidelity::plans_play_the_score;
 use fm_gen::Summary;
 use fm_play::Played;
 use fm_promise::scores_end_with_their_last_line;

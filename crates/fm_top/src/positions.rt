@@ -11,7 +11,7 @@ use crate::run_fault::RunFault;
 use crate::score::read_score;
 use crate::told::Told;
 use fm_edge::Source;
-use fm_expansion::plans_play_the_score;
+use fm_fidelity::plans_play_the_score;
 use fm_position::locate_in;
 use std::alloc::Global;
 

@@ -26,7 +26,7 @@ use crate::score::read_text_and_plan;
 use crate::told::Told;
 use fm_crew::play_taped;
 use fm_edge::{Failed, Gate, MemorySink, Sink, Source};
-use fm_expansion::plans_play_the_score;
+use fm_fidelity::plans_play_the_score;
 use fm_play::Played;
 use fm_program::Plan;
 use fm_promise::scores_end_with_their_last_line;
