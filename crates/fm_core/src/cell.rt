@@ -1,4 +1,6 @@
 //! How far one process is.
+ghost use Rattle.std.specs.Prelude.{◌≡◌};
+ghost use Rattle.fm_core.specs.State.{held_by};
 
 use crate::Tag;
 
@@ -17,4 +19,13 @@ pub struct Cell {
     pub taken: u32,
     /// Whether its end was recorded.
     pub recorded: bool,
+}
+
+impl Cell {
+    /// Whether this seat holds the process.
+    pub fn is_held_by(self, seat: u32) -> bool
+        ensures { result ≡ held_by seat self }
+    {
+        self.tag.is_held() && self.seat == seat
+    }
 }

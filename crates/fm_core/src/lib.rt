@@ -1,9 +1,10 @@
 //! The scheduling core as data: which steps a state of processes, seats and released events
 //! allows, what each step does, and what therefore holds of every state that can be reached.
-//! Nothing here runs. `Step`, `Reason`, `Tag`, `Floor`, `Due`, `Cell` and `Sight` are the words;
-//! the state and the table of steps stand in `specs/`. The main theorem is the clause `step` of
-//! `steps_keep_sound`: for valid lines an allowed step keeps the state sound, so what is released
-//! is a beginning of the piece. That a run never gets stuck is left to the crate above.
+//! `Step`, `Reason`, `Tag`, `Floor`, `Due`, `Cell` and `Sight` are the words, with their tests; the
+//! state and the table of steps stand in `specs/`, and nothing here runs them. The main theorem is
+//! the clause `step` of `steps_keep_sound`: for valid lines an allowed step keeps the state sound,
+//! so what is released is a beginning of the piece. That a run never gets stuck is left to the
+//! crate above.
 #![tactic(auto)]
 
 mod cell;

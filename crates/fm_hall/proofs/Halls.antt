@@ -25,9 +25,9 @@ use Rattle.fm_core.proofs.KeepsRelease.{gather_ordered}
 use Rattle.fm_core.proofs.Opening.{opening_sound}
 use Rattle.fm_core.proofs.Sums.{sum_le, counted}
 use Rattle.fm_hall.specs.Hall.{IsSafe}
-use Rattle.fm_hall.specs.Limits.{IsSetting}
-use Rattle.fm_hall.specs.Stored.{Stored, IsHall}
-use Rattle.fm_hall.proofs.Waiting.{length-outbox, length-take_all}
+use Rattle.fm_state.specs.Limits.{IsSetting}
+use Rattle.fm_state.specs.Stored.{Stored, IsHall}
+use Rattle.fm_state.proofs.Waiting.{length-outbox, length-take_all}
 
 -- an allowed step keeps a hall a hall
 pub hall_keeps : (g : Setting) (m : Stored) (s : Step) → IsHall g m → Allowed g m.state s

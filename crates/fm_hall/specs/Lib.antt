@@ -1,4 +1,2 @@
 pub mod Given
 pub mod Hall
-pub mod Limits
-pub mod Stored

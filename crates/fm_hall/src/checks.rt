@@ -5,9 +5,9 @@ ghost use Rattle.fm_line.specs.Line.{ValidLines, line, total, most_events};
 ghost use Rattle.fm_line.specs.Validity.{all_once, each_below, has_number};
 ghost use Rattle.fm_line.specs.Validity.{line_valid, lines_valid, run_valid};
 
-use crate::sweeps::greatest_end;
 use fm_line::{Line, validity_is_a_test};
 use fm_msg::Event;
+use fm_state::greatest_end;
 
 const MOST_LINES: usize = 16_384;
 
@@ -41,8 +41,8 @@ fn have_few_events(lines: &[Line]) -> bool
     ensures { result ≡ nat_le (total lines.now) most_events }
 {
     let mut count = 0;
-    for place in 0..lines.len() {
-        let more = events_of(lines, place).len();
+    for i in 0..lines.len() {
+        let more = events_of(lines, i).len();
         let space = MOST_EVENTS - count;
         if space < more {
             return false;
@@ -52,12 +52,12 @@ fn have_few_events(lines: &[Line]) -> bool
     true
 }
 
-// The events of the line at this place.
-fn events_of(lines: &[Line], place: usize) -> &[Event]
-    requires { place < length lines.now }
-    ensures { result.now ≡ (line lines.now place).events }
+// The events of the line of a process.
+fn events_of(lines: &[Line], process: usize) -> &[Event]
+    requires { process < length lines.now }
+    ensures { result.now ≡ (line lines.now process).events }
 {
-    lines[place].events.as_slice()
+    lines[process].events.as_slice()
 }
 
 // Whether each line is as it must be among the others.
@@ -65,26 +65,26 @@ fn all_fit(lines: &[Line]) -> bool
     requires { 0 < length lines.now }
     ensures { result ≡ each_below (length lines.now) (line_valid lines.now) }
 {
-    for place in 0..lines.len() {
-        if !does_fit(lines, place) {
+    for i in 0..lines.len() {
+        if !does_fit(lines, i) {
             return false;
         }
     }
     true
 }
 
-// Whether the line at this place is as it must be among the others.
-fn does_fit(lines: &[Line], place: usize) -> bool
-    requires { place < length lines.now }
-    ensures { result ≡ line_valid lines.now place }
+// Whether the line of a process is as it must be among the others.
+fn does_fit(lines: &[Line], process: usize) -> bool
+    requires { process < length lines.now }
+    ensures { result ≡ line_valid lines.now process }
 {
-    let own = &lines[place];
+    let own = &lines[process];
     let predecessors = own.predecessors.as_slice();
     let events = own.events.as_slice();
-    (place == 0 || !predecessors.is_empty())
-        && are_all_below(place, predecessors)
+    (process == 0 || !predecessors.is_empty())
+        && are_all_below(process, predecessors)
         && are_all_apart(predecessors)
-        && is_run(place, greatest_end(lines, predecessors), own.end, events)
+        && is_run(process, greatest_end(lines, predecessors), own.end, events)
         && own.end <= LAST_TICK
         && own.end <= lines[lines.len() - 1].end
 }
@@ -105,8 +105,8 @@ fn are_all_below(process: usize, predecessors: &[u32]) -> bool
 fn are_all_apart(predecessors: &[u32]) -> bool
     ensures { result ≡ all_once predecessors.now }
 {
-    for place in 0..predecessors.len() {
-        if has(predecessors[place], &predecessors[place + 1..]) {
+    for i in 0..predecessors.len() {
+        if has(predecessors[i], &predecessors[i + 1..]) {
             return false;
         }
     }
@@ -131,9 +131,9 @@ fn is_run(process: usize, from: u64, end: u64, events: &[Event]) -> bool
     ensures { result ≡ run_valid from end process 0 events.now }
 {
     let mut low = from;
-    for place in 0..events.len() {
-        let event = &events[place];
-        if !is_next(process, place, low, event) {
+    for i in 0..events.len() {
+        let event = &events[i];
+        if !is_next(process, i, low, event) {
             return false;
         }
         low = event.time();
@@ -141,10 +141,10 @@ fn is_run(process: usize, from: u64, end: u64, events: &[Event]) -> bool
     low <= end
 }
 
-// Whether the event is of this process and this place, and not before this tick.
-fn is_next(process: usize, place: usize, low: u64, event: &Event) -> bool
+// Whether the event is of this process and this index, and not before this tick.
+fn is_next(process: usize, index: usize, low: u64, event: &Event) -> bool
     ensures { result ≡ (nat_le low event.now.time && nat_eq event.now.process process
-        && nat_eq event.now.index place) }
+        && nat_eq event.now.index index) }
 {
-    low <= event.time() && event.process() as usize == process && event.index() as usize == place
+    low <= event.time() && event.process() as usize == process && event.index() as usize == index
 }

@@ -1,7 +1,6 @@
 //! The step that brings a run nearer to its end: eight rules, each at the least process it fits.
 ghost use Rattle.std.specs.Prelude.{◌≡◌, ◌<◌, ◌≤◌, ℕ, length, true, Some};
 ghost use Rattle.fm_core.specs.Invariant.{Sound, ValidSetting};
-ghost use Rattle.fm_core.specs.Floors.{floor_eq};
 ghost use Rattle.fm_core.specs.Numbers.{find_below};
 ghost use Rattle.fm_core.specs.State.{cell, desk};
 ghost use Rattle.fm_core.specs.Steps.{unvisited};
@@ -9,27 +8,13 @@ ghost use Rattle.fm_core.specs.Tags as words;
 ghost use Rattle.fm_progress.specs.Left.{can_lower, waits_for_visit, workable};
 ghost use Rattle.fm_progress.specs.NextStep.{claims, gives_back, lowers, next_step, releases, startable, starts, sweeps, visits, works};
 
-use crate::dues::{is_due, must_be_taken};
 use crate::refusals::misses_a_visit;
-use crate::rules::{Rules, time_at};
 use crate::searches::{
     computes_next, first_held, first_lowering, first_starting, first_unvisited, first_waiting,
     first_working, has_finished, has_stale_sweep,
 };
-use crate::tables::Tables;
-use crate::tags::{has_nothing, is_ended, is_out};
-use fm_core::{Floor, Step};
-
-// Whether two floors are the same.
-fn is_same_floor(one: Floor, other: Floor) -> bool
-    ensures { result ≡ floor_eq one other }
-{
-    match (one, other) {
-        (Floor::At(tick), Floor::At(other_tick)) => tick == other_tick,
-        (Floor::Done, Floor::Done) => true,
-        _ => false,
-    }
-}
+use fm_core::Step;
+use fm_state::{Rules, Tables, is_due, must_be_taken, time_at};
 
 // A record of a held process, or its give with the next event where that may be computed.
 fn lowering(rules: &Rules, tables: &Tables, process: u32) -> Step
@@ -40,7 +25,7 @@ fn lowering(rules: &Rules, tables: &Tables, process: u32) -> Step
 {
     let own = rules.line(process);
     let from = tables.cell(process);
-    if is_out(from.tag) && !from.recorded {
+    if from.tag.is_out() && !from.recorded {
         return Step::Record {
             seat: from.seat,
             process,
@@ -75,7 +60,7 @@ fn giving_back(rules: &Rules, tables: &Tables, process: u32) -> Step
         taken: must_be_taken(rules, tables, from.seat, process),
         computed: 0,
         clock: from.clock,
-        ended: is_ended(from.tag),
+        ended: from.tag.is_ended(),
     }
 }
 
@@ -102,7 +87,7 @@ fn working(tables: &Tables, process: u32) -> Step
     requires { 0 < length tables.now.state.desks }
     ensures { Some result ≡ works tables.now.state (Some process) }
 {
-    if is_same_floor(tables.paced(0), tables.floor()) {
+    if tables.paced(0).is_same(tables.floor()) {
         Step::Claim { seat: 0, process }
     } else {
         Step::Pace { seat: 0 }
@@ -119,7 +104,7 @@ fn visiting(tables: &Tables) -> Option<Step>
     if !is_due(tables.due()) {
         return None;
     }
-    if !has_nothing(tables.cell(process).tag) {
+    if !tables.cell(process).tag.has_nothing() {
         return Some(Step::Claim { seat: 0, process });
     }
     let next = tables.sweep(0).len();

@@ -4,14 +4,11 @@ ghost use Rattle.fm_core.specs.State.{cell};
 ghost use Rattle.fm_core.specs.Steps.{Allowed};
 ghost use Rattle.fm_core.specs.Effects.{after, claimed, begun, noted, given};
 ghost use Rattle.fm_core.specs.Invariant.{Sound};
-ghost use Rattle.fm_hall.specs.Stored.{IsHall};
+ghost use Rattle.fm_state.specs.Stored.{IsHall};
 
-use crate::dues::{is_due, waiting_events};
-use crate::rules::Rules;
-use crate::sweeps::{least_pair, sight_of, start_of};
-use crate::tables::Tables;
-use crate::tags::{claimed_tag, given_tag, has_nothing};
+use crate::handover::Handover;
 use fm_core::{Cell, Step, Tag};
+use fm_state::{Rules, Tables, is_due, least_pair, sight_of, start_of, waiting_events};
 
 fn look(rules: &Rules, tables: &mut Tables, seat: u32, process: u32)
     requires hall { IsHall rules.now tables.old }
@@ -21,7 +18,7 @@ fn look(rules: &Rules, tables: &mut Tables, seat: u32, process: u32)
     } }
 {
     let sight = sight_of(rules, tables, tables.sweep(seat), process);
-    let visits = seat == 0 && has_nothing(tables.cell(process).tag);
+    let visits = seat == 0 && tables.cell(process).tag.has_nothing();
     tables.enter(seat, process, sight);
     if visits {
         tables.visit(process);
@@ -35,7 +32,7 @@ fn claim(rules: &Rules, tables: &mut Tables, seat: u32, process: u32)
     } }
 {
     let from = tables.cell(process);
-    let tag = claimed_tag(from.tag);
+    let tag = from.tag.claimed();
     tables.set_cell(process, Cell { tag, seat, ..from });
 }
 
@@ -75,28 +72,19 @@ fn record_end(rules: &Rules, tables: &mut Tables, seat: u32, process: u32)
     );
 }
 
-fn give(
-    rules: &Rules,
-    tables: &mut Tables,
-    seat: u32,
-    process: u32,
-    taken: u32,
-    computed: u32,
-    clock: u64,
-    ended: bool,
-)
+fn give(rules: &Rules, tables: &mut Tables, seat: u32, process: u32, handed: Handover)
     requires hall { IsHall rules.now tables.old }
     requires allowed { Allowed rules.now tables.old.state
-        (Step.Give seat process taken computed clock ended) }
+        (Step.Give seat process handed.taken handed.computed handed.clock handed.ended) }
     ensures { tables.new ≡ record tables.old {
       state = after rules.now tables.old.state
-          (Step.Give seat process taken computed clock ended);
+          (Step.Give seat process handed.taken handed.computed handed.clock handed.ended);
     } }
 {
     let from = tables.cell(process);
-    let next = given_cell(rules.room(), from, taken, computed, clock, ended);
+    let next = given_cell(rules.room(), from, handed);
     let visits = seat == 0 && is_due(tables.due());
-    tables.take(&waiting_events(rules, tables, process)[..taken as usize]);
+    tables.take(&waiting_events(rules, tables, process)[..handed.taken as usize]);
     tables.set_cell(process, next);
     if visits {
         tables.visit(process);
@@ -104,16 +92,17 @@ fn give(
 }
 
 // A process that comes home.
-fn given_cell(room: u32, from: Cell, taken: u32, computed: u32, clock: u64, ended: bool) -> Cell
-    requires computed { from.computed + computed < 2 ^ 32 }
-    requires taken { from.taken + taken ≤ from.computed + computed }
-    ensures { result ≡ given room from taken computed clock ended }
+fn given_cell(room: u32, from: Cell, handed: Handover) -> Cell
+    requires computed { from.computed + handed.computed < 2 ^ 32 }
+    requires taken { from.taken + handed.taken ≤ from.computed + handed.computed }
+    ensures { result
+        ≡ given room from handed.taken handed.computed handed.clock handed.ended }
 {
-    let computed = from.computed + computed;
-    let taken = from.taken + taken;
+    let computed = from.computed + handed.computed;
+    let taken = from.taken + handed.taken;
     Cell {
-        tag: given_tag(room, ended, computed - taken),
-        clock,
+        tag: Tag::given(room, handed.ended, computed - taken),
+        clock: handed.clock,
         seat: 0,
         computed,
         taken,
@@ -150,7 +139,15 @@ pub(crate) fn take_step(rules: &Rules, tables: &mut Tables, step: Step)
             computed,
             clock,
             ended,
-        } => give(rules, tables, seat, process, taken, computed, clock, ended),
+        } => {
+            let handed = Handover {
+                taken,
+                computed,
+                clock,
+                ended,
+            };
+            give(rules, tables, seat, process, handed)
+        }
         Step::Publish => publish(rules, tables),
         Step::Pace { seat } => tables.pace(seat),
         Step::Release { .. } => tables.release(),

@@ -8,19 +8,17 @@ ghost use Rattle.fm_core.specs.Sweep.{least};
 ghost use Rattle.fm_core.specs.Invariant.{Sound};
 ghost use Rattle.fm_progress.specs.NextStep.{next_step};
 ghost use Rattle.fm_progress.specs.Progress.{Finished, Nearer};
-ghost use Rattle.fm_hall.specs.Limits.{IsSetting};
+ghost use Rattle.fm_state.specs.Limits.{IsSetting};
 ghost use Rattle.fm_hall.specs.Hall.{HallState, IsSafe, answer, stepped};
 
 use crate::Taken;
 use crate::choices::chosen_step;
 use crate::effects::take_step;
 use crate::refusals::why_not;
-use crate::rules::Rules;
-use crate::sweeps::least_pair;
-use crate::tables::Tables;
 use fm_core::{Floor, MAX_SEATS, Step};
 use fm_line::Line;
 use fm_msg::Event;
+use fm_state::{Rules, Tables, least_pair};
 use std::alloc::{AllocError, Global};
 use std::marker::Model;
 
@@ -34,7 +32,7 @@ pub struct Hall {
 
 impl Model for Hall {
     ghost use Rattle.fm_hall.specs.Hall.{HallState};
-    ghost use Rattle.fm_hall.specs.Stored.{IsHall};
+    ghost use Rattle.fm_state.specs.Stored.{IsHall};
 
     ghost Value = { HallState };
 
@@ -134,8 +132,8 @@ fn count_events(lines: &[Line]) -> usize
     ensures { result ≡ total lines.now }
 {
     let mut count = 0;
-    for place in 0..lines.len() {
-        count += lines[place].events.as_slice().len();
+    for i in 0..lines.len() {
+        count += lines[i].events.as_slice().len();
     }
     count
 }

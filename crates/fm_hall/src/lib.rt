@@ -1,25 +1,19 @@
 //! The scheduling core as a machine that makes one step at a time, on one thread.
 //!
-//! A [`Hall`] keeps processes, seats, the floor and the released events in vectors whose memory it
-//! takes at `open`. `Hall::step` takes exactly the steps that `fm_core` allows and answers its
-//! first reason for any other. Its clause `safe` says what then holds of every hall: what is
-//! released is a beginning of the piece. `Hall::next_step` never gets stuck. Real threads are left
-//! to the crates above.
+//! A [`Hall`] keeps processes, seats, the floor and the released events in the tables of
+//! `fm_state`, whose memory it takes at `open`. `Hall::step` takes exactly the steps that `fm_core`
+//! allows and answers its first reason for any other. Its clause `safe` says what then holds of
+//! every hall: what is released is a beginning of the piece. `Hall::next_step` never gets stuck.
+//! Real threads are left to the crates above.
 #![tactic(auto)]
 
 mod checks;
 mod choices;
-mod desk;
-mod dues;
 mod effects;
 mod hall;
-mod holds;
+mod handover;
 mod refusals;
-mod rules;
 mod searches;
-mod sweeps;
-mod tables;
-mod tags;
 mod taken;
 #[cfg(test)]
 mod tests;

@@ -2,26 +2,17 @@
 ghost use Rattle.std.specs.Prelude.{◌≡◌, ◌+◌, ◌^◌, ◌<◌, length, not, ◌&&◌, ◌||◌, nat_lt};
 ghost use Rattle.fm_line.specs.Line.{upper};
 ghost use Rattle.fm_core.specs.Numbers.{any_below};
-ghost use Rattle.fm_core.specs.State.{Setting, held_by, cell, desk};
+ghost use Rattle.fm_core.specs.State.{Setting, cell, desk};
 ghost use Rattle.fm_core.specs.Floors.{within};
 ghost use Rattle.fm_core.specs.Tags as words;
 ghost use Rattle.fm_core.specs.Steps.{first, reason, waits, unvisited, wrong_clock, wrong_end};
 ghost use Rattle.fm_core.specs.Invariant.{Sound};
 ghost use Rattle.fm_hall.specs.Given.{given_table};
 
-use crate::dues::{is_due, must_be_taken};
-use crate::rules::{Rules, time_at};
-use crate::tables::Tables;
-use crate::tags::{is_claimable, is_ended, is_held, is_out, is_unborn};
+use crate::handover::Handover;
 use fm_core::{Cell, Floor, Reason, Step};
 use fm_line::Line;
-
-/// Whether this seat holds the process.
-pub(crate) fn is_held_by(seat: u32, own: Cell) -> bool
-    ensures { result ≡ held_by seat own }
-{
-    is_held(own.tag) && own.seat == seat
-}
+use fm_state::{Rules, Tables, is_due, must_be_taken, time_at};
 
 /// Whether some predecessor of a process is not ended.
 pub(crate) fn is_waiting(rules: &Rules, tables: &Tables, process: u32) -> bool
@@ -30,8 +21,8 @@ pub(crate) fn is_waiting(rules: &Rules, tables: &Tables, process: u32) -> bool
     ensures { result ≡ waits rules.now tables.now.state process }
 {
     let predecessors = rules.predecessors(process);
-    for place in 0..predecessors.len() {
-        if !is_ended(tables.cell(predecessors[place]).tag) {
+    for i in 0..predecessors.len() {
+        if !tables.cell(predecessors[i]).tag.is_ended() {
             return true;
         }
     }
@@ -50,23 +41,13 @@ pub(crate) fn misses_a_visit(tables: &Tables) -> bool
     false
 }
 
-/// Whether a time in ticks is at most the floor plus the lead.
-pub(crate) fn is_within(floor: Floor, lead: u64, time: u64) -> bool
-    ensures { result ≡ within floor lead time }
-{
-    match floor {
-        Floor::At(tick) => time <= tick || time - tick <= lead,
-        Floor::Done => true,
-    }
-}
-
 // Whether one of the events to be computed is above the floor plus the lead.
 fn is_above_lead(own: &Line, from: usize, count: usize, floor: Floor, lead: u64) -> bool
     requires { from + count < 2 ^ 64 }
     ensures { result ≡ any_below count (λ i. not (within floor lead (upper own.now (from + i)))) }
 {
     for index in 0..count {
-        if !is_within(floor, lead, time_at(own, from + index)) {
+        if !floor.is_within(lead, time_at(own, from + index)) {
             return true;
         }
     }
@@ -79,33 +60,35 @@ fn is_wrong_count(own: &Line, from: Cell, computed: u32) -> bool
         || words.is_ended from.tag && nat_lt 0 computed }
 {
     (own.events.as_slice().len() as u64) < from.computed as u64 + computed as u64
-        || is_ended(from.tag) && 0 < computed
+        || from.tag.is_ended() && 0 < computed
 }
 
 // Whether the outbox, less the taken and with the computed events, passes the room.
-fn is_over_room(room: u32, from: Cell, taken: u32, computed: u32) -> bool
-    ensures { result ≡ nat_lt (room + from.taken + taken) (from.computed + computed) }
+fn is_over_room(room: u32, from: Cell, handed: Handover) -> bool
+    ensures { result
+        ≡ nat_lt (room + from.taken + handed.taken) (from.computed + handed.computed) }
 {
-    room as u64 + from.taken as u64 + (taken as u64) < from.computed as u64 + computed as u64
+    room as u64 + from.taken as u64 + (handed.taken as u64)
+        < from.computed as u64 + handed.computed as u64
 }
 
 // Whether the clock falls, passes the next event or the end, or moves though ended.
-fn is_wrong_clock(own: &Line, from: Cell, computed: u32, clock: u64) -> bool
-    ensures { result ≡ wrong_clock own.now from computed clock }
+fn is_wrong_clock(own: &Line, from: Cell, handed: Handover) -> bool
+    ensures { result ≡ wrong_clock own.now from handed.computed handed.clock }
 {
-    clock < from.clock
-        || time_at(own, from.computed as usize + computed as usize) < clock
-        || is_ended(from.tag) && clock != from.clock
+    handed.clock < from.clock
+        || time_at(own, from.computed as usize + handed.computed as usize) < handed.clock
+        || from.tag.is_ended() && handed.clock != from.clock
 }
 
 // Whether an ended process does not stay ended, or one ends too early.
-fn is_wrong_end(own: &Line, from: Cell, computed: u32, clock: u64, ended: bool) -> bool
-    ensures { result ≡ wrong_end own.now from computed clock ended }
+fn is_wrong_end(own: &Line, from: Cell, handed: Handover) -> bool
+    ensures { result ≡ wrong_end own.now from handed.computed handed.clock handed.ended }
 {
-    is_ended(from.tag) && !ended
-        || ended
-            && (from.computed as usize + (computed as usize) < own.events.as_slice().len()
-                || clock != own.end
+    from.tag.is_ended() && !handed.ended
+        || handed.ended
+            && (from.computed as usize + (handed.computed as usize) < own.events.as_slice().len()
+                || handed.clock != own.end
                 || !from.recorded)
 }
 
@@ -137,7 +120,7 @@ fn why_not_claim(tables: &Tables, seat: u32, process: u32) -> Option<Reason>
     if tables.is_holding(seat) {
         return Some(Reason::Holding);
     }
-    if !is_claimable(seat, tables.cell(process).tag) {
+    if !tables.cell(process).tag.is_claimable(seat) {
         return Some(Reason::NotClaimable);
     }
     None
@@ -156,7 +139,7 @@ fn why_not_start(rules: &Rules, tables: &Tables, seat: u32, process: u32) -> Opt
     if tables.is_holding(seat) {
         return Some(Reason::Holding);
     }
-    if !is_unborn(tables.cell(process).tag) {
+    if !tables.cell(process).tag.is_unborn() {
         return Some(Reason::NotUnborn);
     }
     if is_waiting(rules, tables, process) {
@@ -175,7 +158,7 @@ fn why_not_record(tables: &Tables, seat: u32, process: u32) -> Option<Reason>
         return Some(Reason::NoProcess);
     }
     let own = tables.cell(process);
-    if !(is_out(own.tag) && own.seat == seat) {
+    if !(own.tag.is_out() && own.seat == seat) {
         return Some(Reason::NotHeld);
     }
     None
@@ -190,7 +173,7 @@ fn why_not_recall(tables: &Tables, seat: u32, process: u32) -> Option<Reason>
     if process >= tables.processes() {
         return Some(Reason::NoProcess);
     }
-    if !is_ended(tables.cell(process).tag) {
+    if !tables.cell(process).tag.is_ended() {
         return Some(Reason::PredecessorLive);
     }
     None
@@ -201,14 +184,11 @@ fn why_not_give(
     tables: &Tables,
     seat: u32,
     process: u32,
-    taken: u32,
-    computed: u32,
-    clock: u64,
-    ended: bool,
+    handed: Handover,
 ) -> Option<Reason>
     requires { Sound rules.now tables.now.state }
     ensures { result ≡ reason rules.now tables.now.state
-        (Step.Give seat process taken computed clock ended) }
+        (Step.Give seat process handed.taken handed.computed handed.clock handed.ended) }
 {
     if seat >= tables.seats() {
         return Some(Reason::NoSeat);
@@ -218,15 +198,13 @@ fn why_not_give(
     }
     let own = rules.line(process);
     let from = tables.cell(process);
-    if !is_held_by(seat, from) {
+    if !from.is_held_by(seat) {
         return Some(Reason::NotHeld);
     }
-    if taken != must_be_taken(rules, tables, seat, process) {
+    if handed.taken != must_be_taken(rules, tables, seat, process) {
         return Some(Reason::WrongTake);
     }
-    why_not_given(
-        rules, tables, seat, own, from, taken, computed, clock, ended,
-    )
+    why_not_given(rules, tables, seat, own, from, handed)
 }
 
 // The same of a give of a held process, of which as much is taken as must be.
@@ -236,35 +214,28 @@ fn why_not_given(
     seat: u32,
     own: &Line,
     from: Cell,
-    taken: u32,
-    computed: u32,
-    clock: u64,
-    ended: bool,
+    handed: Handover,
 ) -> Option<Reason>
     requires { seat < length tables.now.state.desks }
     ensures { let paced = (desk tables.now.state seat).paced in
-        result ≡ first (given_table rules.now own.now from paced taken computed clock ended) }
+        result ≡ first (given_table rules.now own.now from paced handed.taken handed.computed
+        handed.clock handed.ended) }
 {
-    if is_wrong_count(own, from, computed) {
+    if is_wrong_count(own, from, handed.computed) {
         return Some(Reason::WrongCount);
     }
+    let index = from.computed as usize;
     let paced = tables.paced(seat);
-    if is_above_lead(
-        own,
-        from.computed as usize,
-        computed as usize,
-        paced,
-        rules.lead(),
-    ) {
+    if is_above_lead(own, index, handed.computed as usize, paced, rules.lead()) {
         return Some(Reason::AboveLead);
     }
-    if is_over_room(rules.room(), from, taken, computed) {
+    if is_over_room(rules.room(), from, handed) {
         return Some(Reason::OverRoom);
     }
-    if is_wrong_clock(own, from, computed, clock) {
+    if is_wrong_clock(own, from, handed) {
         return Some(Reason::WrongClock);
     }
-    if is_wrong_end(own, from, computed, clock, ended) {
+    if is_wrong_end(own, from, handed) {
         return Some(Reason::WrongEnd);
     }
     None
@@ -325,7 +296,15 @@ pub(crate) fn why_not(rules: &Rules, tables: &Tables, step: Step) -> Option<Reas
             computed,
             clock,
             ended,
-        } => why_not_give(rules, tables, seat, process, taken, computed, clock, ended),
+        } => {
+            let handed = Handover {
+                taken,
+                computed,
+                clock,
+                ended,
+            };
+            why_not_give(rules, tables, seat, process, handed)
+        }
         Step::Publish => why_not_publish(tables),
         Step::Pace { seat } => why_not_pace(tables, seat),
         Step::Release { count } => why_not_release(tables, count),

@@ -8,20 +8,16 @@ ghost use Rattle.fm_core.specs.Tags as words;
 ghost use Rattle.fm_progress.specs.Left.{any_stale, can_lower, changed_in, may_compute, ready, waits_for_visit, workable};
 ghost use Rattle.fm_progress.specs.NextStep.{is_finished, startable};
 
-use crate::dues::{due_among, must_be_taken, waiting_events};
-use crate::refusals::{is_waiting, is_within};
-use crate::rules::{Rules, time_at};
-use crate::sweeps::sight_of;
-use crate::tables::Tables;
-use crate::tags::{is_at_hand, is_drained, is_held, is_home, is_out, is_unborn};
+use crate::refusals::is_waiting;
 use fm_core::{Cell, Sight};
 use fm_line::Line;
+use fm_state::{Rules, Tables, due_among, must_be_taken, sight_of, time_at, waiting_events};
 
 // Whether the clock has come to the next event, or to the end where none is left.
 fn is_ready(own: &Line, from: Cell) -> bool
     ensures { result ≡ ready own.now from }
 {
-    !is_unborn(from.tag) && from.clock == time_at(own, from.computed as usize)
+    !from.tag.is_unborn() && from.clock == time_at(own, from.computed as usize)
 }
 
 // Whether an event is left to compute.
@@ -39,15 +35,13 @@ fn has_work(rules: &Rules, tables: &Tables, process: u32) -> bool
 {
     let own = rules.line(process);
     let from = tables.cell(process);
-    is_at_hand(from.tag)
+    from.tag.is_at_hand()
         && (!is_ready(own, from)
             || !has_events_left(own, from)
-            || is_home(from.tag)
-                && is_within(
-                    tables.floor(),
-                    rules.lead(),
-                    time_at(own, from.computed as usize),
-                ))
+            || from.tag.is_home()
+                && tables
+                    .floor()
+                    .is_within(rules.lead(), time_at(own, from.computed as usize)))
 }
 
 /// Whether the next event of a held process may be computed in this hold.
@@ -62,7 +56,7 @@ pub(crate) fn computes_next(rules: &Rules, tables: &Tables, process: u32) -> boo
     let must = must_be_taken(rules, tables, from.seat, process);
     let paced = tables.paced(from.seat);
     has_events_left(own, from)
-        && (is_within(paced, rules.lead(), time_at(own, from.computed as usize))
+        && (paced.is_within(rules.lead(), time_at(own, from.computed as usize))
             && (from.computed as u64) < rules.room() as u64 + from.taken as u64 + must as u64)
 }
 
@@ -74,13 +68,13 @@ fn lowers_owed(rules: &Rules, tables: &Tables, process: u32) -> bool
 {
     let own = rules.line(process);
     let from = tables.cell(process);
-    if !is_held(from.tag) {
+    if !from.tag.is_held() {
         return false;
     }
     if 0 < must_be_taken(rules, tables, from.seat, process) {
         return true;
     }
-    is_out(from.tag)
+    from.tag.is_out()
         && (!from.recorded
             || !is_ready(own, from)
             || !has_events_left(own, from)
@@ -119,7 +113,7 @@ pub(crate) fn first_held(tables: &Tables) -> Option<u32>
         (λ p. words.is_held (cell tables.now.state p).tag) }
 {
     for process in 0..tables.processes() {
-        if is_held(tables.cell(process).tag) {
+        if tables.cell(process).tag.is_held() {
             return Some(process);
         }
     }
@@ -132,7 +126,7 @@ fn can_start(rules: &Rules, tables: &Tables, process: u32) -> bool
     requires process { process < length tables.now.state.cells }
     ensures { result ≡ startable rules.now tables.now.state process }
 {
-    is_unborn(tables.cell(process).tag) && !is_waiting(rules, tables, process)
+    tables.cell(process).tag.is_unborn() && !is_waiting(rules, tables, process)
 }
 
 /// The least process that can start.
@@ -195,7 +189,7 @@ fn all_drained(tables: &Tables) -> bool
         (λ p. not (words.is_drained (cell tables.now.state p).tag))) }
 {
     for process in 0..tables.processes() {
-        if !is_drained(tables.cell(process).tag) {
+        if !tables.cell(process).tag.is_drained() {
             return false;
         }
     }
@@ -230,8 +224,8 @@ pub(crate) fn has_stale_sweep(rules: &Rules, tables: &Tables) -> bool
     ensures { result ≡ any_stale rules.now tables.now.state }
 {
     let sweep = tables.sweep(0);
-    for place in 0..sweep.len() {
-        if has_changed(rules, tables, sweep, place as u32) {
+    for i in 0..sweep.len() {
+        if has_changed(rules, tables, sweep, i as u32) {
             return true;
         }
     }

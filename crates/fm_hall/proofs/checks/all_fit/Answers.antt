@@ -19,16 +19,16 @@ one_more f p here before_it q lt = dite (ℕ_discrete q p) (λ e. subst (λ (r :
 
 pub returns-then-not-does_fit : goal.returns-then-not-does_fit
 returns-then-not-does_fit c =
-    let ls = c.args.lines.now in let p = c.loop-place.place in
+    let ls = c.args.lines.now in let p = c.loop-i.i in
     let here : line_valid ls p ≡ false = search rules in
-    sym (never _ (λ all. both_ways _ here (each_below_at (length ls) p (line_valid ls) all c.loop-place-test.true)))
+    sym (never _ (λ all. both_ways _ here (each_below_at (length ls) p (line_valid ls) all c.loop-i-test.true)))
 
-pub loop-place-preserved : goal.loop-place-preserved
-loop-place-preserved c =
-    let ls = c.args.lines.now in let p = c.loop-place.place in
-    λ q lt. one_more (line_valid ls) p (search rules) c.loop-place.invariant q (omega arith)
+pub loop-i-preserved : goal.loop-i-preserved
+loop-i-preserved c =
+    let ls = c.args.lines.now in let p = c.loop-i.i in
+    λ q lt. one_more (line_valid ls) p (search rules) c.loop-i.invariant q (omega arith)
 
 pub returns : goal.returns
 returns c =
-    let ls = c.args.lines.now in let past = c.loop-place-test.false in
-    sym (each_below_from (length ls) (line_valid ls) (λ q lt. c.loop-place.invariant q (omega arith)))
+    let ls = c.args.lines.now in let past = c.loop-i-test.false in
+    sym (each_below_from (length ls) (line_valid ls) (λ q lt. c.loop-i.invariant q (omega arith)))

@@ -3,5 +3,5 @@ use Rattle.std.proofs.Common.{◌≡◌, ℕ, ◌<◌, true}
 use Rattle.fm_line.specs.Validity.{line_valid}
 use Rattle.fm_hall.proofs.checks.all_fit.Given as goal
 
-abbrev pub invariant-loop-place : goal.invariant-loop-place
-invariant-loop-place l = (q : ℕ) → q < l.place → line_valid l.lines q ≡ true
+abbrev pub invariant-loop-i : goal.invariant-loop-i
+invariant-loop-i l = (q : ℕ) → q < l.i → line_valid l.lines q ≡ true

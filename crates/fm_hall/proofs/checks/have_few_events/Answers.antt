@@ -14,8 +14,8 @@ sum_rises n (suc m) f le = dite (ℕ_discrete n (suc m)) (λ e. rw e (omega arit
 
 pub returns-then-space-more : goal.returns-then-space-more
 returns-then-space-more c =
-    let ls = c.args.lines.now in let p = c.loop-place.place in
+    let ls = c.args.lines.now in let p = c.loop-i.i in
     let more = ap length c.events_of-more.ensures in
-    let so_far = c.loop-place.invariant.sum in
+    let so_far = c.loop-i.invariant.sum in
     let all = sum_rises (suc p) (length ls) (λ q. length (line ls q).events) (omega arith) in
     sym (lt-leb (total ls) most_events (omega arith))

@@ -3,5 +3,5 @@ use Rattle.std.proofs.Common.{◌≡◌, ◌≤◌, length}
 use Rattle.fm_line.specs.Line.{line, sum_below, most_events}
 use Rattle.fm_hall.proofs.checks.have_few_events.Given as goal
 
-abbrev pub invariant-loop-place : goal.invariant-loop-place
-invariant-loop-place l = record { sum : l.count ≡ sum_below l.place (λ p. length (line l.lines p).events); few : l.count ≤ most_events }
+abbrev pub invariant-loop-i : goal.invariant-loop-i
+invariant-loop-i l = record { sum : l.count ≡ sum_below l.i (λ p. length (line l.lines p).events); few : l.count ≤ most_events }

@@ -9,10 +9,10 @@ use Rattle.fm_hall.proofs.hall.count_events.Goals as goal
 pub overflow_add-count : goal.overflow_add-count
 overflow_add-count c =
     let lines = c.args.lines.now in
-    let place = c.loop-place.place in
-    let before = c.loop-place-test.true in
-    let same = ap (λ (l : Line). length l.events) (get_or_default lines place c.index-lines-place.result no_line before) in
+    let i = c.loop-i.i in
+    let before = c.loop-i-test.true in
+    let same = ap (λ (l : Line). length l.events) (get_or_default lines i c.index-lines-i.result no_line before) in
     let here = ap length c.as_slice.ensures in
-    let up = sum_up (length lines) (suc place) (λ p. length (line lines p).events) (omega arith) in
-    let so_far = c.loop-place.invariant in
+    let up = sum_up (length lines) (suc i) (λ p. length (line lines p).events) (omega arith) in
+    let so_far = c.loop-i.invariant in
     let few = c.requires in omega arith

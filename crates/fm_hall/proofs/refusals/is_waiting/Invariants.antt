@@ -5,6 +5,6 @@ use Rattle.fm_core.specs.State.{cell}
 use Rattle.fm_core.specs.Tags.{is_ended}
 use Rattle.fm_hall.proofs.refusals.is_waiting.Given as goal
 
-abbrev pub invariant-loop-place : goal.invariant-loop-place
-invariant-loop-place l =
-    (i : ℕ) → i < l.place → not (is_ended (cell l.tables.state (slice_index_or l.predecessors i 0)).tag) ≡ false
+abbrev pub invariant-loop-i : goal.invariant-loop-i
+invariant-loop-i l =
+    (i : ℕ) → i < l.i → not (is_ended (cell l.tables.state (slice_index_or l.predecessors i 0)).tag) ≡ false

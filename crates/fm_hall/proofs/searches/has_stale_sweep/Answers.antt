@@ -20,17 +20,17 @@ pub returns-then-has_changed : goal.returns-then-has_changed
 returns-then-has_changed c =
     let g = c.args.rules.now in let h = c.args.tables.now.state in let seen = c.sweep-sweep.result.now in
     stale_is g h c.requires.valid c.requires.sound seen c.sweep-sweep.ensures true (any_at (length seen) (changed_in g h seen)
-    c.loop-place.place c.loop-place-test.true (sym c.has_changed.ensures ∙ c.if-has_changed.true))
+    c.loop-i.i c.loop-i-test.true (sym c.has_changed.ensures ∙ c.if-has_changed.true))
 
-pub loop-place-preserved : goal.loop-place-preserved
-loop-place-preserved c =
+pub loop-i-preserved : goal.loop-i-preserved
+loop-i-preserved c =
     let g = c.args.rules.now in let h = c.args.tables.now.state in let seen = c.sweep-sweep.result.now in
-    λ q lt. one_more (changed_in g h seen) c.loop-place.place (sym c.has_changed.ensures ∙ c.if-has_changed.false)
-    c.loop-place.invariant q (omega arith)
+    λ q lt. one_more (changed_in g h seen) c.loop-i.i (sym c.has_changed.ensures ∙ c.if-has_changed.false)
+    c.loop-i.invariant q (omega arith)
 
 pub returns : goal.returns
 returns c =
     let g = c.args.rules.now in let h = c.args.tables.now.state in let seen = c.sweep-sweep.result.now in
-    let past = c.loop-place-test.false in
+    let past = c.loop-i-test.false in
     stale_is g h c.requires.valid c.requires.sound seen c.sweep-sweep.ensures false (not_any (length seen) (changed_in g h seen)
-    (λ q lt. c.loop-place.invariant q (omega arith)))
+    (λ q lt. c.loop-i.invariant q (omega arith)))

@@ -3,5 +3,5 @@ use Rattle.std.proofs.Common.{◌≡◌, ℕ, ◌<◌, false}
 use Rattle.fm_progress.specs.Left.{changed_in}
 use Rattle.fm_hall.proofs.searches.has_stale_sweep.Given as goal
 
-abbrev pub invariant-loop-place : goal.invariant-loop-place
-invariant-loop-place l = (q : ℕ) → q < l.place → changed_in l.rules l.tables.state l.sweep q ≡ false
+abbrev pub invariant-loop-i : goal.invariant-loop-i
+invariant-loop-i l = (q : ℕ) → q < l.i → changed_in l.rules l.tables.state l.sweep q ≡ false

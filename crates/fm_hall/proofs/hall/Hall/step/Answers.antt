@@ -1,7 +1,7 @@
 -- A step keeps the hall a hall, and a hall is safe.
 use Rattle.std.proofs.Common.{sym, ◌∙◌, subst}
 use Rattle.fm_hall.specs.Hall.{HallState, IsSafe}
-use Rattle.fm_hall.specs.Stored.{IsHall}
+use Rattle.fm_state.specs.Stored.{IsHall}
 use Rattle.fm_hall.proofs.Halls.{hall_keeps, hall_safe}
 use Rattle.fm_hall.proofs.hall.Hall.step.Goals as goal
 

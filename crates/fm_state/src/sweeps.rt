@@ -1,0 +1,112 @@
+//! What a look sees, and the least pair of a sweep.
+ghost use Rattle.std.specs.Prelude.{◌≡◌, ◌^◌, ◌<◌, length, map, if◌then◌else◌};
+ghost use Rattle.fm_line.specs.Line.{line, greatest, start};
+ghost use Rattle.fm_core.specs.State.{Setting};
+ghost use Rattle.fm_core.specs.Sweep.{sight, sighted, lesser, least};
+
+use crate::rules::Rules;
+use crate::tables::Tables;
+use fm_core::Sight;
+use fm_line::Line;
+
+// The greatest clock that was seen of these processes.
+fn greatest_seen(seen: &[Sight], processes: &[u32]) -> u64
+    ensures { result ≡ greatest (map (λ q. (sight seen.now q).clock) processes.now) }
+{
+    let mut most = 0;
+    for process in processes {
+        most = most.max(clock_seen(seen, *process));
+    }
+    most
+}
+
+// The clock that was seen of a process, 0 where it was not seen.
+fn clock_seen(seen: &[Sight], process: u32) -> u64
+    ensures { result ≡ (sight seen.now process).clock }
+{
+    match seen.get(process as usize) {
+        Some(sight) => sight.clock,
+        None => 0,
+    }
+}
+
+/// What a look at a process enters in this sweep.
+pub fn sight_of(rules: &Rules, tables: &Tables, seen: &[Sight], process: u32) -> Sight
+    requires process { process < length tables.now.state.cells }
+    requires lined { length tables.now.state.cells ≡ length rules.now.lines }
+    ensures { result ≡ sighted rules.now tables.now.state seen.now process }
+{
+    let own = tables.cell(process);
+    let clock = if own.tag.is_unborn() {
+        greatest_seen(seen, rules.predecessors(process))
+    } else {
+        own.clock
+    };
+    Sight {
+        clock,
+        ended: own.tag.is_ended(),
+    }
+}
+
+/// The greatest end of these processes' lines, 0 of none.
+pub fn greatest_end(lines: &[Line], processes: &[u32]) -> u64
+    ensures { result ≡ greatest (map (λ q. (line lines.now q).end) processes.now) }
+{
+    let mut most = 0;
+    for process in processes {
+        most = most.max(end_of(lines, *process));
+    }
+    most
+}
+
+// The end of a process's line, 0 where there is no such process.
+fn end_of(lines: &[Line], process: u32) -> u64
+    ensures { result ≡ (line lines.now process).end }
+{
+    match lines.get(process as usize) {
+        Some(own) => own.end,
+        None => 0,
+    }
+}
+
+/// The tick at which the line of a process starts.
+pub fn start_of(rules: &Rules, process: u32) -> u64
+    requires { process < length rules.now.lines }
+    ensures { result ≡ start rules.now.lines process }
+{
+    greatest_end(rules.lines(), rules.predecessors(process))
+}
+
+// The lesser of two pairs; the first of equal clocks.
+fn lesser_pair(first: Option<(u64, u32)>, second: Option<(u64, u32)>) -> Option<(u64, u32)>
+    ensures { result ≡ lesser first second }
+{
+    match (first, second) {
+        (None, _) => second,
+        (Some(_), None) => first,
+        (Some(one), Some(other)) => { if other.0 < one.0 { second } else { first } }
+    }
+}
+
+// The clock and the number of a process, none where it was seen ended.
+fn pair_of(look: Sight, process: u32) -> Option<(u64, u32)>
+    ensures { result ≡ (if look.ended then None else Some (look.clock, process)) }
+{
+    if look.ended {
+        None
+    } else {
+        Some((look.clock, process))
+    }
+}
+
+/// The least clock and process of a sweep over the processes that were not seen ended.
+pub fn least_pair(seen: &[Sight]) -> Option<(u64, u32)>
+    requires { length seen.now < 2 ^ 32 }
+    ensures { result ≡ least seen.now }
+{
+    let mut found = None;
+    for i in 0..seen.len() {
+        found = lesser_pair(found, pair_of(seen[i], i as u32));
+    }
+    found
+}
