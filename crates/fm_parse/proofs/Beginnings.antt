@@ -1,11 +1,11 @@
 -- Where a statement begins.
 use Rattle.std.proofs.Common.{◌≡◌, ℕ, zero, suc, ◌+◌, ◌<◌, ◌≤◌, max, inl, Bool, true, false, cond, List, [], ◌∷◌, ◌++◌, Option, Some, None, Ok, refl, sym, ap, ◌∙◌, subst, append_assoc, arith}
-use Rattle.std.specs.Prelude.{◌≢◌, ◌==◌, if◌then◌else◌}
+use Rattle.std.specs.Prelude.{◌==◌, if◌then◌else◌}
 use Rattle.fm_lex.specs.declared.kind.Kind.{Kind}
 use Rattle.fm_lex.specs.declared.kind.Kind.TheVariants.{Name}
 use Rattle.fm_lex.specs.declared.kind.Kind.TheVariants as kinds
 use Rattle.fm_lex.specs.declared.keyword.Keyword.{Keyword}
-use Rattle.fm_lex.specs.declared.keyword.Keyword.TheVariants.{Note, Play, Rest, Skip, Control, Program, Bend, Set, If, Repeat, Do, Warp, Par, Channel, Volume, Gate, Rhythm, Artic, Loud, Branch}
+use Rattle.fm_lex.specs.declared.keyword.Keyword.TheVariants.{Note, If, Repeat, Warp, Par, Channel, Volume, Gate, Rhythm, Artic, Loud, Branch}
 use Rattle.fm_lex.specs.Tokens.{Lexeme, Lexed}
 use Rattle.fm_grammar.specs.Reads.{Fault, too_nested}
 use Rattle.fm_grammar.specs.Signs.{open_brace, close_brace, open_bracket, close_bracket}
@@ -190,32 +190,6 @@ module _ (t : Lexeme) (l : List Lexed) (is : l ≡ Ok t ∷ tail l) (F : Option 
 pub at_word : (F : Option Fault) (u : ℕ) (below : List Sym) {w v : Keyword} {l : List Lexed} → w ≡ v
     → At F u (stmt_syms w ++ below) l → At F u (stmt_syms v ++ below) l
 at_word F u below {w} {v} {l} is a = subst (λ x. At F u (stmt_syms x ++ below) l) is a
-
--- these are all words of statements
-pub no_other : (w : Keyword) → begins w ≡ true
-    → w ≢ Note → w ≢ Play → w ≢ Rest → w ≢ Skip → w ≢ Control → w ≢ Program → w ≢ Bend → w ≢ Set → w ≢ If
-    → w ≢ Repeat → w ≢ Do → w ≢ Warp → w ≢ Par → w ≢ Channel → w ≢ Volume → w ≢ Gate → w ≢ Rhythm → w ≢ Artic
-    → w ≢ Loud → ⊥
-no_other Note b h _ _ _ _ _ _ _ _ _ _ _ _ _ _ _ _ _ _ = h refl
-no_other Play b _ h _ _ _ _ _ _ _ _ _ _ _ _ _ _ _ _ _ = h refl
-no_other Rest b _ _ h _ _ _ _ _ _ _ _ _ _ _ _ _ _ _ _ = h refl
-no_other Skip b _ _ _ h _ _ _ _ _ _ _ _ _ _ _ _ _ _ _ = h refl
-no_other Control b _ _ _ _ h _ _ _ _ _ _ _ _ _ _ _ _ _ _ = h refl
-no_other Program b _ _ _ _ _ h _ _ _ _ _ _ _ _ _ _ _ _ _ = h refl
-no_other Bend b _ _ _ _ _ _ h _ _ _ _ _ _ _ _ _ _ _ _ = h refl
-no_other Set b _ _ _ _ _ _ _ h _ _ _ _ _ _ _ _ _ _ _ = h refl
-no_other If b _ _ _ _ _ _ _ _ h _ _ _ _ _ _ _ _ _ _ = h refl
-no_other Repeat b _ _ _ _ _ _ _ _ _ h _ _ _ _ _ _ _ _ _ = h refl
-no_other Do b _ _ _ _ _ _ _ _ _ _ h _ _ _ _ _ _ _ _ = h refl
-no_other Warp b _ _ _ _ _ _ _ _ _ _ _ h _ _ _ _ _ _ _ = h refl
-no_other Par b _ _ _ _ _ _ _ _ _ _ _ _ h _ _ _ _ _ _ = h refl
-no_other Channel b _ _ _ _ _ _ _ _ _ _ _ _ _ h _ _ _ _ _ = h refl
-no_other Volume b _ _ _ _ _ _ _ _ _ _ _ _ _ _ h _ _ _ _ = h refl
-no_other Gate b _ _ _ _ _ _ _ _ _ _ _ _ _ _ _ h _ _ _ = h refl
-no_other Rhythm b _ _ _ _ _ _ _ _ _ _ _ _ _ _ _ _ h _ _ = h refl
-no_other Artic b _ _ _ _ _ _ _ _ _ _ _ _ _ _ _ _ _ h _ = h refl
-no_other Loud b _ _ _ _ _ _ _ _ _ _ _ _ _ _ _ _ _ _ h = h refl
-no_other w b _ _ _ _ _ _ _ _ _ _ _ _ _ _ _ _ _ _ _ = cc
 
 -- without a word of a statement none begins
 no_starter_rule : (k : Kind) → starter k ≡ None → taking (kind_code k) (rules_of stmts) ≡ None

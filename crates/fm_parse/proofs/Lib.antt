@@ -1,5 +1,6 @@
 pub mod StmtRules
 pub mod LoopForms
+pub mod Headings
 pub mod ItemViews
 pub mod SortLemmas
 pub mod Beginnings

@@ -1,3 +1,4 @@
 pub mod Statements
 pub mod Sorts
+pub mod Openings
 pub mod Whole

@@ -93,6 +93,31 @@ braces_needed Artic = 1
 braces_needed Loud = 1
 braces_needed w = 0
 
+-- whether a statement with this word ends with its one block
+abbrev pub has_block : Keyword → Bool
+has_block Repeat = true
+has_block Warp = true
+has_block Channel = true
+has_block Volume = true
+has_block Gate = true
+has_block Rhythm = true
+has_block Artic = true
+has_block Loud = true
+has_block w = false
+
+-- whether it has no block
+abbrev pub is_plain : Keyword → Bool
+is_plain Note = true
+is_plain Play = true
+is_plain Rest = true
+is_plain Skip = true
+is_plain Control = true
+is_plain Program = true
+is_plain Bend = true
+is_plain Set = true
+is_plain Do = true
+is_plain w = false
+
 -- the symbols of statements, inside a block or outside of all
 abbrev pub IsMain : Sym → Type 0
 IsMain stmts = Unit {0}

@@ -2,31 +2,24 @@
 
 ghost use Rattle.std.specs.Prelude.{◌≡◌, true, ℕ, ◌+◌, ◌<◌, ◌≤◌, List, [], ◌∷◌, ◌++◌, Option, IfOk, IfErr, OnOk};
 ghost use Rattle.fm_lex.specs.declared.kind.Kind.TheVariants.{Keyword as Word};
-ghost use Rattle.fm_lex.specs.declared.keyword.Keyword.TheVariants.{If, Repeat, Par, Branch, Warp, Rhythm};
+ghost use Rattle.fm_lex.specs.declared.keyword.Keyword.TheVariants.{If, Par, Branch};
 ghost use Rattle.fm_grammar.specs.Reads.{Fault};
 ghost use Rattle.fm_grammar.specs.Score.{choice};
 ghost use Rattle.fm_grammar.specs.View.{expr_view, item_view, items_view};
-ghost use Rattle.fm_grammar.specs.Spelling.{stmt_text, stmts_text, block_text, else_text, scoping_word, cycling_word};
+ghost use Rattle.fm_grammar.specs.Spelling.{stmt_text, stmts_text, block_text, else_text};
 ghost use Rattle.fm_grammar.specs.Standing.{stmts_tree, block_tree, else_tree};
 ghost use Rattle.fm_grammar.specs.Rules.{Sym, one, stmts as statements, otherwise, branches as further, block};
 ghost use Rattle.fm_grammar.specs.Table.{opened};
-ghost use Rattle.fm_terms.specs.Counts.{count_view};
 ghost use Rattle.fm_terms.specs.Reader.{first_kind};
 ghost use Rattle.fm_terms.specs.Follow.{At, Leads, FollowsIn, IsThere, IsDeep, Spelt};
-ghost use Rattle.fm_parse.specs.Sorts.{scoping, cycling};
-ghost use Rattle.fm_parse.specs.Statements.{placed, loop_view, begins, stmt_syms, placed_tree, braces_needed, IsMain, fork_text, fork_tree, bodies_view};
+ghost use Rattle.fm_parse.specs.Statements.{placed, has_block, begins, stmt_syms, placed_tree, braces_needed, IsMain, fork_text, fork_tree, bodies_view};
 
-use crate::simple::{
-    read_control, read_do, read_note, read_play, read_rest, read_sent, read_set, read_skip,
-};
-use crate::sorts::{Cycle, Scope, Sent};
-use crate::words::{braces_of, starter_of};
+use crate::opening::{item_of, read_opening};
+use crate::simple::read_plain;
+use crate::words::{braces_of, ends_with_block, starter_of};
 use fm_grammar::{Item, What};
 use fm_lex::{Keyword, Kind, Spot};
-use fm_terms::{
-    Count, ParseFault, Reader, check_limit, expect, push, read_count, read_expr, read_lengths,
-    read_name, read_number, read_numbers,
-};
+use fm_terms::{ParseFault, Reader, check_limit, expect, push, read_expr};
 use fm_value::Expr;
 use std::alloc::Global;
 
@@ -37,36 +30,9 @@ const OPENS: Kind = Kind::Symbol(b'{');
 
 const CLOSES: Kind = Kind::Symbol(b'}');
 
-const LIST_OPENS: Kind = Kind::Symbol(b'[');
-
-const LIST_CLOSES: Kind = Kind::Symbol(b']');
-
 const BRANCH: Kind = Kind::Keyword(Keyword::Branch);
 
 const ELSE: Kind = Kind::Keyword(Keyword::Else);
-
-// A loop with so many rounds.
-fn loop_of<'s>(spot: Spot, count: Count, body: Vec<Item<'s>>) -> Item<'s>
-    ensures { item_view result ≡ loop_view spot (count_view count) (items_view body.entry.items) }
-{
-    match count {
-        Count::Fixed { number } => Item {
-            spot,
-            what: What::Repeat {
-                count: number,
-                body,
-            },
-        },
-        Count::Drawn { value, most } => Item {
-            spot,
-            what: What::Again {
-                count: value,
-                most,
-                body,
-            },
-        },
-    }
-}
 
 // A choice between two blocks.
 fn choice_of<'s>(spot: Spot, test: Expr, taken: Vec<Item<'s>>, other: Vec<Item<'s>>) -> Item<'s>
@@ -138,31 +104,22 @@ fn read_if<'s>(alloc: Global, r: &mut Reader<'s>, depth: u32) -> Result<Item<'s>
     Ok(choice_of(spot, test, taken, other))
 }
 
-// A loop.
+// A statement that ends with its one block.
 #[cycle(item)]
-fn read_repeat<'s>(alloc: Global, r: &mut Reader<'s>, depth: u32) -> Result<Item<'s>, ParseFault>
-    requires { depth < 64 }
+fn read_opened<'s>(
+    alloc: Global,
+    r: &mut Reader<'s>,
+    word: Keyword,
+    depth: u32,
+) -> Result<Item<'s>, ParseFault>
+    requires room { depth < 64 }
+    requires block { has_block word ≡ true }
     ensures text { IfOk result (λ i. Spelt stmt_text placed_tree (item_view i) r.old r.new) }
-    ensures follows { FollowsIn depth (stmt_syms Repeat) result r.old r.new }
+    ensures follows { FollowsIn depth (stmt_syms word) result r.old r.new }
 {
-    let spot = expect(r, Kind::Keyword(Keyword::Repeat))?;
-    let count = read_count(alloc, r)?;
+    let opening = read_opening(alloc, r, word)?;
     let body = read_block(alloc, r, depth)?;
-    Ok(loop_of(spot, count, body))
-}
-
-// A block under a deformation.
-#[cycle(item)]
-fn read_warp<'s>(alloc: Global, r: &mut Reader<'s>, depth: u32) -> Result<Item<'s>, ParseFault>
-    requires { depth < 64 }
-    ensures text { IfOk result (λ i. Spelt stmt_text placed_tree (item_view i) r.old r.new) }
-    ensures follows { FollowsIn depth (stmt_syms Warp) result r.old r.new }
-{
-    let spot = expect(r, Kind::Keyword(Keyword::Warp))?;
-    let name = read_name(r)?;
-    let body = read_block(alloc, r, depth)?;
-    let what = What::Warp { name, body };
-    Ok(Item { spot, what })
+    Ok(item_of(opening, body))
 }
 
 // The branches of a fork.
@@ -204,62 +161,6 @@ fn read_par<'s>(alloc: Global, r: &mut Reader<'s>, depth: u32) -> Result<Item<'s
     Ok(Item { spot, what })
 }
 
-// A block with a number.
-#[cycle(item)]
-fn read_scope<'s>(
-    alloc: Global,
-    r: &mut Reader<'s>,
-    scope: Scope,
-    depth: u32,
-) -> Result<Item<'s>, ParseFault>
-    requires { depth < 64 }
-    ensures text { IfOk result (λ i. Spelt stmt_text placed_tree (item_view i) r.old r.new) }
-    ensures follows { FollowsIn depth (stmt_syms (scoping_word (scoping scope)))
-        result r.old r.new }
-{
-    let spot = expect(r, Kind::Keyword(scope.word()))?;
-    let number = read_number(r)?;
-    let body = read_block(alloc, r, depth)?;
-    Ok(scope.item(spot, number, body))
-}
-
-// A block with a list of lengths.
-#[cycle(item)]
-fn read_rhythm<'s>(alloc: Global, r: &mut Reader<'s>, depth: u32) -> Result<Item<'s>, ParseFault>
-    requires { depth < 64 }
-    ensures text { IfOk result (λ i. Spelt stmt_text placed_tree (item_view i) r.old r.new) }
-    ensures follows { FollowsIn depth (stmt_syms Rhythm) result r.old r.new }
-{
-    let spot = expect(r, Kind::Keyword(Keyword::Rhythm))?;
-    expect(r, LIST_OPENS)?;
-    let list = read_lengths(alloc, r)?;
-    expect(r, LIST_CLOSES)?;
-    let body = read_block(alloc, r, depth)?;
-    let what = What::Rhythm { list, body };
-    Ok(Item { spot, what })
-}
-
-// A block with a list of numbers.
-#[cycle(item)]
-fn read_cycle<'s>(
-    alloc: Global,
-    r: &mut Reader<'s>,
-    cycle: Cycle,
-    depth: u32,
-) -> Result<Item<'s>, ParseFault>
-    requires { depth < 64 }
-    ensures text { IfOk result (λ i. Spelt stmt_text placed_tree (item_view i) r.old r.new) }
-    ensures follows { FollowsIn depth (stmt_syms (cycling_word (cycling cycle)))
-        result r.old r.new }
-{
-    let spot = expect(r, Kind::Keyword(cycle.word()))?;
-    expect(r, LIST_OPENS)?;
-    let list = read_numbers(alloc, r)?;
-    expect(r, LIST_CLOSES)?;
-    let body = read_block(alloc, r, depth)?;
-    Ok(cycle.item(spot, list, body))
-}
-
 // A statement with this word, where its braces may be opened.
 #[cycle(item)]
 fn read_worded<'s>(
@@ -273,29 +174,13 @@ fn read_worded<'s>(
     ensures text { IfOk result (λ i. Spelt stmt_text placed_tree (item_view i) r.old r.new) }
     ensures follows { FollowsIn depth (stmt_syms word) result r.old r.new }
 {
+    if ends_with_block(word) {
+        return read_opened(alloc, r, word, depth);
+    }
     match word {
-        Keyword::Note => read_note(alloc, r),
-        Keyword::Play => read_play(alloc, r),
-        Keyword::Rest => read_rest(alloc, r),
-        Keyword::Skip => read_skip(r),
-        Keyword::Control => read_control(alloc, r),
-        Keyword::Program => read_sent(alloc, r, Sent::Program),
-        Keyword::Bend => read_sent(alloc, r, Sent::Bend),
-        Keyword::Set => read_set(alloc, r),
-        Keyword::Do => read_do(r),
         Keyword::If => read_if(alloc, r, depth),
-        Keyword::Repeat => read_repeat(alloc, r, depth),
-        Keyword::Warp => read_warp(alloc, r, depth),
         Keyword::Par => read_par(alloc, r, depth),
-        Keyword::Channel => read_scope(alloc, r, Scope::Channel, depth),
-        Keyword::Volume => read_scope(alloc, r, Scope::Volume, depth),
-        Keyword::Gate => read_scope(alloc, r, Scope::Gate, depth),
-        Keyword::Rhythm => read_rhythm(alloc, r, depth),
-        Keyword::Artic => read_cycle(alloc, r, Cycle::Artic, depth),
-        Keyword::Loud => read_cycle(alloc, r, Cycle::Loud, depth),
-        _ => Err(ParseFault::Expected {
-            spot: r.peek().spot,
-        }),
+        _ => read_plain(alloc, r, word),
     }
 }
 

@@ -4,6 +4,7 @@
 mod entries;
 mod head;
 mod items;
+mod opening;
 mod simple;
 mod sorts;
 mod text;

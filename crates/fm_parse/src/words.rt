@@ -1,7 +1,7 @@
 //! The words that begin statements.
 
 ghost use Rattle.std.specs.Prelude.{◌≡◌, None, IfSome};
-ghost use Rattle.fm_parse.specs.Statements.{begins, starter, braces_needed, IsStarter};
+ghost use Rattle.fm_parse.specs.Statements.{begins, starter, has_block, braces_needed, IsStarter};
 
 use fm_lex::{Keyword, Kind};
 
@@ -46,6 +46,23 @@ pub fn starter_of(kind: Kind) -> Option<Keyword>
             }
         }
         _ => None,
+    }
+}
+
+/// Whether a statement with this word ends with its one block.
+pub fn ends_with_block(word: Keyword) -> bool
+    ensures { result ≡ has_block word }
+{
+    match word {
+        Keyword::Repeat => true,
+        Keyword::Warp => true,
+        Keyword::Channel => true,
+        Keyword::Volume => true,
+        Keyword::Gate => true,
+        Keyword::Rhythm => true,
+        Keyword::Artic => true,
+        Keyword::Loud => true,
+        _ => false,
     }
 }
 

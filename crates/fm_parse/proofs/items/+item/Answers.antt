@@ -1,24 +1,21 @@
 -- Each function of a statement follows the table, and its tree is what its tokens stand for.
-use Rattle.std.proofs.Common.{[], ◌∷◌, ◌++◌, refl, sym, ap, ap₂, ◌∙◌, arith}
+use Rattle.std.proofs.Common.{[], ◌∷◌, ◌++◌, refl, sym, ap, ◌∙◌, arith}
 use Rattle.fm_grammar.specs.Signs.{open_brace, close_brace}
 use Rattle.fm_grammar.specs.Grammar as forms
 use Rattle.fm_terms.proofs.Steps.{passed, handed}
 use Rattle.std.proofs.Common.{length}
 use Rattle.fm_grammar.specs.Score as tree
-use Rattle.fm_grammar.specs.View.{name_view, items_view}
+use Rattle.fm_grammar.specs.View.{items_view}
 use Rattle.fm_grammar.specs.Rules.{one, stmts, otherwise, branches}
 use Rattle.fm_terms.specs.Follow.{leaf_at}
-use Rattle.fm_parse.specs.Statements.{starter, bodies_view, placed}
+use Rattle.fm_parse.specs.Statements.{starter, bodies_view}
 use Rattle.fm_terms.proofs.Steps.{no_memory, deep_says, kind_there, outer_zero}
 use Rattle.fm_terms.proofs.Ways.{at_else, without_else, at_branch, without_branch}
-use Rattle.fm_parse.proofs.Beginnings.{at_word, stmt_begun, stmt_deep, opened_main, no_other, no_statement}
-use Rattle.fm_parse.proofs.LoopForms.{loop_form, loop_spells, loop_stands}
+use Rattle.fm_parse.proofs.Beginnings.{at_word, stmt_begun, stmt_deep, opened_main, no_statement}
+use Rattle.fm_parse.proofs.Headings.{at_opening, opened_read, plain_left}
 use Rattle.fm_parse.proofs.StmtLengths.{block_more, stmt_more}
 use Rattle.fm_parse.proofs.Bodies.{else_read, one_stated, one_branched, branched}
-use Rattle.fm_parse.proofs.ItemViews.{choice_stands, warp_view, par_view, rhythm_view}
-use Rattle.fm_parse.proofs.SortLemmas.{at_scope, at_cycle}
-use Rattle.fm_parse.specs.Sorts.{scoping, cycling}
-use Rattle.fm_grammar.specs.Standing.{scoping_tree, cycling_tree}
+use Rattle.fm_parse.proofs.ItemViews.{choice_stands, par_view}
 use Rattle.fm_parse.proofs.items.+item.Goals as goal
 
 pub read_block-returns-in_err-expect-clause-follows : goal.read_block-returns-in_err-expect-clause-follows
@@ -100,70 +97,26 @@ read_if-returns-clause-text t c = record {
       c.in_ok-other.ensures.text.stands_for;
 }
 
-pub read_repeat-returns-in_err-spot-clause-follows : goal.read_repeat-returns-in_err-spot-clause-follows
-read_repeat-returns-in_err-spot-clause-follows t c = λ F u below d a.
-    let e = c.in_err-spot.field-0.0 in
+pub read_opened-returns-in_err-opening-clause-follows : goal.read_opened-returns-in_err-opening-clause-follows
+read_opened-returns-in_err-opening-clause-follows t c = λ F u below d a.
+    let e = c.in_err-opening.field-0.0 in
     let is = passed c.from_residual.result e c.from_residual.ensures.1 in
-    handed F 0 below _ e _ is (c.in_err-spot.ensures.follows F u _ a)
+    handed F 0 below _ e _ is (c.in_err-opening.ensures.follows F u _ (at_opening F u below _ c.args.word c.requires.block a))
 
-pub read_repeat-returns-in_err-count-clause-follows : goal.read_repeat-returns-in_err-count-clause-follows
-read_repeat-returns-in_err-count-clause-follows t c = λ F u below d a.
-    let e = c.in_err-count.field-0.0 in
-    let is = passed c.from_residual-in_err-count.result e c.from_residual-in_err-count.ensures.1 in
-    handed F 0 below _ e _ is (c.in_err-count.ensures.follows F 0 _ (c.in_ok-spot.ensures.follows F u _ a))
-
-pub read_repeat-returns-in_err-body-clause-follows : goal.read_repeat-returns-in_err-body-clause-follows
-read_repeat-returns-in_err-body-clause-follows t c = λ F u below d a.
+pub read_opened-returns-in_err-body-clause-follows : goal.read_opened-returns-in_err-body-clause-follows
+read_opened-returns-in_err-body-clause-follows t c = λ F u below d a.
     let e = c.in_err-body.field-0.0 in
     let is = passed c.from_residual-in_err-body.result e c.from_residual-in_err-body.ensures.1 in
-    handed F 0 below _ e _ is (c.in_err-body.ensures.follows F 0 below d (c.in_ok-count.ensures.follows F 0 _
-    (c.in_ok-spot.ensures.follows F u _ a)))
+    handed F 0 below _ e _ is (c.in_err-body.ensures.follows F 0 below d (c.in_ok-opening.ensures.follows F u _
+    (at_opening F u below _ c.args.word c.requires.block a)))
 
-pub read_repeat-returns-clause-follows : goal.read_repeat-returns-clause-follows
-read_repeat-returns-clause-follows t c = λ F u below d a. c.in_ok-body.ensures.follows F 0 below d
-    (c.in_ok-count.ensures.follows F 0 _ (c.in_ok-spot.ensures.follows F u _ a))
+pub read_opened-returns-clause-follows : goal.read_opened-returns-clause-follows
+read_opened-returns-clause-follows t c = λ F u below d a. c.in_ok-body.ensures.follows F 0 below d
+    (c.in_ok-opening.ensures.follows F u _ (at_opening F u below _ c.args.word c.requires.block a))
 
-pub read_repeat-returns-clause-text : goal.read_repeat-returns-clause-text
-read_repeat-returns-clause-text t c = record {
-  form = loop_form (leaf_at c.in_ok-spot.ensures.text.bytes c.in_ok-spot.spot) c.in_ok-count.ensures.text.form
-      c.in_ok-body.ensures.text.form;
-  spells = c.in_ok-spot.ensures.text.text ∙ loop_spells _ _ _ _ _ _ c.in_ok-count.ensures.text.spells
-      c.in_ok-body.ensures.text.spells;
-  stands_for = c.loop_of.ensures ∙ loop_stands (leaf_at c.in_ok-spot.ensures.text.bytes c.in_ok-spot.spot)
-      c.in_ok-count.ensures.text.form c.in_ok-body.ensures.text.form _ _ c.in_ok-count.ensures.text.stands_for
-      c.in_ok-body.ensures.text.stands_for;
-}
-
-pub read_warp-returns-in_err-spot-clause-follows : goal.read_warp-returns-in_err-spot-clause-follows
-read_warp-returns-in_err-spot-clause-follows t c = λ F u below d a.
-    let e = c.in_err-spot.field-0.0 in
-    let is = passed c.from_residual.result e c.from_residual.ensures.1 in
-    handed F 0 below _ e _ is (c.in_err-spot.ensures.follows F u _ a)
-
-pub read_warp-returns-in_err-name-clause-follows : goal.read_warp-returns-in_err-name-clause-follows
-read_warp-returns-in_err-name-clause-follows t c = λ F u below d a.
-    let e = c.in_err-name.field-0.0 in
-    let is = passed c.from_residual-in_err-name.result e c.from_residual-in_err-name.ensures.1 in
-    handed F 0 below _ e _ is (c.in_err-name.ensures.follows F 0 _ (c.in_ok-spot.ensures.follows F u _ a))
-
-pub read_warp-returns-in_err-body-clause-follows : goal.read_warp-returns-in_err-body-clause-follows
-read_warp-returns-in_err-body-clause-follows t c = λ F u below d a.
-    let e = c.in_err-body.field-0.0 in
-    let is = passed c.from_residual-in_err-body.result e c.from_residual-in_err-body.ensures.1 in
-    handed F 0 below _ e _ is (c.in_err-body.ensures.follows F 0 below d (c.in_ok-name.ensures.follows F 0 _
-    (c.in_ok-spot.ensures.follows F u _ a)))
-
-pub read_warp-returns-clause-follows : goal.read_warp-returns-clause-follows
-read_warp-returns-clause-follows t c = λ F u below d a. c.in_ok-body.ensures.follows F 0 below d
-    (c.in_ok-name.ensures.follows F 0 _ (c.in_ok-spot.ensures.follows F u _ a))
-
-pub read_warp-returns-clause-text : goal.read_warp-returns-clause-text
-read_warp-returns-clause-text t c = record {
-  form = forms.warp (leaf_at c.in_ok-spot.ensures.text.bytes c.in_ok-spot.spot) (name_view c.in_ok-name.name)
-      c.in_ok-body.ensures.text.form;
-  spells = rw (c.in_ok-spot.ensures.text.text, c.in_ok-name.ensures.text, c.in_ok-body.ensures.text.spells) refl;
-  stands_for = warp_view _ _ _ _ _ refl c.in_ok-body.ensures.text.stands_for;
-}
+pub read_opened-returns-clause-text : goal.read_opened-returns-clause-text
+read_opened-returns-clause-text t c =
+    opened_read _ _ _ _ _ _ _ c.item_of.ensures c.in_ok-opening.ensures.text c.in_ok-body.ensures.text
 
 pub read_par-returns-in_err-spot-clause-follows : goal.read_par-returns-in_err-spot-clause-follows
 read_par-returns-in_err-spot-clause-follows t c = λ F u below d a.
@@ -210,168 +163,6 @@ read_par-returns-clause-text t c = record {
     c.in_ok-expect-2.ensures.text.text,
   ) refl;
   stands_for = par_view _ _ _ c.in_ok-branches.ensures.text.stands_for;
-}
-
-pub read_scope-returns-in_err-spot-clause-follows : goal.read_scope-returns-in_err-spot-clause-follows
-read_scope-returns-in_err-spot-clause-follows t c = λ F u below d a.
-    let b = at_scope F u below _ _ (scoping c.args.scope) c.word.ensures a in
-    let e = c.in_err-spot.field-0.0 in
-    let is = passed c.from_residual.result e c.from_residual.ensures.1 in
-    handed F 0 below _ e _ is (c.in_err-spot.ensures.follows F u _ b)
-
-pub read_scope-returns-in_err-number-clause-follows : goal.read_scope-returns-in_err-number-clause-follows
-read_scope-returns-in_err-number-clause-follows t c = λ F u below d a.
-    let b = at_scope F u below _ _ (scoping c.args.scope) c.word.ensures a in
-    let e = c.in_err-number.field-0.0 in
-    let is = passed c.from_residual-in_err-number.result e c.from_residual-in_err-number.ensures.1 in
-    handed F 0 below _ e _ is (c.in_err-number.ensures.follows F 0 _ (c.in_ok-spot.ensures.follows F u _ b))
-
-pub read_scope-returns-in_err-body-clause-follows : goal.read_scope-returns-in_err-body-clause-follows
-read_scope-returns-in_err-body-clause-follows t c = λ F u below d a.
-    let b = at_scope F u below _ _ (scoping c.args.scope) c.word.ensures a in
-    let e = c.in_err-body.field-0.0 in
-    let is = passed c.from_residual-in_err-body.result e c.from_residual-in_err-body.ensures.1 in
-    handed F 0 below _ e _ is (c.in_err-body.ensures.follows F 0 below d (c.in_ok-number.ensures.follows F 0 _
-    (c.in_ok-spot.ensures.follows F u _ b)))
-
-pub read_scope-returns-clause-follows : goal.read_scope-returns-clause-follows
-read_scope-returns-clause-follows t c = λ F u below d a.
-    let b = at_scope F u below _ _ (scoping c.args.scope) c.word.ensures a in
-    c.in_ok-body.ensures.follows F 0 below d
-    (c.in_ok-number.ensures.follows F 0 _ (c.in_ok-spot.ensures.follows F u _ b))
-
-pub read_scope-returns-clause-text : goal.read_scope-returns-clause-text
-read_scope-returns-clause-text t c = record {
-  form = forms.scope (scoping c.args.scope) (leaf_at c.in_ok-spot.ensures.text.bytes c.in_ok-spot.spot)
-      c.in_ok-number.ensures.text.form c.in_ok-body.ensures.text.form;
-  spells = rw (
-    c.in_ok-spot.ensures.text.text,
-    c.word.ensures,
-    c.in_ok-number.ensures.text.spells,
-    c.in_ok-body.ensures.text.spells,
-  )
-      refl;
-  stands_for = c.item.ensures
-      ∙ ap₂ (λ v w. placed c.in_ok-spot.spot (scoping_tree (scoping c.args.scope) v w))
-      c.in_ok-number.ensures.text.stands_for c.in_ok-body.ensures.text.stands_for;
-}
-
-pub read_rhythm-returns-in_err-spot-clause-follows : goal.read_rhythm-returns-in_err-spot-clause-follows
-read_rhythm-returns-in_err-spot-clause-follows t c = λ F u below d a.
-    let e = c.in_err-spot.field-0.0 in
-    let is = passed c.from_residual.result e c.from_residual.ensures.1 in
-    handed F 0 below _ e _ is (c.in_err-spot.ensures.follows F u _ a)
-
-pub read_rhythm-returns-in_err-expect-clause-follows : goal.read_rhythm-returns-in_err-expect-clause-follows
-read_rhythm-returns-in_err-expect-clause-follows t c = λ F u below d a.
-    let e = c.in_err-expect.field-0.0 in
-    let is = passed c.from_residual-in_err-expect.result e c.from_residual-in_err-expect.ensures.1 in
-    handed F 0 below _ e _ is (c.in_err-expect.ensures.follows F 0 _ (c.in_ok-spot.ensures.follows F u _ a))
-
-pub read_rhythm-returns-in_err-list-clause-follows : goal.read_rhythm-returns-in_err-list-clause-follows
-read_rhythm-returns-in_err-list-clause-follows t c = λ F u below d a.
-    let e = c.in_err-list.field-0.0 in
-    let is = passed c.from_residual-in_err-list.result e c.from_residual-in_err-list.ensures.1 in
-    handed F 0 below _ e _ is (c.in_err-list.ensures.follows F 0 _ (c.in_ok-expect.ensures.follows F 0 _
-    (c.in_ok-spot.ensures.follows F u _ a)))
-
-pub read_rhythm-returns-in_err-expect-2-clause-follows : goal.read_rhythm-returns-in_err-expect-2-clause-follows
-read_rhythm-returns-in_err-expect-2-clause-follows t c = λ F u below d a.
-    let e = c.in_err-expect-2.field-0.0 in
-    let is = passed c.from_residual-in_err-expect-2.result e c.from_residual-in_err-expect-2.ensures.1 in
-    handed F 0 below _ e _ is (c.in_err-expect-2.ensures.follows F 0 _ (c.in_ok-list.ensures.follows F 0 _
-    (c.in_ok-expect.ensures.follows F 0 _ (c.in_ok-spot.ensures.follows F u _ a))))
-
-pub read_rhythm-returns-in_err-body-clause-follows : goal.read_rhythm-returns-in_err-body-clause-follows
-read_rhythm-returns-in_err-body-clause-follows t c = λ F u below d a.
-    let e = c.in_err-body.field-0.0 in
-    let is = passed c.from_residual-in_err-body.result e c.from_residual-in_err-body.ensures.1 in
-    handed F 0 below _ e _ is (c.in_err-body.ensures.follows F 0 below d (c.in_ok-expect-2.ensures.follows F 0 _
-    (c.in_ok-list.ensures.follows F 0 _ (c.in_ok-expect.ensures.follows F 0 _
-    (c.in_ok-spot.ensures.follows F u _ a)))))
-
-pub read_rhythm-returns-clause-follows : goal.read_rhythm-returns-clause-follows
-read_rhythm-returns-clause-follows t c = λ F u below d a. c.in_ok-body.ensures.follows F 0 below d
-    (c.in_ok-expect-2.ensures.follows F 0 _ (c.in_ok-list.ensures.follows F 0 _ (c.in_ok-expect.ensures.follows F 0 _
-    (c.in_ok-spot.ensures.follows F u _ a))))
-
-pub read_rhythm-returns-clause-text : goal.read_rhythm-returns-clause-text
-read_rhythm-returns-clause-text t c = record {
-  form = forms.rhythm (leaf_at c.in_ok-spot.ensures.text.bytes c.in_ok-spot.spot)
-      (leaf_at c.in_ok-expect.ensures.text.bytes c.in_ok-expect.field-0) c.in_ok-list.ensures.text.form
-      (leaf_at c.in_ok-expect-2.ensures.text.bytes c.in_ok-expect-2.field-0) c.in_ok-body.ensures.text.form;
-  spells = rw (
-    c.in_ok-spot.ensures.text.text,
-    c.in_ok-expect.ensures.text.text,
-    c.in_ok-list.ensures.text.spells,
-    c.in_ok-expect-2.ensures.text.text,
-    c.in_ok-body.ensures.text.spells,
-  ) refl;
-  stands_for = rhythm_view _ _ _ _ _ c.in_ok-list.ensures.text.stands_for c.in_ok-body.ensures.text.stands_for;
-}
-
-pub read_cycle-returns-in_err-spot-clause-follows : goal.read_cycle-returns-in_err-spot-clause-follows
-read_cycle-returns-in_err-spot-clause-follows t c = λ F u below d a.
-    let b = at_cycle F u below _ _ (cycling c.args.cycle) c.word.ensures a in
-    let e = c.in_err-spot.field-0.0 in
-    let is = passed c.from_residual.result e c.from_residual.ensures.1 in
-    handed F 0 below _ e _ is (c.in_err-spot.ensures.follows F u _ b)
-
-pub read_cycle-returns-in_err-expect-clause-follows : goal.read_cycle-returns-in_err-expect-clause-follows
-read_cycle-returns-in_err-expect-clause-follows t c = λ F u below d a.
-    let b = at_cycle F u below _ _ (cycling c.args.cycle) c.word.ensures a in
-    let e = c.in_err-expect.field-0.0 in
-    let is = passed c.from_residual-in_err-expect.result e c.from_residual-in_err-expect.ensures.1 in
-    handed F 0 below _ e _ is (c.in_err-expect.ensures.follows F 0 _ (c.in_ok-spot.ensures.follows F u _ b))
-
-pub read_cycle-returns-in_err-list-clause-follows : goal.read_cycle-returns-in_err-list-clause-follows
-read_cycle-returns-in_err-list-clause-follows t c = λ F u below d a.
-    let b = at_cycle F u below _ _ (cycling c.args.cycle) c.word.ensures a in
-    let e = c.in_err-list.field-0.0 in
-    let is = passed c.from_residual-in_err-list.result e c.from_residual-in_err-list.ensures.1 in
-    handed F 0 below _ e _ is (c.in_err-list.ensures.follows F 0 _ (c.in_ok-expect.ensures.follows F 0 _
-    (c.in_ok-spot.ensures.follows F u _ b)))
-
-pub read_cycle-returns-in_err-expect-2-clause-follows : goal.read_cycle-returns-in_err-expect-2-clause-follows
-read_cycle-returns-in_err-expect-2-clause-follows t c = λ F u below d a.
-    let b = at_cycle F u below _ _ (cycling c.args.cycle) c.word.ensures a in
-    let e = c.in_err-expect-2.field-0.0 in
-    let is = passed c.from_residual-in_err-expect-2.result e c.from_residual-in_err-expect-2.ensures.1 in
-    handed F 0 below _ e _ is (c.in_err-expect-2.ensures.follows F 0 _ (c.in_ok-list.ensures.follows F 0 _
-    (c.in_ok-expect.ensures.follows F 0 _ (c.in_ok-spot.ensures.follows F u _ b))))
-
-pub read_cycle-returns-in_err-body-clause-follows : goal.read_cycle-returns-in_err-body-clause-follows
-read_cycle-returns-in_err-body-clause-follows t c = λ F u below d a.
-    let b = at_cycle F u below _ _ (cycling c.args.cycle) c.word.ensures a in
-    let e = c.in_err-body.field-0.0 in
-    let is = passed c.from_residual-in_err-body.result e c.from_residual-in_err-body.ensures.1 in
-    handed F 0 below _ e _ is (c.in_err-body.ensures.follows F 0 below d (c.in_ok-expect-2.ensures.follows F 0 _
-    (c.in_ok-list.ensures.follows F 0 _ (c.in_ok-expect.ensures.follows F 0 _
-    (c.in_ok-spot.ensures.follows F u _ b)))))
-
-pub read_cycle-returns-clause-follows : goal.read_cycle-returns-clause-follows
-read_cycle-returns-clause-follows t c = λ F u below d a.
-    let b = at_cycle F u below _ _ (cycling c.args.cycle) c.word.ensures a in
-    c.in_ok-body.ensures.follows F 0 below d
-    (c.in_ok-expect-2.ensures.follows F 0 _ (c.in_ok-list.ensures.follows F 0 _ (c.in_ok-expect.ensures.follows F 0 _
-    (c.in_ok-spot.ensures.follows F u _ b))))
-
-pub read_cycle-returns-clause-text : goal.read_cycle-returns-clause-text
-read_cycle-returns-clause-text t c = record {
-  form = forms.cycling (cycling c.args.cycle) (leaf_at c.in_ok-spot.ensures.text.bytes c.in_ok-spot.spot)
-      (leaf_at c.in_ok-expect.ensures.text.bytes c.in_ok-expect.field-0) c.in_ok-list.ensures.text.form
-      (leaf_at c.in_ok-expect-2.ensures.text.bytes c.in_ok-expect-2.field-0) c.in_ok-body.ensures.text.form;
-  spells = rw (
-    c.in_ok-spot.ensures.text.text,
-    c.word.ensures,
-    c.in_ok-expect.ensures.text.text,
-    c.in_ok-list.ensures.text.spells,
-    c.in_ok-expect-2.ensures.text.text,
-    c.in_ok-body.ensures.text.spells,
-  ) refl;
-  stands_for = c.item.ensures
-      ∙ ap₂ (λ v w. placed c.in_ok-spot.spot (cycling_tree (cycling c.args.cycle) v w))
-      c.in_ok-list.ensures.text.stands_for c.in_ok-body.ensures.text.stands_for;
 }
 
 pub read_else-returns-in_err-expect-clause-follows : goal.read_else-returns-in_err-expect-clause-follows
@@ -469,89 +260,24 @@ pub read_branches-returns-clause-follows : goal.read_branches-returns-clause-fol
 read_branches-returns-clause-follows t c = λ F u below d a. without_branch _ c.next_is.ensures.there F 0 below
     (c.next_is.ensures.other c.loop-alloc-test.false) (c.loop-alloc.invariant.leads F u below d a)
 
-pub read_worded-returns-in-Note-clause-follows : goal.read_worded-returns-in-Note-clause-follows
-read_worded-returns-in-Note-clause-follows t c = λ F u below d a.
-    c.read_note.ensures.follows F u below (at_word F u below c.in-Note.is a)
+pub read_worded-read_plain-requires : goal.read_worded-read_plain-requires
+read_worded-read_plain-requires t c =
+    plain_left c.args.word c.requires.begins (sym c.ends_with_block.ensures ∙ c.if-ends_with_block.false)
+    c.in_default.not-If c.in_default.not-Par
 
-pub read_worded-returns-in-Play-clause-follows : goal.read_worded-returns-in-Play-clause-follows
-read_worded-returns-in-Play-clause-follows t c = λ F u below d a.
-    c.read_play.ensures.follows F u below (at_word F u below c.in-Play.is a)
+pub read_worded-returns-in_default-clause-follows : goal.read_worded-returns-in_default-clause-follows
+read_worded-returns-in_default-clause-follows t c = λ F u below d a. c.read_plain.ensures.follows F u below a
 
-pub read_worded-returns-in-Rest-clause-follows : goal.read_worded-returns-in-Rest-clause-follows
-read_worded-returns-in-Rest-clause-follows t c = λ F u below d a.
-    c.read_rest.ensures.follows F u below (at_word F u below c.in-Rest.is a)
-
-pub read_worded-returns-in-Skip-clause-follows : goal.read_worded-returns-in-Skip-clause-follows
-read_worded-returns-in-Skip-clause-follows t c = λ F u below d a.
-    c.read_skip.ensures.follows F u below (at_word F u below c.in-Skip.is a)
-
-pub read_worded-returns-in-Control-clause-follows : goal.read_worded-returns-in-Control-clause-follows
-read_worded-returns-in-Control-clause-follows t c = λ F u below d a.
-    c.read_control.ensures.follows F u below (at_word F u below c.in-Control.is a)
-
-pub read_worded-returns-in-Program-clause-follows : goal.read_worded-returns-in-Program-clause-follows
-read_worded-returns-in-Program-clause-follows t c = λ F u below d a.
-    c.read_sent.ensures.follows F u below (at_word F u below c.in-Program.is a)
-
-pub read_worded-returns-in-Bend-clause-follows : goal.read_worded-returns-in-Bend-clause-follows
-read_worded-returns-in-Bend-clause-follows t c = λ F u below d a.
-    c.read_sent-in-Bend.ensures.follows F u below (at_word F u below c.in-Bend.is a)
-
-pub read_worded-returns-in-Set-clause-follows : goal.read_worded-returns-in-Set-clause-follows
-read_worded-returns-in-Set-clause-follows t c = λ F u below d a.
-    c.read_set.ensures.follows F u below (at_word F u below c.in-Set.is a)
-
-pub read_worded-returns-in-Do-clause-follows : goal.read_worded-returns-in-Do-clause-follows
-read_worded-returns-in-Do-clause-follows t c = λ F u below d a.
-    c.read_do.ensures.follows F u below (at_word F u below c.in-Do.is a)
+pub read_worded-returns-then-ends_with_block-clause-follows : goal.read_worded-returns-then-ends_with_block-clause-follows
+read_worded-returns-then-ends_with_block-clause-follows t c = λ F u below d a. c.read_opened.ensures.follows F u below d a
 
 pub read_worded-returns-in-If-clause-follows : goal.read_worded-returns-in-If-clause-follows
 read_worded-returns-in-If-clause-follows t c = λ F u below d a.
     c.read_if.ensures.follows F u below d (at_word F u below c.in-If.is a)
 
-pub read_worded-returns-in-Repeat-clause-follows : goal.read_worded-returns-in-Repeat-clause-follows
-read_worded-returns-in-Repeat-clause-follows t c = λ F u below d a.
-    c.read_repeat.ensures.follows F u below d (at_word F u below c.in-Repeat.is a)
-
-pub read_worded-returns-in-Warp-clause-follows : goal.read_worded-returns-in-Warp-clause-follows
-read_worded-returns-in-Warp-clause-follows t c = λ F u below d a.
-    c.read_warp.ensures.follows F u below d (at_word F u below c.in-Warp.is a)
-
 pub read_worded-returns-in-Par-clause-follows : goal.read_worded-returns-in-Par-clause-follows
 read_worded-returns-in-Par-clause-follows t c = λ F u below d a.
     c.read_par.ensures.follows F u below d (at_word F u below c.in-Par.is a)
-
-pub read_worded-returns-in-Channel-clause-follows : goal.read_worded-returns-in-Channel-clause-follows
-read_worded-returns-in-Channel-clause-follows t c = λ F u below d a.
-    c.read_scope.ensures.follows F u below d (at_word F u below c.in-Channel.is a)
-
-pub read_worded-returns-in-Volume-clause-follows : goal.read_worded-returns-in-Volume-clause-follows
-read_worded-returns-in-Volume-clause-follows t c = λ F u below d a.
-    c.read_scope-in-Volume.ensures.follows F u below d (at_word F u below c.in-Volume.is a)
-
-pub read_worded-returns-in-Gate-clause-follows : goal.read_worded-returns-in-Gate-clause-follows
-read_worded-returns-in-Gate-clause-follows t c = λ F u below d a.
-    c.read_scope-in-Gate.ensures.follows F u below d (at_word F u below c.in-Gate.is a)
-
-pub read_worded-returns-in-Rhythm-clause-follows : goal.read_worded-returns-in-Rhythm-clause-follows
-read_worded-returns-in-Rhythm-clause-follows t c = λ F u below d a.
-    c.read_rhythm.ensures.follows F u below d (at_word F u below c.in-Rhythm.is a)
-
-pub read_worded-returns-in-Artic-clause-follows : goal.read_worded-returns-in-Artic-clause-follows
-read_worded-returns-in-Artic-clause-follows t c = λ F u below d a.
-    c.read_cycle.ensures.follows F u below d (at_word F u below c.in-Artic.is a)
-
-pub read_worded-returns-in-Loud-clause-follows : goal.read_worded-returns-in-Loud-clause-follows
-read_worded-returns-in-Loud-clause-follows t c = λ F u below d a.
-    c.read_cycle-in-Loud.ensures.follows F u below d (at_word F u below c.in-Loud.is a)
-
-pub read_worded-returns-in_default-clause-follows : goal.read_worded-returns-in_default-clause-follows
-read_worded-returns-in_default-clause-follows t c = λ F u below d a.
-    absurd (no_other c.args.word c.requires.begins c.in_default.not-Note c.in_default.not-Play c.in_default.not-Rest
-    c.in_default.not-Skip c.in_default.not-Control c.in_default.not-Program c.in_default.not-Bend
-    c.in_default.not-Set c.in_default.not-If c.in_default.not-Repeat c.in_default.not-Do c.in_default.not-Warp
-    c.in_default.not-Par c.in_default.not-Channel c.in_default.not-Volume c.in_default.not-Gate
-    c.in_default.not-Rhythm c.in_default.not-Artic c.in_default.not-Loud)
 
 pub read_statement-returns-in_err-check_braces-clause-follows :
     goal.read_statement-returns-in_err-check_braces-clause-follows

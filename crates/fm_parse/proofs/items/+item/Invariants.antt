@@ -11,26 +11,14 @@ decreases-read_else l = 20 * (64 - l.depth) + 1
 abbrev pub decreases-read_if : goal.decreases-read_if
 decreases-read_if l = 20 * (64 - l.depth) + 2
 
-abbrev pub decreases-read_repeat : goal.decreases-read_repeat
-decreases-read_repeat l = 20 * (64 - l.depth) + 2
-
-abbrev pub decreases-read_warp : goal.decreases-read_warp
-decreases-read_warp l = 20 * (64 - l.depth) + 2
+abbrev pub decreases-read_opened : goal.decreases-read_opened
+decreases-read_opened l = 20 * (64 - l.depth) + 2
 
 abbrev pub decreases-read_branches : goal.decreases-read_branches
 decreases-read_branches l = 20 * (64 - l.depth) + 1
 
 abbrev pub decreases-read_par : goal.decreases-read_par
 decreases-read_par l = 20 * (64 - l.depth) + 2
-
-abbrev pub decreases-read_scope : goal.decreases-read_scope
-decreases-read_scope l = 20 * (64 - l.depth) + 2
-
-abbrev pub decreases-read_rhythm : goal.decreases-read_rhythm
-decreases-read_rhythm l = 20 * (64 - l.depth) + 2
-
-abbrev pub decreases-read_cycle : goal.decreases-read_cycle
-decreases-read_cycle l = 20 * (64 - l.depth) + 2
 
 abbrev pub decreases-read_worded : goal.decreases-read_worded
 decreases-read_worded l = 20 * (64 - l.depth) + 3

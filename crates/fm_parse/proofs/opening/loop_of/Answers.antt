@@ -5,7 +5,7 @@ use Rattle.fm_terms.specs.declared.count.Count.{Count}
 use Rattle.fm_terms.specs.Counts.{count_view}
 use Rattle.fm_parse.specs.Statements.{loop_view}
 use Rattle.fm_parse.proofs.ItemViews.{repeat_view, again_view}
-use Rattle.fm_parse.proofs.items.loop_of.Goals as goal
+use Rattle.fm_parse.proofs.opening.loop_of.Goals as goal
 
 pub returns-in-Fixed : goal.returns-in-Fixed
 returns-in-Fixed c =
