@@ -4,3 +4,4 @@ pub mod Conducting
 pub mod Filing
 pub mod Beginnings
 pub mod Tapes
+mod Slices
