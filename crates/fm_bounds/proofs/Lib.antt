@@ -3,6 +3,5 @@ pub mod SumsLemmas
 pub mod WeightLemmas
 pub mod LongestLemmas
 pub mod LimitLemmas
-pub mod StandsLemmas
 pub mod WalkLemmas
 mod Numerals

@@ -6,7 +6,8 @@ use Rattle.fm_tick.specs.declared.tick.TheConstants.{MAX_TICK}
 use Rattle.fm_lex.specs.declared.spot.Spot.{Spot}
 use Rattle.fm_line.specs.Line.{most_events}
 use Rattle.fm_meaning.specs.Rules.{VersionRules, most_operations, most_steps}
-use Rattle.fm_meaning.specs.Fault.{NumberedFault, fault_if, too_many_processes, too_many_operations, too_long, too_many_events, too_many_steps}
+use Rattle.fm_meaning.specs.Fault.{NumberedFault, fault_if, too_many_processes}
+use Rattle.fm_meaning.specs.Fault.{too_many_operations, too_long, too_many_events, too_many_steps}
 use Rattle.fm_meaning.specs.Faults.{first_found}
 use Rattle.fm_meaning.specs.Bounds.{Totals, limit_faults}
 use Rattle.fm_bounds.specs.declared.sums.TheConstants.{CEILING}

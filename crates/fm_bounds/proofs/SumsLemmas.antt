@@ -1,5 +1,5 @@
 -- Totals up to the ceiling, from those of parts.
-use Rattle.std.proofs.Common.{◌≡◌, ℕ, ◌<◌, ◌≤◌, Bool, true, false, refl, ap, ◌∙◌, arith}
+use Rattle.std.proofs.Common.{◌≡◌, ℕ, ◌<◌, ◌≤◌, Bool, true, false, refl, ap, arith}
 use Rattle.std.proofs.lemmas.Bool.{lt-leb, le-leb}
 use Rattle.std.specs.Prelude.{List}
 use Rattle.fm_tick.specs.declared.tick.TheConstants.{MAX_TICK}
@@ -9,7 +9,6 @@ use Rattle.fm_meaning.specs.Bounds.{Totals, totals, warped_length}
 use Rattle.fm_bounds.specs.declared.sums.Sums.{Sums}
 use Rattle.fm_bounds.specs.declared.sums.TheConstants.{CEILING}
 use Rattle.fm_bounds.specs.Saturation.{capped, saturated}
-use Rattle.fm_bounds.proofs.SaturationLemmas.{capped_twice}
 
 -- totals by their columns
 abbrev pub sums : (processes operations length events steps : ℕ) → Bool → Sums
@@ -29,11 +28,10 @@ warped_within length n parts is within =
     let same : length ≡ n = omega arith in
     rw (le-leb n MAX_TICK (omega arith)) (ap (λ x. capped (at parts x)) same)
 
--- a length of the rhythm
-pub beat_saturated : (t longest e s : ℕ) → t ≡ capped longest
-    → saturated (totals 0 1 t e s) false ≡ saturated (totals 0 1 longest e s) false
-beat_saturated t longest e s is =
-    ap (λ l. sums (capped 0) (capped 1) l (capped e) (capped s) false) (ap capped is ∙ capped_twice longest)
+-- a length up to the ceiling
+pub span_saturated : (t span e s : ℕ) → capped t ≡ capped span
+    → saturated (totals 0 1 t e s) false ≡ saturated (totals 0 1 span e s) false
+span_saturated t span e s is = ap (λ l. sums (capped 0) (capped 1) l (capped e) (capped s) false) is
 
 -- statements under a deformation
 pub warp_saturated : {x : Sums} (b : Totals) {f : Bool} (parts : List Part) {w : ℕ}

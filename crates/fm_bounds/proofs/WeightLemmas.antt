@@ -1,10 +1,11 @@
 -- Totals of statements in turn and of branches, one more at the end.
-use Rattle.std.proofs.Common.{◌≡◌, ℕ, ◌+◌, Bool, true, false, List, [], ◌∷◌, ◌++◌, ◌<◌, map, take, get_or, length, refl, ap, sym, ◌∙◌, arith}
+use Rattle.std.proofs.Common.{◌≡◌, ℕ, ◌+◌, Bool, true, false, List, [], ◌∷◌, ◌++◌}
+use Rattle.std.proofs.Common.{◌<◌, map, take, get_or, length, refl, ap, sym, ◌∙◌, arith}
 use Rattle.std.proofs.lemmas.List.{take_more, map-append}
 use Rattle.std.specs.Prelude.{◌||◌}
-use Rattle.fm_grammar.specs.Score.{Body}
-use Rattle.fm_grammar.specs.View.{PlacedStmt, body_of, branches_of}
-use Rattle.fm_meaning.specs.Resolve.{Known, play_of, passage_of, fork_of}
+use Rattle.fm_expansion.specs.Outline.{Tables, Block, play_in, passage_in, fork_in}
+use Rattle.fm_outline.specs.declared.step.Step.{Step}
+use Rattle.fm_outline.specs.View.{Look, step_view, block_view, arms_of_blocks}
 use Rattle.fm_meaning.specs.Bounds.{Totals, totals, plus, beside, bounds_of, bounds_in, bounds_beside, forks, forks_in}
 
 -- totals with equal columns
@@ -20,14 +21,14 @@ pub plus_plus : (a b d : Totals) → plus a (plus b d) ≡ plus (plus a b) d
 plus_plus a b d = same_totals (omega arith) (omega arith) (omega arith) (omega arith) (omega arith)
 
 -- one statement more
-pub bounds_more : (longest : ℕ) (known : Known) (xs : List PlacedStmt) (x : PlacedStmt)
-    → bounds_in longest (passage_of known (body_of (xs ++ x ∷ [])))
-    ≡ plus (bounds_in longest (passage_of known (body_of xs))) (bounds_of longest (play_of known x.what))
-bounds_more longest known [] x = plus_nothing (bounds_of longest (play_of known x.what))
-bounds_more longest known (y ∷ xs) x =
-    ap (plus (bounds_of longest (play_of known y.what))) (bounds_more longest known xs x)
-    ∙ plus_plus (bounds_of longest (play_of known y.what)) (bounds_in longest (passage_of known (body_of xs)))
-    (bounds_of longest (play_of known x.what))
+pub bounds_more : (longest : ℕ) (t : Tables) (look : Look) (xs : List Step) (x : Step)
+    → bounds_in longest (passage_in t (block_view look (xs ++ x ∷ [])))
+    ≡ plus (bounds_in longest (passage_in t (block_view look xs))) (bounds_of longest (play_in t (step_view look x).what))
+bounds_more longest t look [] x = plus_nothing (bounds_of longest (play_in t (step_view look x).what))
+bounds_more longest t look (y ∷ xs) x =
+    ap (plus (bounds_of longest (play_in t (step_view look y).what))) (bounds_more longest t look xs x)
+    ∙ plus_plus (bounds_of longest (play_in t (step_view look y).what)) (bounds_in longest (passage_in t (block_view look xs)))
+    (bounds_of longest (play_in t (step_view look x).what))
 
 -- one of three
 or_or : (a b d : Bool) → a || (b || d) ≡ (a || b) || d
@@ -40,33 +41,39 @@ or_none true = refl
 or_none false = refl
 
 -- a fork in one statement more
-pub forks_more : (known : Known) (xs : List PlacedStmt) (x : PlacedStmt)
-    → forks_in (passage_of known (body_of (xs ++ x ∷ [])))
-    ≡ forks_in (passage_of known (body_of xs)) || forks (play_of known x.what)
-forks_more known [] x = or_none (forks (play_of known x.what))
-forks_more known (y ∷ xs) x =
-    ap (λ b. forks (play_of known y.what) || b) (forks_more known xs x)
-    ∙ or_or (forks (play_of known y.what)) (forks_in (passage_of known (body_of xs))) (forks (play_of known x.what))
+pub forks_more : (t : Tables) (look : Look) (xs : List Step) (x : Step)
+    → forks_in (passage_in t (block_view look (xs ++ x ∷ [])))
+    ≡ forks_in (passage_in t (block_view look xs)) || forks (play_in t (step_view look x).what)
+forks_more t look [] x = or_none (forks (play_in t (step_view look x).what))
+forks_more t look (y ∷ xs) x =
+    ap (λ b. forks (play_in t (step_view look y).what) || b) (forks_more t look xs x)
+    ∙ or_or (forks (play_in t (step_view look y).what)) (forks_in (passage_in t (block_view look xs)))
+    (forks (play_in t (step_view look x).what))
 
 -- two branches in either order
 beside_beside : (a b d : Totals) → beside a (beside b d) ≡ beside b (beside a d)
 beside_beside a b d = same_totals (omega arith) (omega arith) (omega arith) (omega arith) (omega arith)
 
 -- one branch more
-pub beside_more : (longest : ℕ) (known : Known) (bs : List Body) (b : Body)
-    → bounds_beside longest (fork_of known (branches_of (bs ++ b ∷ [])))
-    ≡ beside (bounds_in longest (passage_of known b)) (bounds_beside longest (fork_of known (branches_of bs)))
-beside_more longest known [] b = refl
-beside_more longest known (d ∷ bs) b =
-    ap (beside (bounds_in longest (passage_of known d))) (beside_more longest known bs b)
-    ∙ beside_beside (bounds_in longest (passage_of known d)) (bounds_in longest (passage_of known b))
-    (bounds_beside longest (fork_of known (branches_of bs)))
+pub beside_more : (longest : ℕ) (t : Tables) (bs : List Block) (b : Block)
+    → bounds_beside longest (fork_in t (arms_of_blocks (bs ++ b ∷ [])))
+    ≡ beside (bounds_in longest (passage_in t b)) (bounds_beside longest (fork_in t (arms_of_blocks bs)))
+beside_more longest t [] b = refl
+beside_more longest t (d ∷ bs) b =
+    ap (beside (bounds_in longest (passage_in t d))) (beside_more longest t bs b)
+    ∙ beside_beside (bounds_in longest (passage_in t d)) (bounds_in longest (passage_in t b))
+    (bounds_beside longest (fork_in t (arms_of_blocks bs)))
+
+-- one element more is taken
+pub take_one_more : {A : Type 0} (xs : List A) (i : ℕ) (x : A) → i < length xs → x ≡ get_or xs i x
+    → take (i + 1) xs ≡ take i xs ++ x ∷ []
+take_one_more xs i x within is = take_more xs i x within ∙ ap (λ y. take i xs ++ y ∷ []) (sym is)
 
 -- elements of a list seen in another way, one more at the end
 pub map_take_more : {A B : Type 0} (f : A → B) (xs : List A) (i : ℕ) (x : A) → i < length xs → x ≡ get_or xs i x
     → map f (take (i + 1) xs) ≡ map f (take i xs) ++ f x ∷ []
 map_take_more f xs i x within is =
-    ap (map f) (take_more xs i x within ∙ ap (λ y. take i xs ++ y ∷ []) (sym is))
+    ap (map f) (take_one_more xs i x within is)
     ∙ map-append f (take i xs) (x ∷ [])
 
 -- the same of the element at an index

@@ -1,4 +1,3 @@
 pub mod Saturation
 pub mod Weight
-pub mod Stands
 pub mod Reached

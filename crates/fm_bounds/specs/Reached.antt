@@ -1,19 +1,15 @@
--- How far the walk over the entries of a score has come.
-use Rattle.std.specs.Prelude.{◌≡◌, ℕ, ◌≤◌, Bool, List, []}
+-- How far the walk over the statements of an outline has come.
+use Rattle.std.specs.Prelude.{◌≡◌, ℕ, ◌≤◌, Bool}
 use Rattle.fm_tick.specs.declared.tick.TheConstants.{MAX_TICK}
 use Rattle.fm_line.specs.Line.{most_events}
-use Rattle.fm_grammar.specs.declared.item.Item.{Item}
-use Rattle.fm_grammar.specs.Score.{Entry, plays, Score}
-use Rattle.fm_grammar.specs.View.{item_view}
+use Rattle.fm_grammar.specs.Score.{Score}
 use Rattle.fm_meaning.specs.Rules.{score_rules, most_operations, most_steps}
-use Rattle.fm_meaning.specs.Resolve.{Known, entries_of, resolved}
-use Rattle.fm_meaning.specs.Ranges.{Names, entries_faults}
+use Rattle.fm_meaning.specs.Resolved.{Passage}
+use Rattle.fm_meaning.specs.Resolve.{resolved}
 use Rattle.fm_meaning.specs.Bounds.{Totals, plus, score_totals, bounds_in, sums_faults, fourth_walk}
-use Rattle.fm_version.specs.View.{rules_view}
 use Rattle.fm_bounds.specs.declared.bounds.Bounds.{Bounds}
-use Rattle.fm_bounds.specs.declared.walk.Walk.{Walk}
+use Rattle.fm_bounds.specs.declared.sums.Sums.{Sums}
 use Rattle.fm_bounds.specs.Saturation.{saturated}
-use Rattle.fm_bounds.specs.Stands.{Stands}
 
 -- the totals as a contract sees them
 abbrev pub totals_of : Bounds → Totals
@@ -25,10 +21,6 @@ totals_of b = record {
   steps = b.steps;
 }
 
--- a statement of the code as an entry of the score
-abbrev pub played : Item → Entry
-played i = plays (item_view i).spot (item_view i).what
-
 -- no total passes its limit
 pub record AreWithin (most : ℕ) (a : Totals) : Type 0 where
   pub processes : a.processes ≤ most
@@ -37,19 +29,13 @@ pub record AreWithin (most : ℕ) (a : Totals) : Type 0 where
   pub events : a.events ≤ most_events
   pub steps : a.steps ≤ most_steps
 
--- before these entries of a score nothing was too much, and the walk has what they need
-pub record Reached (score : Score) (walk : Walk) (rest : List Entry) : Type 0 where
-  pub rules : rules_view walk.tables.rules ≡ score_rules score
-  pub known : Known
-  pub names : Names
-  pub before : Totals
+-- before these statements of a score nothing was too much, and so much was added
+pub record Reached (score : Score) (before : Sums) (rest : Passage) : Type 0 where
+  pub so_far : Totals
   pub forks : Bool
-  pub stands : Stands walk.tables (resolved score).longest known
-  pub whole : names.whole ≡ known.whole
-  pub saturates : walk.before ≡ saturated before forks
-  pub within : AreWithin (score_rules score).most_processes (score_totals before)
-  pub ranges : entries_faults names rest ≡ []
+  pub saturates : before ≡ saturated so_far forks
+  pub within : AreWithin (score_rules score).most_processes (score_totals so_far)
   pub faults : fourth_walk (score_rules score) (resolved score)
-      ≡ sums_faults (score_rules score) (resolved score).longest before (entries_of known rest)
+      ≡ sums_faults (score_rules score) (resolved score).longest so_far rest
   pub bounds : bounds_in (resolved score).longest (resolved score).passage
-      ≡ plus before (bounds_in (resolved score).longest (entries_of known rest))
+      ≡ plus so_far (bounds_in (resolved score).longest rest)

@@ -10,9 +10,7 @@
 mod bounds;
 mod excess;
 mod longest;
-mod span;
 mod sums;
-mod tables;
 mod walk;
 mod weigh;
 

@@ -1,91 +1,92 @@
-//! The walk over the entries of a score.
+//! The walk over the outline of a score.
 
-ghost use Rattle.std.specs.Prelude.{◌≡◌, ◌∷◌, [], List, map, OnOk, IfOk, Some, Err};
+ghost use Rattle.std.specs.Prelude.{◌≡◌, ℕ, [], map, vec_items, OnOk, IfOk, Some, Err};
 ghost use Rattle.fm_lex.specs.declared.spot.Spot.{Spot};
-ghost use Rattle.fm_grammar.specs.Score as tree;
-ghost use Rattle.fm_grammar.specs.View.{entry_view, score_view};
+ghost use Rattle.fm_grammar.specs.Score.{Score as Tree};
+ghost use Rattle.fm_grammar.specs.View.{score_view};
 ghost use Rattle.fm_meaning.specs.Rules.{score_rules};
+ghost use Rattle.fm_meaning.specs.Resolved.{Play, Passage, done, item};
 ghost use Rattle.fm_meaning.specs.Resolve.{resolved};
-ghost use Rattle.fm_meaning.specs.Ranges.{second_walk};
 ghost use Rattle.fm_meaning.specs.Bounds.{score_bounds, fourth_walk};
 ghost use Rattle.fm_meaning.specs.Faults.{first_found};
+ghost use Rattle.fm_outline.specs.View.{tables_view, look_in, phrases_view};
+ghost use Rattle.fm_outline.specs.OfScore.{passage_of_outline};
 ghost use Rattle.fm_fault.specs.Why.{fault_at};
 ghost use Rattle.fm_fault.specs.declared.why.Why.{Why};
-ghost use Rattle.fm_bounds.specs.Reached.{Reached, played, totals_of};
+ghost use Rattle.fm_bounds.specs.Saturation.{capped};
+ghost use Rattle.fm_bounds.specs.Weight.{KnowsWeights, weight_of};
+ghost use Rattle.fm_bounds.specs.Reached.{Reached, totals_of};
 
 use crate::bounds::Bounds;
 use crate::excess::first_excess;
 use crate::longest::longest_rhythm;
 use crate::sums::Sums;
-use crate::tables::Tables;
-use crate::weigh::weigh_item;
+use crate::weigh::{weigh_step, weigh_steps};
 use fm_fault::CheckFault;
-use fm_grammar::{Entry, Item, Score};
-use fm_names::Names;
-use fm_version::{rules_of, warp_of};
-use std::alloc::Global;
+use fm_grammar::Score;
+use fm_lex::Spot;
+use fm_outline::{Outline, Step, Tables};
+use fm_version::rules_of;
+use std::alloc::{AllocError, Global};
 
-/// What the walk needs of the entries behind it.
-#[derive(Drop)]
-pub(crate) struct Walk<'s> {
-    pub(crate) tables: Tables<'s>,
-    /// What the statements that are played add at most.
-    pub(crate) before: Sums,
+// What each phrase adds at most, found once.
+fn weigh_phrases(
+    alloc: Global,
+    tables: &Tables,
+    longest: u64,
+    phrases: &[Vec<Step>],
+) -> Result<Vec<Sums>, AllocError>
+    ensures { IfOk result (λ sums. (n : ℕ) → longest ≡ capped n →
+        KnowsWeights (tables_view tables.now) sums.items n
+        (look_in (phrases_view (map vec_items phrases.now)))) }
+{
+    let mut sums = Vec::with_capacity(alloc, phrases.len())?;
+    for phrase in phrases {
+        let own = weigh_steps(tables, sums.as_slice(), longest, phrase);
+        sums.push(own)?;
+    }
+    Ok(sums)
 }
 
-impl<'s> Walk<'s> {
-    // Adds a statement that is played.
-    fn play(&mut self, item: &Item) -> Result<(), CheckFault>
-        ensures ok { OnOk result ((score : tree.Score) (rest : List tree.Entry) →
-            Reached score self.old (played item.now ∷ rest) → Reached score self.new rest) }
-        ensures refused { (why : Why) (spot : Spot) →
-            result ≡ Err (CheckFault.Refused why spot) →
-            (score : tree.Score) (rest : List tree.Entry) →
-            Reached score self.old (played item.now ∷ rest) →
-            first_found (fourth_walk (score_rules score) (resolved score))
-            ≡ Some (fault_at spot why) }
-    {
-        self.before = self.before.plus(weigh_item(&self.tables, item));
-        match first_excess(self.tables.rules.most_processes, self.before.whole()) {
-            None => Ok(()),
-            Some(why) => Err(CheckFault::Refused {
-                why,
-                spot: item.spot,
-            }),
-        }
-    }
-
-    // Goes over one entry.
-    fn enter(&mut self, alloc: Global, entry: &Entry<'s>) -> Result<(), CheckFault>
-        requires { (score : tree.Score) × (rest : List tree.Entry)
-            × Reached score self.old (entry_view entry.now ∷ rest) }
-        ensures ok { OnOk result ((score : tree.Score) (rest : List tree.Entry) →
-            Reached score self.old (entry_view entry.now ∷ rest) → Reached score self.new rest) }
-        ensures refused { (why : Why) (spot : Spot) →
-            result ≡ Err (CheckFault.Refused why spot) →
-            (score : tree.Score) (rest : List tree.Entry) →
-            Reached score self.old (entry_view entry.now ∷ rest) →
-            first_found (fourth_walk (score_rules score) (resolved score))
-            ≡ Some (fault_at spot why) }
-    {
-        match entry {
-            Entry::Shape { name, parts } => {
-                let warp = warp_of(alloc, self.tables.rules.whole_note, parts)?;
-                self.tables.add_shape(name, warp)?;
-                Ok(())
-            }
-            Entry::Phrase { name, body } => {
-                self.tables.add_phrase(name, body)?;
-                Ok(())
-            }
-            Entry::Play { item } => self.play(item),
-        }
+// Adds what the statement at a spot adds at most.
+fn add(most_processes: u32, before: Sums, weight: Sums, spot: Spot) -> Result<Sums, CheckFault>
+    ensures ok { IfOk result (λ sums. (s : Tree) (play : Play) (rest : Passage) →
+        most_processes ≡ (score_rules s).most_processes →
+        weight ≡ weight_of (resolved s).longest play →
+        Reached s before (item spot play rest) → Reached s sums rest) }
+    ensures refused { (why : Why) (at : Spot) → result ≡ Err (CheckFault.Refused why at) →
+        (s : Tree) (play : Play) (rest : Passage) →
+        most_processes ≡ (score_rules s).most_processes →
+        weight ≡ weight_of (resolved s).longest play →
+        Reached s before (item spot play rest) →
+        first_found (fourth_walk (score_rules s) (resolved s)) ≡ Some (fault_at at why) }
+{
+    let sums = before.plus(weight);
+    match first_excess(most_processes, sums.whole()) {
+        None => Ok(sums),
+        Some(why) => Err(CheckFault::Refused { why, spot }),
     }
 }
 
-/// The static totals of a score, or the first statement with which one of them passes its limit.
-pub fn find_bounds(alloc: Global, score: &Score) -> Result<Bounds, CheckFault>
-    requires { second_walk (score_view score.now) ≡ [] }
+// The totals where no statement is left.
+fn finish(before: Sums) -> Bounds
+    requires { (s : Tree) × Reached s before done }
+    ensures { (s : Tree) → Reached s before done → totals_of result ≡ score_bounds (resolved s) }
+{
+    let whole = before.whole();
+    Bounds {
+        processes: whole.processes as u32,
+        operations: whole.operations as u32,
+        length: whole.length,
+        events: whole.events as u32,
+        steps: whole.steps as u32,
+    }
+}
+
+/// The static totals of a score for which an outline stands, or the first statement with which one
+/// of them passes its limit.
+pub fn find_bounds(alloc: Global, score: &Score, outline: &Outline) -> Result<Bounds, CheckFault>
+    requires { passage_of_outline outline.now ≡ (resolved (score_view score.now)).passage }
     ensures bounds { IfOk result
         (λ b. totals_of b ≡ score_bounds (resolved (score_view score.now))) }
     ensures faultless { OnOk result
@@ -95,24 +96,12 @@ pub fn find_bounds(alloc: Global, score: &Score) -> Result<Bounds, CheckFault>
         first_found (fourth_walk (score_rules s) (resolved s)) ≡ Some (fault_at spot why) }
 {
     let rules = rules_of(score);
-    let mut walk = Walk {
-        tables: Tables {
-            rules,
-            longest: longest_rhythm(rules.whole_note, &score.entries),
-            phrases: Names::new(alloc),
-            shapes: Names::new(alloc),
-        },
-        before: Sums::NONE,
-    };
-    for entry in &score.entries {
-        walk.enter(alloc, entry)?;
+    let longest = longest_rhythm(rules.whole_note, &score.entries);
+    let phrases = weigh_phrases(alloc, &outline.tables, longest, &outline.phrases)?;
+    let mut before = Sums::NONE;
+    for step in &outline.block {
+        let weight = weigh_step(&outline.tables, &phrases, longest, step);
+        before = add(rules.most_processes, before, weight, step.spot)?;
     }
-    let whole = walk.before.whole();
-    Ok(Bounds {
-        processes: whole.processes as u32,
-        operations: whole.operations as u32,
-        length: whole.length,
-        events: whole.events as u32,
-        steps: whole.steps as u32,
-    })
+    Ok(finish(before))
 }

@@ -11,4 +11,4 @@ mod walks;
 
 pub use fm_bounds::Bounds;
 pub use fm_fault::{CheckFault, Why};
-pub use walks::check;
+pub use walks::{Checked, check, check_outline};

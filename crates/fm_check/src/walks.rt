@@ -6,6 +6,7 @@ ghost use Rattle.fm_grammar.specs.View.{score_view};
 ghost use Rattle.fm_meaning.specs.Resolve.{resolved};
 ghost use Rattle.fm_meaning.specs.Bounds.{score_bounds};
 ghost use Rattle.fm_meaning.specs.Faults.{score_faults, first_found};
+ghost use Rattle.fm_outline.specs.OfScore.{IsOutlineOf};
 ghost use Rattle.fm_bounds.specs.Reached.{totals_of};
 ghost use Rattle.fm_fault.specs.Why.{fault_at};
 ghost use Rattle.fm_fault.specs.declared.why.Why.{Why as Reason};
@@ -13,9 +14,40 @@ ghost use Rattle.fm_fault.specs.declared.why.Why.{Why as Reason};
 use fm_bounds::{Bounds, find_bounds};
 use fm_fault::{CheckFault, refused};
 use fm_grammar::Score;
+use fm_outline::{Outline, outline_of};
 use fm_places::first_place_fault;
 use fm_ranges::first_range_fault;
 use std::alloc::Global;
+
+/// An accepted score with nothing left to look up, and its static totals.
+#[derive(Drop)]
+pub struct Checked {
+    pub outline: Outline,
+    pub bounds: Bounds,
+}
+
+/// The outline of a score with its static totals, or its first fault: of names and numbers, then of
+/// where statements stand, then of totals. A later walk is made only where those before it found
+/// nothing. The first goes over the text; the outline is made behind it, and the others go over
+/// that.
+pub fn check_outline(alloc: Global, score: &Score) -> Result<Checked, CheckFault>
+    ensures outline { IfOk result (λ c. IsOutlineOf c.outline (score_view score.now)) }
+    ensures bounds { IfOk result
+        (λ c. totals_of c.bounds ≡ score_bounds (resolved (score_view score.now))) }
+    ensures faultless { OnOk result (score_faults (score_view score.now) ≡ []) }
+    ensures refused { (why : Reason) (spot : Spot) → result ≡ Err (CheckFault.Refused why spot) →
+        first_found (score_faults (score_view score.now)) ≡ Some (fault_at spot why) }
+{
+    if let Some(fault) = first_range_fault(alloc, score)? {
+        return Err(refused(fault));
+    }
+    let outline = outline_of(alloc, score)?;
+    if let Some(fault) = first_place_fault(alloc, &outline)? {
+        return Err(refused(fault));
+    }
+    let bounds = find_bounds(alloc, score, &outline)?;
+    Ok(Checked { outline, bounds })
+}
 
 /// The static totals of a score, or its first fault: of names and numbers, then of where statements
 /// stand, then of totals. A later walk is made only where those before it found nothing.
@@ -26,11 +58,8 @@ pub fn check(alloc: Global, score: &Score) -> Result<Bounds, CheckFault>
     ensures refused { (why : Reason) (spot : Spot) → result ≡ Err (CheckFault.Refused why spot) →
         first_found (score_faults (score_view score.now)) ≡ Some (fault_at spot why) }
 {
-    if let Some(fault) = first_range_fault(alloc, score)? {
-        return Err(refused(fault));
+    match check_outline(alloc, score) {
+        Ok(checked) => Ok(checked.bounds),
+        Err(fault) => Err(fault),
     }
-    if let Some(fault) = first_place_fault(alloc, score)? {
-        return Err(refused(fault));
-    }
-    find_bounds(alloc, score)
 }

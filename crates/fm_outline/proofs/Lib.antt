@@ -3,6 +3,7 @@ pub mod InsideLemmas
 pub mod SeenLemmas
 pub mod GrowingLemmas
 pub mod KeyLemmas
+pub mod PhraseLemmas
 pub mod WalkLemmas
 pub mod ItemLemmas
 pub mod MapLemmas

@@ -26,6 +26,7 @@ use Rattle.fm_outline.specs.Growing.{followed}
 use Rattle.fm_outline.specs.Knows.{Knows}
 use Rattle.fm_outline.specs.Walked.{Extends, WalkedBy}
 use Rattle.fm_version.proofs.RangeLemmas.{none_first, none_second}
+use Rattle.fm_outline.proofs.PhraseLemmas.{phrases_more, get_mapped}
 use Rattle.fm_outline.proofs.SeenLemmas.{step_seen}
 use Rattle.fm_outline.proofs.GrowingLemmas.{placed, placed_more}
 
@@ -61,13 +62,6 @@ shape_in_range names name parts rest whole none =
     (entries_faults (record names { shapes = name.text ∷ names.shapes }) rest) none)
 
 -- ---- phrases
-
--- a phrase more
-behind_more : (blocks : List plain.Block) (ps : List (List Step)) (p : List Step)
-    → phrases_behind blocks (ps ++ p ∷ [])
-    ≡ phrases_behind blocks ps ++ block_view (look_in (phrases_behind blocks ps)) p ∷ []
-behind_more blocks [] p = refl
-behind_more blocks (q ∷ ps) p = behind_more (blocks ++ block_view (look_in blocks) q ∷ []) ps p
 
 -- there are as many as were defined
 behind_length : (blocks : List plain.Block) (ps : List (List Step))
@@ -200,7 +194,7 @@ phrase_walked score known names forking phrases grown block t u name body rest p
     let itself : Extends blocks (look_in blocks) = λ n within. refl in
     let last = block_view (look_in blocks) steps in
     let last_is : last ≡ value = ap (λ x. x.value) (here (look_in blocks) itself) in
-    let all : phrases_view grown ≡ blocks ++ last ∷ [] = ap phrases_view pushed ∙ behind_more [] phrases steps in
+    let all : phrases_view grown ≡ blocks ++ last ∷ [] = ap phrases_view pushed ∙ phrases_more [] phrases steps in
     let fewer : (look : Look) → Extends (phrases_view grown) look → Extends blocks look
     = λ look more. extends_less blocks last look (subst (λ bs. Extends bs look) all more) in
     record {
@@ -287,12 +281,6 @@ pub ends_as_outline : (score : text.Score) (known : Known) (phrases : List (List
 ends_as_outline score known phrases block t es i past r =
     let e = at_end score known phrases block t es i past r in
     sym (e.so_far (look_in (phrases_view phrases)) (λ n within. refl))
-
--- a list that is mapped, at a place
-get_mapped : {A B : Type 0} (f : A → B) (xs : List A) (n : ℕ) (d : A) → get_or (map f xs) n (f d) ≡ f (get_or xs n d)
-get_mapped f [] n d = refl
-get_mapped f (x ∷ xs) zero d = refl
-get_mapped f (x ∷ xs) (suc n) d = get_mapped f xs n d
 
 -- each phrase stands for its statements
 pub phrases_stand : (score : text.Score) (known : Known) (phrases : List (List Step)) (block : List Step)

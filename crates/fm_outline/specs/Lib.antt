@@ -1,5 +1,6 @@
 pub mod View
 pub mod Phrases
+pub mod OfScore
 pub mod InRange
 pub mod Knows
 pub mod Growing

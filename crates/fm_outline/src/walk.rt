@@ -6,11 +6,12 @@ ghost use Rattle.fm_warp.specs.declared.warp.TheConstants.{MAX_PARTS};
 ghost use Rattle.fm_grammar.specs.Score as tree;
 ghost use Rattle.fm_grammar.specs.View.{entry_view, item_view, items_view, name_view, score_view};
 ghost use Rattle.fm_meaning.specs.Rules.{profile_of};
-ghost use Rattle.fm_meaning.specs.Resolve.{seed_of};
+ghost use Rattle.fm_meaning.specs.Resolve.{resolved, seed_of};
 ghost use Rattle.fm_meaning.specs.Ranges.{each_faults, part_faults, part_length, length_spot, second_walk};
 ghost use Rattle.fm_expansion.specs.Numbering.{outline};
 ghost use Rattle.fm_outline.specs.InRange.{StmtInRange, BodyInRange};
 ghost use Rattle.fm_outline.specs.View.{outline_view};
+ghost use Rattle.fm_outline.specs.OfScore.{passage_of_outline};
 ghost use Rattle.fm_outline.specs.Phrases.{PhrasesStand};
 ghost use Rattle.fm_outline.specs.Walked.{Walked, played};
 
@@ -20,6 +21,7 @@ use crate::outline::Outline;
 use crate::statement::{outline_item, outline_items};
 use crate::step::Step;
 use crate::tables::{Tables, place};
+use fm_expansion::outlines_stand_for_scores;
 use fm_grammar::{Entry, Item, Name, PartText, Score};
 use fm_names::Names;
 use fm_version::{rules_of, warp_of};
@@ -115,14 +117,18 @@ fn seed(score: &Score) -> u32
 }
 
 /// The outline of a score whose names and numbers have no fault: its tables in the order of the
-/// text, and its statements with the places of what they name. It fails only for want of memory.
+/// text, and its statements with the places of what they name. It stands for what the score plays.
+/// It fails only for want of memory.
 pub fn outline_of(alloc: Global, score: &Score) -> Result<Outline, AllocError>
     requires { second_walk (score_view score.now) ≡ [] }
     ensures outline { IfOk result (λ o. outline_view o ≡ outline (score_view score.now)) }
+    ensures passage { IfOk result (λ o.
+        passage_of_outline o ≡ (resolved (score_view score.now)).passage) }
     ensures phrases { IfOk result PhrasesStand }
     ensures seed { IfOk result (λ o. o.seed ≡ seed_of (score_view score.now).seed) }
     ensures profile { IfOk result (λ o. o.profile ≡ profile_of (score_view score.now)) }
 {
+    outlines_stand_for_scores();
     let rules = rules_of(score);
     let mut walk = Walk {
         known: Known {

@@ -1,26 +1,22 @@
--- The first fault of a text's statements is the first once phrases stand in their places.
-use Rattle.std.proofs.Common.{◌≡◌, ℕ, ◌+◌, ◌≤◌, max, Bool, true, false, cond, ◌&&◌, ◌||◌, not, nat_lt, List, [], ◌∷◌, ◌++◌}
-use Rattle.std.proofs.Common.{None, map, refl, sym, ap, ap₂, ◌∙◌, append_assoc, append-nil, lit≤, arith}
-use Rattle.std.specs.Prelude.{if◌then◌else◌}
-use Rattle.std.specs.Str.{bytes_eq}
+-- The first fault of statements is the first that the third walk lists.
+use Rattle.std.proofs.Common.{◌≡◌, ℕ, ◌+◌, ◌≤◌, max, Bool, true, false, ◌&&◌, ◌||◌, not, nat_lt, List, [], ◌∷◌, ◌++◌}
+use Rattle.std.proofs.Common.{None, refl, sym, ap, ap₂, ◌∙◌, append_assoc, append-nil, lit≤, arith}
 use Rattle.std.proofs.lemmas.Bool.Decides.{nat_tests}
 use Rattle.fm_lex.specs.declared.spot.Spot.{Spot}
-use Rattle.fm_grammar.specs.Score as text
-use Rattle.fm_meaning.specs.Resolved.{Passage, done, beat}
-use Rattle.fm_meaning.specs.Resolve.{Known, named_as, meaning_of, play_of, passage_of, fork_of, entries_of, part_of, key_draw}
-use Rattle.fm_meaning.specs.Resolve.{draw_of, span_of}
+use Rattle.fm_meaning.specs.Resolved.{Play, note, rest, send, assign, choice, loop, phrase, par, warp, channel, steady, under}
+use Rattle.fm_meaning.specs.Resolved.{Passage, done, item, Fork, joined, branch}
 use Rattle.fm_meaning.specs.Fault.{NumberedFault, fault_if, fork_in_choice, play_outside_rhythm, index_outside_loop, too_deep}
 use Rattle.fm_meaning.specs.Faults.{first_found}
-use Rattle.fm_meaning.specs.Places.{Depths, outermost, in_one, in_fork, depth_faults, gathered, place_faults, passage_faults, fork_faults}
+use Rattle.fm_meaning.specs.Places.{Depths, outermost, in_one, in_branching, in_loop, in_warp, in_list, in_fork, is_beat}
+use Rattle.fm_meaning.specs.Places.{depth_faults, gathered, place_faults, passage_faults, fork_faults}
 use Rattle.fm_places.specs.declared.needs.Needs.{Needs}
-use Rattle.fm_places.specs.Needs.{nothing, asks, forked, both, in_block, is_too_deep, missing, needs_in, loops_of, draws_loops, draw_loops}
-use Rattle.fm_places.specs.Statements.{Look, inside, body_places, branches_places, stmt_places}
-use Rattle.fm_places.specs.Statements.{body_needs, with_phrase, behind, entries_places}
+use Rattle.fm_places.specs.Needs.{nothing, asks, forked, both, in_block, is_too_deep, missing, needs_in, loops_of}
+use Rattle.fm_places.specs.Needs.{draw_loops, span_loops, count_loops}
+use Rattle.fm_places.specs.Statements.{play_places, passage_places, fork_places}
 use Rattle.fm_places.proofs.BothLemmas.{max_none, nothing_both}
-use Rattle.fm_places.proofs.TextNeeds.{Knows, body_told}
 use Rattle.fm_places.proofs.TellsLemmas.{IsShallow, Tells, has, four, gathered_four}
 use Rattle.fm_places.proofs.BlockTells.{beyond, shallow_of, tells_block, deep_block_same}
-use Rattle.fm_places.proofs.PlayTells.{outside_nodes, outside_draw, outside_note, passage_tells}
+use Rattle.fm_places.proofs.PlayTells.{outside_nodes, outside_draw, outside_span, outside_count, outside_note, passage_tells}
 
 -- ---- firsts
 
@@ -138,98 +134,44 @@ call_first spot n p d s e =
 -- ---- statements in turn
 
 mutual
-  pub stmt_first : (look : Look) (k : Known) → Knows look k → (spot : Spot) (s : text.Stmt) (d : Depths) → IsShallow d
-      → first_found (stmt_places look spot s d) ≡ first_found (place_faults spot (play_of k s) d)
-  stmt_first look k h spot (text.note ps (text.fixed l)) d w =
-      leaf_first spot false _ _ d w (outside_note d.loops (map key_draw ps) (span_of 0 (text.fixed l)))
-  stmt_first look k h spot (text.note ps (text.Duration.computed e m)) d w =
-      leaf_first spot false _ _ d w (outside_note d.loops (map key_draw ps) (span_of 0 (text.Duration.computed e m)))
-  stmt_first look k h spot (text.play ps) d w =
-      leaf_first spot true _ (draws_loops (map key_draw ps)) d w
-      (outside_note d.loops (map key_draw ps) beat ∙ ap (nat_lt d.loops) (max_none (draws_loops (map key_draw ps))))
-  stmt_first look k h spot (text.rest (text.fixed l)) d w = leaf_first spot false _ 0 d w (no_lt d.loops)
-  stmt_first look k h spot (text.rest (text.Duration.computed e m)) d w =
-      leaf_first spot false _ (loops_of e.nodes) d w (outside_nodes d.loops e.nodes)
-  stmt_first look k h spot text.skip d w = leaf_first spot true _ 0 d w (no_lt d.loops)
-  stmt_first look k h spot (text.control c a) d w = leaf_first spot false _ (draw_loops (draw_of a)) d w (outside_draw d.loops (draw_of a))
-  stmt_first look k h spot (text.program a) d w = leaf_first spot false _ (draw_loops (draw_of a)) d w (outside_draw d.loops (draw_of a))
-  stmt_first look k h spot (text.bend a) d w = leaf_first spot false _ (draw_loops (draw_of a)) d w (outside_draw d.loops (draw_of a))
-  stmt_first look k h spot (text.set r e) d w = leaf_first spot false _ (loops_of e.nodes) d w (outside_nodes d.loops e.nodes)
-  stmt_first look k h spot (text.choice e a b) d w =
-      let i = inside (text.choice e a b) d in
-      block_first spot _ (loops_of e.nodes) d i (body_places look a i ++ body_places look b i)
-      (passage_faults (passage_of k a) i ++ passage_faults (passage_of k b) i)
-      (outside_nodes d.loops e.nodes)
-      (λ v. follow _ _ _ _ (body_first look k h a i v) (λ n. body_first look k h b i v))
-      ∙ ap first_found (sym (append_assoc _ (passage_faults (passage_of k a) i) (passage_faults (passage_of k b) i)))
-  stmt_first look k h spot (text.repeat n b) d w =
-      let i = inside (text.repeat n b) d in
-      block_first spot false 0 d i _ _ (no_lt d.loops) (λ v. body_first look k h b i v)
-  stmt_first look k h spot (text.again e n b) d w =
-      let i = inside (text.again e n b) d in
-      block_first spot _ (loops_of e.nodes) d i _ _ (outside_nodes d.loops e.nodes) (λ v. body_first look k h b i v)
-  stmt_first look k h spot (text.call name) d w =
-      call_first spot (look name.text) (meaning_of name.text done k.phrases) d w (h.tells name.text)
-  stmt_first look k h spot (text.par bs) d w = fork_first spot d (in_fork d) _ _ (λ v. branches_first look k h bs (in_fork d) v)
-  stmt_first look k h spot (text.warp name b) d w =
-      let i = inside (text.warp name b) d in
-      block_first spot false 0 d i _ _ (no_lt d.loops) (λ v. body_first look k h b i v)
-  stmt_first look k h spot (text.channel n b) d w =
-      block_first spot false 0 d (in_one d) _ _ (no_lt d.loops) (λ v. body_first look k h b (in_one d) v)
-  stmt_first look k h spot (text.volume n b) d w =
-      block_first spot false 0 d (in_one d) _ _ (no_lt d.loops) (λ v. body_first look k h b (in_one d) v)
-  stmt_first look k h spot (text.gate n b) d w =
-      block_first spot false 0 d (in_one d) _ _ (no_lt d.loops) (λ v. body_first look k h b (in_one d) v)
-  stmt_first look k h spot (text.rhythm ls b) d w =
-      let i = inside (text.rhythm ls b) d in
-      block_first spot false 0 d i _ _ (no_lt d.loops) (λ v. body_first look k h b i v)
-  stmt_first look k h spot (text.artic ns b) d w =
-      let i = inside (text.artic ns b) d in
-      block_first spot false 0 d i _ _ (no_lt d.loops) (λ v. body_first look k h b i v)
-  stmt_first look k h spot (text.loud ns b) d w =
-      let i = inside (text.loud ns b) d in
-      block_first spot false 0 d i _ _ (no_lt d.loops) (λ v. body_first look k h b i v)
+  pub play_first : (spot : Spot) (p : Play) (d : Depths) → IsShallow d
+      → first_found (play_places spot p d) ≡ first_found (place_faults spot p d)
+  play_first spot (note draws span) d w = leaf_first spot (is_beat span) _ _ d w (outside_note d.loops draws span)
+  play_first spot (rest span) d w = leaf_first spot (is_beat span) _ (span_loops span) d w (outside_span d.loops span)
+  play_first spot (send point draw) d w = leaf_first spot false _ (draw_loops draw) d w (outside_draw d.loops draw)
+  play_first spot (assign register expr) d w = leaf_first spot false _ (loops_of expr) d w (outside_nodes d.loops expr)
+  play_first spot (choice expr first second) d w =
+      let i = in_branching d in
+      block_first spot _ (loops_of expr) d i (passage_places first i ++ passage_places second i)
+      (passage_faults first i ++ passage_faults second i) (outside_nodes d.loops expr)
+      (λ v. follow _ _ _ _ (passage_first first i v) (λ n. passage_first second i v))
+      ∙ ap first_found (sym (append_assoc _ (passage_faults first i) (passage_faults second i)))
+  play_first spot (loop count body) d w =
+      block_first spot _ (count_loops count) d (in_loop count d) _ _ (outside_count d.loops count)
+      (λ v. passage_first body (in_loop count d) v)
+  play_first spot (phrase body) d w = call_first spot (needs_in body) body d w refl
+  play_first spot (par branches) d w =
+      fork_first spot d (in_fork d) _ _ (λ v. fork_first_in branches (in_fork d) v)
+  play_first spot (warp parts body) d w =
+      block_first spot false 0 d (in_warp d) _ _ (no_lt d.loops) (λ v. passage_first body (in_warp d) v)
+  play_first spot (channel number body) d w =
+      block_first spot false 0 d (in_one d) _ _ (no_lt d.loops) (λ v. passage_first body (in_one d) v)
+  play_first spot (steady quality entry body) d w =
+      block_first spot false 0 d (in_one d) _ _ (no_lt d.loops) (λ v. passage_first body (in_one d) v)
+  play_first spot (under quality entries body) d w =
+      block_first spot false 0 d (in_list quality d) _ _ (no_lt d.loops) (λ v. passage_first body (in_list quality d) v)
 
-  pub body_first : (look : Look) (k : Known) → Knows look k → (b : text.Body) (d : Depths) → IsShallow d
-      → first_found (body_places look b d) ≡ first_found (passage_faults (passage_of k b) d)
-  body_first look k h text.done d w = refl
-  body_first look k h (text.then spot s b) d w =
-      follow _ _ _ _ (stmt_first look k h spot s d w) (λ n. body_first look k h b d w)
+  pub passage_first : (p : Passage) (d : Depths) → IsShallow d
+      → first_found (passage_places p d) ≡ first_found (passage_faults p d)
+  passage_first done d w = refl
+  passage_first (item spot play more) d w =
+      follow _ _ _ _ (play_first spot play d w) (λ n. passage_first more d w)
 
-  pub branches_first : (look : Look) (k : Known) → Knows look k → (bs : text.Branches) (d : Depths) → IsShallow d
-      → first_found (branches_places look bs d) ≡ first_found (fork_faults (fork_of k bs) d)
-  branches_first look k h text.none d w = refl
-  branches_first look k h (text.branch b bs) d w =
-      follow _ _ _ _ (body_first look k h b d w) (λ n. branches_first look k h bs d w)
+  pub fork_first_in : (f : Fork) (d : Depths) → IsShallow d → first_found (fork_places f d) ≡ first_found (fork_faults f d)
+  fork_first_in joined d w = refl
+  fork_first_in (branch body branches) d w =
+      follow _ _ _ _ (passage_first body d w) (λ n. fork_first_in branches d w)
 
--- ---- entries
-
--- one phrase more
-knows_more : (look : Look) (k : Known) → Knows look k → (name : text.Leaf) (b : text.Body)
-    → Knows (with_phrase name.text (body_needs look b) look) (record k { phrases = named_as name (passage_of k b) ∷ k.phrases })
-knows_more look k h name b = record {
-  tells = λ q.
-      ap₂ (λ x y. cond (bytes_eq q name.text) x y) (body_told look k h b) (h.tells q)
-      ∙ chosen (bytes_eq q name.text) (passage_of k b) (meaning_of q done k.phrases);
-}
-  where
-    chosen : (t : Bool) (x y : Passage) → cond t (needs_in x) (needs_in y) ≡ needs_in (if t then x else y)
-    chosen true x y = refl
-    chosen false x y = refl
-
--- a shape more
-knows_still : (look : Look) (k j : Known) → j.phrases ≡ k.phrases → Knows look k → Knows look j
-knows_still look k j e h = record { tells = λ q. h.tells q ∙ ap (λ ps. needs_in (meaning_of q done ps)) (sym e) }
-
-pub entries_first : (look : Look) (k : Known) → Knows look k → (es : List text.Entry)
-    → first_found (entries_places look es) ≡ first_found (passage_faults (entries_of k es) outermost)
-entries_first look k h [] = refl
-entries_first look k h (text.shape name ps ∷ es) =
-    entries_first look (record k { shapes = named_as name (map (part_of k.whole) ps) ∷ k.shapes })
-    (knows_still look k _ refl h) es
-entries_first look k h (text.phrase name b ∷ es) =
-    entries_first (behind (text.phrase name b) look) (record k { phrases = named_as name (passage_of k b) ∷ k.phrases })
-    (knows_more look k h name b) es
-entries_first look k h (text.plays spot s ∷ es) =
-    follow _ _ _ _ (stmt_first look k h spot s outermost (record { warps = lit≤ tt; frames = lit≤ tt; blocks = lit≤ tt }))
-    (λ n. entries_first look k h es)
+-- nothing is open round the first statement
+pub outermost_shallow : IsShallow outermost
+outermost_shallow = record { warps = lit≤ tt; frames = lit≤ tt; blocks = lit≤ tt }

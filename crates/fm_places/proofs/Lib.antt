@@ -1,7 +1,6 @@
 pub mod BothLemmas
 pub mod LoopLemmas
 pub mod FirstLemmas
-pub mod TextNeeds
 pub mod TellsLemmas
 pub mod BlockTells
 pub mod PlayTells

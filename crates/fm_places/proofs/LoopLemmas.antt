@@ -1,19 +1,19 @@
--- Lists, one entry at a time.
+-- Statements and branches, one at a time.
 use Rattle.std.proofs.Common.{◌≡◌, ℕ, suc, ◌+◌, ◌<◌, List, [], ◌∷◌, map, max, drop, get_or, length, refl, sym, ap, ◌∙◌, add-one, arith}
 use Rattle.std.proofs.Math.Seq.{drop-cons}
 use Rattle.std.specs.Prelude.{Vec}
 use Rattle.std.specs.declared.alloc.Global.{Global}
 use Rattle.fm_value.specs.declared.node.Node.{Node}
 use Rattle.fm_value.specs.declared.node.Node.TheVariants.{Index}
-use Rattle.fm_grammar.specs.Score.{then, branch}
-use Rattle.fm_grammar.specs.declared.item.Item.{Item}
-use Rattle.fm_grammar.specs.declared.pitch.Pitch as code_pitch
-use Rattle.fm_grammar.specs.View.{item_view, items_view, pitch_view}
-use Rattle.fm_meaning.specs.Resolve.{key_draw}
+use Rattle.fm_program.specs.declared.op.Draw.{Draw}
+use Rattle.fm_meaning.specs.Resolved.{Play, note, rest, send, assign, choice, loop, phrase, par, warp, channel, steady, under, item, branch}
+use Rattle.fm_expansion.specs.Outline.{Tables, play_in, passage_in, source_of}
+use Rattle.fm_outline.specs.declared.step.Step.{Step}
+use Rattle.fm_outline.specs.View.{Look, Placed, step_view, block_view}
 use Rattle.fm_places.specs.declared.needs.Needs.{Needs}
-use Rattle.fm_places.specs.Needs.{both, loops_of, draw_loops, draws_loops}
-use Rattle.fm_places.specs.Found.{branches_view}
-use Rattle.fm_places.specs.Statements.{Look, stmt_needs, body_needs, branches_needs}
+use Rattle.fm_places.specs.Needs.{both, loops_of, draw_loops, draws_loops, needs_of, needs_in, needs_among}
+use Rattle.fm_places.specs.Found.{fork_view}
+use Rattle.fm_places.specs.Statements.{own_needs, inner_needs, outside}
 use Rattle.fm_places.proofs.BothLemmas.{both_grouped}
 
 pub map_twice : {A B C : Type 0} (f : B → C) (g : A → B) (xs : List A)
@@ -36,43 +36,60 @@ node_passed ns i l n h =
     ∙ ap (λ k. max l (max (loops_of (get_or ns i n ∷ [])) (loops_of (drop k ns)))) (add-one i)
     ∙ ap (λ k. max l k) (sym (ap loops_of (drop-cons ns i n h) ∙ node_first (get_or ns i n) (drop (suc i) ns)))
 
-pub pitch_passed : (ps : List code_pitch.Pitch) (i l : ℕ) (p : code_pitch.Pitch) → i < length ps → p ≡ get_or ps i p
-    → max (max (draw_loops (key_draw (pitch_view p))) l) (draws_loops (map key_draw (map pitch_view (drop (i + 1) ps))))
-    ≡ max l (draws_loops (map key_draw (map pitch_view (drop i ps))))
-pitch_passed ps i l p h is =
-    max_moved l (draw_loops (key_draw (pitch_view p))) (draws_loops (map key_draw (map pitch_view (drop (i + 1) ps))))
-    ∙ ap (λ k. max l (max (draw_loops (key_draw (pitch_view p))) (draws_loops (map key_draw (map pitch_view (drop k ps)))))) (add-one i)
-    ∙ ap (λ q. max l (max (draw_loops (key_draw (pitch_view q))) (draws_loops (map key_draw (map pitch_view (drop (suc i) ps)))))) is
-    ∙ ap (λ qs. max l (draws_loops (map key_draw (map pitch_view qs)))) (sym (drop-cons ps i p h))
+pub draw_passed : (t : Tables) (ds : List Draw) (i l : ℕ) (d : Draw) → i < length ds
+    → max (max (draw_loops (source_of t (get_or ds i d))) l) (draws_loops (map (source_of t) (drop (i + 1) ds)))
+    ≡ max l (draws_loops (map (source_of t) (drop i ds)))
+draw_passed t ds i l d h =
+    max_moved l (draw_loops (source_of t (get_or ds i d))) (draws_loops (map (source_of t) (drop (i + 1) ds)))
+    ∙ ap (λ k. max l (max (draw_loops (source_of t (get_or ds i d))) (draws_loops (map (source_of t) (drop k ds))))) (add-one i)
+    ∙ ap (λ xs. max l (draws_loops (map (source_of t) xs))) (sym (drop-cons ds i d h))
 
 -- the statements from one on
-pub items_from : (items : List Item) (n : ℕ) (i : Item) → n < length items → i ≡ get_or items n i
-    → items_view (drop n items) ≡ then (item_view i).spot (item_view i).what (items_view (drop (n + 1) items))
-items_from items n i h is =
-    ap items_view (drop-cons items n i h)
-    ∙ ap (λ (j : Item). then (item_view j).spot (item_view j).what (items_view (drop (suc n) items))) (sym is)
-    ∙ ap (λ k. then (item_view i).spot (item_view i).what (items_view (drop k items))) (sym (add-one n))
+pub steps_from : (t : Tables) (look : Look) (steps : List Step) (n : ℕ) (s : Step) → n < length steps
+    → s ≡ get_or steps n s → passage_in t (block_view look (drop n steps))
+    ≡ item (step_view look s).spot (play_in t (step_view look s).what) (passage_in t (block_view look (drop (n + 1) steps)))
+steps_from t look steps n s h is =
+    let left = λ (x : Placed) (k : ℕ). item x.spot (play_in t x.what) (passage_in t (block_view look (drop k steps))) in
+    ap (λ l. passage_in t (block_view look l)) (drop-cons steps n s h)
+    ∙ ap (λ x. left (step_view look x) (suc n)) (sym is)
+    ∙ ap (left (step_view look s)) (sym (add-one n))
 
-pub item_passed : (look : Look) (items : List Item) (n : ℕ) (needs : Needs) (i : Item) → n < length items
-    → i ≡ get_or items n i
-    → both (both needs (stmt_needs look (item_view i).what)) (body_needs look (items_view (drop (n + 1) items)))
-    ≡ both needs (body_needs look (items_view (drop n items)))
-item_passed look items n needs i h is =
-    both_grouped needs (stmt_needs look (item_view i).what) (body_needs look (items_view (drop (n + 1) items)))
-    ∙ ap (λ b. both needs (body_needs look b)) (sym (items_from items n i h is))
+pub step_passed : (t : Tables) (look : Look) (steps : List Step) (n : ℕ) (needs : Needs) (s : Step) → n < length steps
+    → s ≡ get_or steps n s
+    → both (both needs (needs_of (play_in t (step_view look s).what))) (needs_in (passage_in t (block_view look (drop (n + 1) steps))))
+    ≡ both needs (needs_in (passage_in t (block_view look (drop n steps))))
+step_passed t look steps n needs s h is =
+    both_grouped needs (needs_of (play_in t (step_view look s).what)) (needs_in (passage_in t (block_view look (drop (n + 1) steps))))
+    ∙ ap (λ b. both needs (needs_in b)) (sym (steps_from t look steps n s h is))
 
 -- the branches from one on
-pub branches_from : (bs : List (Vec Item Global)) (n : ℕ) (b : Vec Item Global) → n < length bs → b ≡ get_or bs n b
-    → branches_view (drop n bs) ≡ branch (items_view b.items) (branches_view (drop (n + 1) bs))
-branches_from bs n b h is =
-    ap branches_view (drop-cons bs n b h)
-    ∙ ap (λ (c : Vec Item Global). branch (items_view c.items) (branches_view (drop (suc n) bs))) (sym is)
-    ∙ ap (λ k. branch (items_view b.items) (branches_view (drop k bs))) (sym (add-one n))
+pub branches_from : (t : Tables) (look : Look) (bs : List (Vec Step Global)) (n : ℕ) (b : Vec Step Global) → n < length bs
+    → b ≡ get_or bs n b
+    → fork_view t look (drop n bs) ≡ branch (passage_in t (block_view look b.items)) (fork_view t look (drop (n + 1) bs))
+branches_from t look bs n b h is =
+    ap (fork_view t look) (drop-cons bs n b h)
+    ∙ ap (λ (c : Vec Step Global). branch (passage_in t (block_view look c.items)) (fork_view t look (drop (suc n) bs))) (sym is)
+    ∙ ap (λ k. branch (passage_in t (block_view look b.items)) (fork_view t look (drop k bs))) (sym (add-one n))
 
-pub branch_passed : (look : Look) (bs : List (Vec Item Global)) (n : ℕ) (needs : Needs) (b : Vec Item Global)
+pub branch_passed : (t : Tables) (look : Look) (bs : List (Vec Step Global)) (n : ℕ) (needs : Needs) (b : Vec Step Global)
     → n < length bs → b ≡ get_or bs n b
-    → both (both needs (body_needs look (items_view b.items))) (branches_needs look (branches_view (drop (n + 1) bs)))
-    ≡ both needs (branches_needs look (branches_view (drop n bs)))
-branch_passed look bs n needs b h is =
-    both_grouped needs (body_needs look (items_view b.items)) (branches_needs look (branches_view (drop (n + 1) bs)))
-    ∙ ap (λ c. both needs (branches_needs look c)) (sym (branches_from bs n b h is))
+    → both (both needs (needs_in (passage_in t (block_view look b.items)))) (needs_among (fork_view t look (drop (n + 1) bs)))
+    ≡ both needs (needs_among (fork_view t look (drop n bs)))
+branch_passed t look bs n needs b h is =
+    both_grouped needs (needs_in (passage_in t (block_view look b.items))) (needs_among (fork_view t look (drop (n + 1) bs)))
+    ∙ ap (λ c. both needs (needs_among c)) (sym (branches_from t look bs n b h is))
+
+-- what a statement asks: itself, and what stands inside it
+pub needs_split : (p : Play) → needs_of p ≡ both (own_needs p) (outside p (inner_needs p))
+needs_split (note draws span) = refl
+needs_split (rest span) = refl
+needs_split (send point draw) = refl
+needs_split (assign register expr) = refl
+needs_split (choice expr first second) = refl
+needs_split (loop count body) = refl
+needs_split (phrase body) = refl
+needs_split (par branches) = refl
+needs_split (warp parts body) = refl
+needs_split (channel number body) = refl
+needs_split (steady quality entry body) = refl
+needs_split (under quality entries body) = refl

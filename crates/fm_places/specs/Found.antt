@@ -1,16 +1,14 @@
 -- What the walk knows, as the definitions say it.
-use Rattle.std.specs.Prelude.{List, map, unwrap_or, Vec}
+use Rattle.std.specs.Prelude.{◌≡◌, ℕ, List, map, slice_index_or, Vec}
 use Rattle.std.specs.declared.alloc.Global.{Global}
-use Rattle.fm_names.specs.declared.names.Names.{Names}
-use Rattle.fm_names.specs.Named.{named}
-use Rattle.fm_grammar.specs.declared.item.Item.{Item}
-use Rattle.fm_grammar.specs.Score as text
-use Rattle.fm_grammar.specs.View.{items_view, branches_of}
+use Rattle.fm_meaning.specs.Resolved.{Fork}
 use Rattle.fm_meaning.specs.Places as places
+use Rattle.fm_expansion.specs.Outline.{Tables, Block, passage_in, fork_in}
+use Rattle.fm_outline.specs.declared.step.Step.{Step}
+use Rattle.fm_outline.specs.View.{Look, block_view, arms_of_blocks}
 use Rattle.fm_places.specs.declared.depths.Depths.{Depths}
 use Rattle.fm_places.specs.declared.needs.Needs.{Needs}
-use Rattle.fm_places.specs.Needs.{nothing}
-use Rattle.fm_places.specs.Statements.{Look}
+use Rattle.fm_places.specs.Needs.{nothing, needs_in}
 
 -- the blocks that are open
 abbrev pub depths_view : Depths → places.Depths
@@ -23,10 +21,14 @@ depths_view d = record {
   blocks = d.blocks;
 }
 
--- what each phrase asks; one that is not defined asks nothing
-abbrev pub needs_at : Names Needs → Look
-needs_at phrases name = unwrap_or (named phrases name) nothing
+-- what blocks ask, each by itself
+abbrev pub needs_of_blocks : Tables → List Block → List Needs
+needs_of_blocks t blocks = map (λ b. needs_in (passage_in t b)) blocks
+
+-- it is known what each phrase asks, by its number
+pub record KnowsNeeds (t : Tables) (phrases : List Needs) (look : Look) : Type 0 where
+  pub of_phrase : (n : ℕ) → slice_index_or phrases n nothing ≡ needs_in (passage_in t (look n))
 
 -- the branches of a fork
-abbrev pub branches_view : List (Vec Item Global) → text.Branches
-branches_view bs = branches_of (map (λ b. items_view b.items) bs)
+abbrev pub fork_view : Tables → Look → List (Vec Step Global) → Fork
+fork_view t look branches = fork_in t (arms_of_blocks (map (λ b. block_view look b.items) branches))

@@ -1,11 +1,12 @@
 //! How many loops have to be open for the indices that are asked for.
 
 ghost use Rattle.std.specs.Prelude.{◌≡◌, ◌∷◌, [], map};
-ghost use Rattle.fm_grammar.specs.View.{amount_view, duration_view, pitch_view};
-ghost use Rattle.fm_meaning.specs.Resolve.{draw_of, key_draw, span_of};
-ghost use Rattle.fm_places.specs.Needs.{loops_of, draw_loops, draws_loops, span_loops};
+ghost use Rattle.fm_expansion.specs.Outline.{expr_in, chord_in, source_of, length_of, rounds_of};
+ghost use Rattle.fm_outline.specs.View.{tables_view, lasting_view};
+ghost use Rattle.fm_places.specs.Needs.{loops_of, draw_loops, draws_loops, span_loops, count_loops};
 
-use fm_grammar::{Amount, Duration, Pitch};
+use fm_outline::{Lasting, Tables};
+use fm_program::{Count, Draw};
 use fm_value::Node;
 
 // For a node.
@@ -30,8 +31,8 @@ fn loops_of_node(node: Node) -> u32
     }
 }
 
-/// For an expression.
-pub(crate) fn loops_of_nodes(nodes: &[Node]) -> u32
+// For an expression.
+fn loops_of_nodes(nodes: &[Node]) -> u32
     ensures { result ≡ loops_of nodes.now }
 {
     let mut loops = 0;
@@ -41,43 +42,65 @@ pub(crate) fn loops_of_nodes(nodes: &[Node]) -> u32
     loops
 }
 
+/// For an expression by its place in the table.
+pub(crate) fn loops_of_expr(tables: &Tables, expr: u32) -> u32
+    ensures { result ≡ loops_of (expr_in (tables_view tables.now) expr) }
+{
+    match tables.exprs.get(expr as usize) {
+        Some(expr) => loops_of_nodes(&expr.nodes),
+        None => 0,
+    }
+}
+
 /// For a number of a message.
-pub(crate) fn loops_of_amount(amount: &Amount) -> u32
-    ensures { result ≡ draw_loops (draw_of (amount_view amount.now)) }
+pub(crate) fn loops_of_draw(tables: &Tables, draw: Draw) -> u32
+    ensures { result ≡ draw_loops (source_of (tables_view tables.now) draw) }
 {
-    match amount {
-        Amount::Literal { .. } => 0,
-        Amount::Computed { value } => loops_of_nodes(&value.nodes),
+    match draw {
+        Draw::Fixed { .. } => 0,
+        Draw::Drawn { expr } => loops_of_expr(tables, expr),
     }
 }
 
-// For a pitch.
-fn loops_of_pitch(pitch: &Pitch) -> u32
-    ensures { result ≡ draw_loops (key_draw (pitch_view pitch.now)) }
-{
-    match pitch {
-        Pitch::Named { .. } => 0,
-        Pitch::Key { amount, .. } => loops_of_amount(amount),
-    }
-}
-
-/// For the pitches of a note.
-pub(crate) fn loops_of_pitches(pitches: &[Pitch]) -> u32
-    ensures { result ≡ draws_loops (map key_draw (map pitch_view pitches.now)) }
+// For the pitches of a note.
+fn loops_of_draws(tables: &Tables, draws: &[Draw]) -> u32
+    ensures { result ≡ draws_loops (map (source_of (tables_view tables.now)) draws.now) }
 {
     let mut loops = 0;
-    for pitch in pitches {
-        loops = loops_of_pitch(pitch).max(loops);
+    for draw in draws {
+        loops = loops_of_draw(tables, *draw).max(loops);
     }
     loops
 }
 
-/// For a duration.
-pub(crate) fn loops_of_duration(duration: &Duration) -> u32
-    ensures { result ≡ span_loops (span_of 0 (duration_view duration.now)) }
+/// For a chord by its place in the table.
+pub(crate) fn loops_of_chord(tables: &Tables, chord: u32) -> u32
+    ensures { result ≡ draws_loops (map (source_of (tables_view tables.now))
+        (chord_in (tables_view tables.now) chord)) }
 {
-    match duration {
-        Duration::Fixed { .. } => 0,
-        Duration::Computed { value, .. } => loops_of_nodes(&value.nodes),
+    match tables.chords.get(chord as usize) {
+        Some(draws) => loops_of_draws(tables, draws),
+        None => 0,
+    }
+}
+
+/// For a duration.
+pub(crate) fn loops_of_lasting(tables: &Tables, lasting: Lasting) -> u32
+    ensures { result
+        ≡ span_loops (length_of (tables_view tables.now) (lasting_view lasting)) }
+{
+    match lasting {
+        Lasting::Ticks { .. } | Lasting::Beat => 0,
+        Lasting::Computed { expr, .. } => loops_of_expr(tables, expr),
+    }
+}
+
+/// For a count.
+pub(crate) fn loops_of_count(tables: &Tables, count: Count) -> u32
+    ensures { result ≡ count_loops (rounds_of (tables_view tables.now) count) }
+{
+    match count {
+        Count::Fixed { .. } => 0,
+        Count::Drawn { expr, .. } => loops_of_expr(tables, expr),
     }
 }

@@ -1,164 +1,176 @@
 //! What a statement asks itself, and what its blocks do.
 
 ghost use Rattle.std.specs.Prelude.{◌≡◌, ◌≤◌};
-ghost use Rattle.fm_grammar.specs.View.{item_view};
-ghost use Rattle.fm_places.specs.Found.{depths_view, needs_at};
+ghost use Rattle.fm_expansion.specs.Outline.{Tables as PlainTables, play_in, passage_in};
+ghost use Rattle.fm_expansion.specs.Outline.{length_of, rounds_of};
+ghost use Rattle.fm_meaning.specs.Places.{is_beat as beat_of, is_computed as computed_of, is_duration};
+ghost use Rattle.fm_outline.specs.View.{Look, tables_view, lasting_view, quality_view};
+ghost use Rattle.fm_outline.specs.View.{step_view, phrase_at};
+ghost use Rattle.fm_places.specs.Found.{depths_view, KnowsNeeds};
+ghost use Rattle.fm_places.specs.Needs.{needs_in};
 ghost use Rattle.fm_places.specs.Statements.{own_needs as own_of, brought_in as brought_by};
 ghost use Rattle.fm_places.specs.Statements.{outside as outside_of, inside as inside_of, IsWithin};
 
 use crate::depths::Depths;
-use crate::indices::{loops_of_amount, loops_of_duration, loops_of_nodes, loops_of_pitches};
+use crate::indices::{
+    loops_of_chord, loops_of_count, loops_of_draw, loops_of_expr, loops_of_lasting,
+};
 use crate::needs::{Needs, asks, fork, in_block, in_either, in_list, in_rounds, in_warp, no_needs};
-use fm_grammar::{Item, What};
-use fm_names::Names;
+use fm_outline::{Instruction, Lasting, Quality, Step, Tables};
+use fm_program::Count;
 
-/// What the statement asks itself.
-pub(crate) fn own_needs(item: &Item) -> Needs
-    ensures { result ≡ own_of (item_view item.now).what }
+// Whether a duration is the next of the rhythm.
+fn is_beat(lasting: Lasting) -> bool
+    ensures { (t : PlainTables) → result ≡ beat_of (length_of t (lasting_view lasting)) }
 {
-    match &item.what {
-        What::Note { pitches, duration } => asks(
-            false,
-            loops_of_pitches(pitches).max(loops_of_duration(duration)),
-        ),
-        What::Play { pitches } => asks(true, loops_of_pitches(pitches)),
-        What::Rest { duration } => asks(false, loops_of_duration(duration)),
-        What::Skip => asks(true, 0),
-        What::Control { amount, .. } => asks(false, loops_of_amount(amount)),
-        What::Program { amount } => asks(false, loops_of_amount(amount)),
-        What::Bend { amount } => asks(false, loops_of_amount(amount)),
-        What::Set { value, .. } => asks(false, loops_of_nodes(&value.nodes)),
-        What::If { test, .. } => asks(false, loops_of_nodes(&test.nodes)),
-        What::Again { count, .. } => asks(false, loops_of_nodes(&count.nodes)),
-        What::Par { .. } => fork(),
-        What::Repeat { .. }
-        | What::Do { .. }
-        | What::Warp { .. }
-        | What::Channel { .. }
-        | What::Volume { .. }
-        | What::Gate { .. }
-        | What::Rhythm { .. }
-        | What::Artic { .. }
-        | What::Loud { .. } => no_needs(),
+    match lasting {
+        Lasting::Ticks { .. } | Lasting::Computed { .. } => false,
+        Lasting::Beat => true,
     }
 }
 
-/// What the phrase of a name asks.
-pub(crate) fn needs_of_phrase(name: &[u8], phrases: &Names<Needs>) -> Needs
-    ensures { result ≡ needs_at phrases.now name.now }
+// Whether a count is computed.
+fn is_computed(count: Count) -> bool
+    ensures { (t : PlainTables) → result ≡ computed_of (rounds_of t count) }
 {
-    match phrases.get(name) {
-        Some(needs) => *needs,
+    match count {
+        Count::Fixed { .. } => false,
+        Count::Drawn { .. } => true,
+    }
+}
+
+// Whether a list gives durations.
+fn is_rhythm(quality: Quality) -> bool
+    ensures { result ≡ is_duration (quality_view quality) }
+{
+    match quality {
+        Quality::Duration => true,
+        Quality::Articulation | Quality::Loudness => false,
+    }
+}
+
+/// What the statement asks itself.
+pub(crate) fn own_needs(tables: &Tables, step: &Step) -> Needs
+    ensures { (look : Look) → result
+        ≡ own_of (play_in (tables_view tables.now) (step_view look step.now).what) }
+{
+    match &step.what {
+        Instruction::Note { chord, lasting } => asks(
+            is_beat(*lasting),
+            loops_of_chord(tables, *chord).max(loops_of_lasting(tables, *lasting)),
+        ),
+        Instruction::Rest { lasting } => {
+            asks(is_beat(*lasting), loops_of_lasting(tables, *lasting))
+        }
+        Instruction::Send { draw, .. } => asks(false, loops_of_draw(tables, *draw)),
+        Instruction::Set { expr, .. } => asks(false, loops_of_expr(tables, *expr)),
+        Instruction::Choice { expr, .. } => asks(false, loops_of_expr(tables, *expr)),
+        Instruction::Loop { count, .. } => asks(false, loops_of_count(tables, *count)),
+        Instruction::Par { .. } => fork(),
+        Instruction::Phrase { .. }
+        | Instruction::Warp { .. }
+        | Instruction::Channel { .. }
+        | Instruction::Steady { .. }
+        | Instruction::Under { .. } => no_needs(),
+    }
+}
+
+/// What the phrase of a number asks.
+pub(crate) fn needs_of_phrase(phrases: &[Needs], number: Option<u32>) -> Needs
+    ensures { (t : PlainTables) (look : Look) → KnowsNeeds t phrases.now look →
+        result ≡ needs_in (passage_in t (phrase_at look number)) }
+{
+    match number {
+        Some(n) => match phrases.get(n as usize) {
+            Some(needs) => *needs,
+            None => no_needs(),
+        },
         None => no_needs(),
     }
 }
 
 /// What the phrase asks that the statement brings in.
-pub(crate) fn brought_in(item: &Item, phrases: &Names<Needs>) -> Needs
-    ensures { result ≡ brought_by (needs_at phrases.now) (item_view item.now).what }
+pub(crate) fn brought_in(phrases: &[Needs], step: &Step) -> Needs
+    ensures { (t : PlainTables) (look : Look) → KnowsNeeds t phrases.now look →
+        result ≡ brought_by (play_in t (step_view look step.now).what) }
 {
-    match &item.what {
-        What::Do { name } => needs_of_phrase(name.text, phrases),
-        What::Note { .. }
-        | What::Play { .. }
-        | What::Rest { .. }
-        | What::Skip
-        | What::Control { .. }
-        | What::Program { .. }
-        | What::Bend { .. }
-        | What::Set { .. }
-        | What::If { .. }
-        | What::Repeat { .. }
-        | What::Again { .. }
-        | What::Par { .. }
-        | What::Warp { .. }
-        | What::Channel { .. }
-        | What::Volume { .. }
-        | What::Gate { .. }
-        | What::Rhythm { .. }
-        | What::Artic { .. }
-        | What::Loud { .. } => no_needs(),
+    match &step.what {
+        Instruction::Phrase { number } => needs_of_phrase(phrases, *number),
+        Instruction::Note { .. }
+        | Instruction::Rest { .. }
+        | Instruction::Send { .. }
+        | Instruction::Set { .. }
+        | Instruction::Choice { .. }
+        | Instruction::Loop { .. }
+        | Instruction::Par { .. }
+        | Instruction::Warp { .. }
+        | Instruction::Channel { .. }
+        | Instruction::Steady { .. }
+        | Instruction::Under { .. } => no_needs(),
     }
 }
 
 /// What the statement asks, from what stands inside it.
-pub(crate) fn outside(item: &Item, needs: Needs) -> Needs
-    ensures { result ≡ outside_of (item_view item.now).what needs }
+pub(crate) fn outside(step: &Step, needs: Needs) -> Needs
+    ensures { (t : PlainTables) (look : Look) →
+        result ≡ outside_of (play_in t (step_view look step.now).what) needs }
 {
-    match &item.what {
-        What::If { .. } => in_either(needs),
-        What::Repeat { .. } => in_rounds(false, needs),
-        What::Again { .. } => in_rounds(true, needs),
-        What::Par { .. } => in_block(in_block(needs)),
-        What::Warp { .. } => in_warp(needs),
-        What::Rhythm { .. } => in_list(true, needs),
-        What::Artic { .. } | What::Loud { .. } => in_list(false, needs),
-        What::Do { .. } | What::Channel { .. } | What::Volume { .. } | What::Gate { .. } => {
+    match &step.what {
+        Instruction::Choice { .. } => in_either(needs),
+        Instruction::Loop { count, .. } => in_rounds(is_computed(*count), needs),
+        Instruction::Par { .. } => in_block(in_block(needs)),
+        Instruction::Warp { .. } => in_warp(needs),
+        Instruction::Under { quality, .. } => in_list(is_rhythm(*quality), needs),
+        Instruction::Phrase { .. } | Instruction::Channel { .. } | Instruction::Steady { .. } => {
             in_block(needs)
         }
-        What::Note { .. }
-        | What::Play { .. }
-        | What::Rest { .. }
-        | What::Skip
-        | What::Control { .. }
-        | What::Program { .. }
-        | What::Bend { .. }
-        | What::Set { .. } => needs,
+        Instruction::Note { .. }
+        | Instruction::Rest { .. }
+        | Instruction::Send { .. }
+        | Instruction::Set { .. } => needs,
     }
 }
 
 /// The blocks that are open round what stands inside the statement.
-pub(crate) fn inside(item: &Item, depths: Depths) -> Depths
+pub(crate) fn inside(step: &Step, depths: Depths) -> Depths
     requires { IsWithin (depths_view depths) }
-    ensures inside { depths_view result
-        ≡ inside_of (item_view item.now).what (depths_view depths) }
+    ensures inside { (t : PlainTables) (look : Look) → depths_view result
+        ≡ inside_of (play_in t (step_view look step.now).what) (depths_view depths) }
     ensures loops { result.loops ≤ result.frames }
 {
     let one = Depths {
         blocks: depths.blocks + 1,
         ..depths
     };
-    match &item.what {
-        What::If { .. } => Depths {
+    match &step.what {
+        Instruction::Choice { .. } => Depths {
             in_choice: true,
             ..one
         },
-        What::Repeat { .. } => Depths {
+        Instruction::Loop { count, .. } => Depths {
+            in_choice: depths.in_choice || is_computed(*count),
             loops: depths.loops + 1,
             frames: depths.frames + 1,
             ..one
         },
-        What::Again { .. } => Depths {
-            in_choice: true,
-            loops: depths.loops + 1,
-            frames: depths.frames + 1,
-            ..one
-        },
-        What::Par { .. } => Depths {
+        Instruction::Par { .. } => Depths {
             blocks: depths.blocks + 2,
             ..depths
         },
-        What::Warp { .. } => Depths {
+        Instruction::Warp { .. } => Depths {
             warps: depths.warps + 1,
             ..one
         },
-        What::Rhythm { .. } => Depths {
-            in_rhythm: true,
+        Instruction::Under { quality, .. } => Depths {
+            in_rhythm: depths.in_rhythm || is_rhythm(*quality),
             frames: depths.frames + 1,
             ..one
         },
-        What::Artic { .. } | What::Loud { .. } => Depths {
-            frames: depths.frames + 1,
-            ..one
-        },
-        What::Do { .. } | What::Channel { .. } | What::Volume { .. } | What::Gate { .. } => one,
-        What::Note { .. }
-        | What::Play { .. }
-        | What::Rest { .. }
-        | What::Skip
-        | What::Control { .. }
-        | What::Program { .. }
-        | What::Bend { .. }
-        | What::Set { .. } => depths,
+        Instruction::Phrase { .. } | Instruction::Channel { .. } | Instruction::Steady { .. } =>
+            one,
+        Instruction::Note { .. }
+        | Instruction::Rest { .. }
+        | Instruction::Send { .. }
+        | Instruction::Set { .. } => depths,
     }
 }

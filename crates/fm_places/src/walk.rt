@@ -1,75 +1,45 @@
-//! The walk over a score.
+//! The walk over an outline.
 
-ghost use Rattle.std.specs.Prelude.{◌≡◌, map, IfOk, OnOk};
-ghost use Rattle.fm_grammar.specs.View.{entry_view, score_view};
-ghost use Rattle.fm_meaning.specs.Faults.{first_found};
+ghost use Rattle.std.specs.Prelude.{◌≡◌, IfOk, map, vec_items};
+ghost use Rattle.fm_fault.specs.Found.{IsFirst};
 ghost use Rattle.fm_meaning.specs.Places.{third_walk};
-ghost use Rattle.fm_meaning.specs.Resolve.{resolved};
-ghost use Rattle.fm_fault.specs.Found.{IsFirst, found};
-ghost use Rattle.fm_places.specs.Found.{needs_at};
-ghost use Rattle.fm_places.specs.Statements.{entry_places, entries_places, behind, nothing_known};
+ghost use Rattle.fm_outline.specs.View.{tables_view, look_in, phrases_view};
+ghost use Rattle.fm_outline.specs.OfScore.{passage_of_outline};
+ghost use Rattle.fm_places.specs.Found.{KnowsNeeds};
 
 use crate::depths::nothing_open;
 use crate::needs::Needs;
-use crate::statement::{check_item, needs_of_items};
+use crate::statement::{check_steps, needs_of_steps};
 use fm_fault::Fault;
-use fm_grammar::{Entry, Score};
-use fm_names::Names;
+use fm_outline::{Outline, Step, Tables};
 use std::alloc::{AllocError, Global};
 
-// The first fault of an entry.
-fn check_entry(entry: &Entry, phrases: &Names<Needs>) -> Result<(), Fault>
-    ensures { found result
-        ≡ first_found (entry_places (needs_at phrases.now) (entry_view entry.now)) }
+// What each phrase asks, found once.
+fn needs_of_phrases(
+    alloc: Global,
+    tables: &Tables,
+    phrases: &[Vec<Step>],
+) -> Result<Vec<Needs>, AllocError>
+    ensures { IfOk result (λ ns. KnowsNeeds (tables_view tables.now) ns.items
+        (look_in (phrases_view (map vec_items phrases.now)))) }
 {
-    match entry {
-        Entry::Shape { .. } | Entry::Phrase { .. } => Ok(()),
-        Entry::Play { item } => check_item(item, nothing_open(), phrases),
+    let mut needs = Vec::with_capacity(alloc, phrases.len())?;
+    for phrase in phrases {
+        let own = needs_of_steps(tables, needs.as_slice(), phrase);
+        needs.push(own)?;
     }
-}
-
-// Defines what the entry defines: what a phrase asks is found once, here.
-fn define<'s>(phrases: &mut Names<'s, Needs>, entry: &Entry<'s>) -> Result<(), AllocError>
-    ensures { OnOk result (needs_at phrases.new
-        ≡ behind (entry_view entry.now) (needs_at phrases.old)) }
-{
-    match entry {
-        Entry::Phrase { name, body } => {
-            let needs = needs_of_items(body, phrases);
-            phrases.define(name.text, needs)
-        }
-        Entry::Shape { .. } | Entry::Play { .. } => Ok(()),
-    }
-}
-
-// A table without phrases.
-fn no_phrases<'s>(alloc: Global) -> Names<'s, Needs>
-    ensures { needs_at result ≡ nothing_known }
-{
-    Names::new(alloc)
-}
-
-// The first fault of the entries.
-fn first_of_entries(alloc: Global, entries: &[Entry]) -> Result<Option<Fault>, AllocError>
-    ensures { IfOk result (λ f. IsFirst f
-        (entries_places nothing_known (map entry_view entries.now))) }
-{
-    let mut phrases = no_phrases(alloc);
-    for entry in entries {
-        match check_entry(entry, &phrases) {
-            Ok(()) => define(&mut phrases, entry)?,
-            Err(fault) => return Ok(Some(fault)),
-        }
-    }
-    Ok(None)
+    Ok(needs)
 }
 
 /// The first fault of the walk: a fork, a duration of the rhythm, an index or a block that stands
 /// where it cannot. Phrases that nothing brings in are not looked at, and a fault of a phrase
-/// stands at the statement outside all phrases that brings it in.
-pub fn first_place_fault(alloc: Global, score: &Score) -> Result<Option<Fault>, AllocError>
-    ensures { IfOk result (λ f. IsFirst f
-        (third_walk (resolved (score_view score.now)).passage)) }
+/// stands at the statement that brings it in.
+pub fn first_place_fault(alloc: Global, outline: &Outline) -> Result<Option<Fault>, AllocError>
+    ensures { IfOk result (λ f. IsFirst f (third_walk (passage_of_outline outline.now))) }
 {
-    first_of_entries(alloc, &score.entries)
+    let phrases = needs_of_phrases(alloc, &outline.tables, &outline.phrases)?;
+    match check_steps(&outline.tables, &phrases, &outline.block, nothing_open()) {
+        Ok(()) => Ok(None),
+        Err(fault) => Ok(Some(fault)),
+    }
 }

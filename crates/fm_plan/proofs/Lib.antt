@@ -4,3 +4,4 @@ pub mod Weights
 pub mod ForkLemmas
 pub mod PhraseLemmas
 pub mod ExpandLemmas
+pub mod SamePlan

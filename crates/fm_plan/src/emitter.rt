@@ -23,15 +23,17 @@ pub(crate) struct Emitter {
 }
 
 impl Emitter {
-    /// Before the first statement: one program, and the scope without loops.
-    pub(crate) fn new(alloc: Global) -> Emitter
-        ensures programs { emitting_of result ≡ nothing_made }
-        ensures cycles { result.cycles.items ≡ [] }
-        ensures levels { result.levels.items ≡ [] }
+    /// Before the first statement: one program, and the scope without loops. There is room for so
+    /// many programs.
+    pub(crate) fn new(alloc: Global, programs: u32) -> Result<Emitter, AllocError>
+        ensures programs { IfOk result (λ m. emitting_of m ≡ nothing_made) }
+        ensures cycles { IfOk result (λ m. m.cycles.items ≡ []) }
+        ensures levels { IfOk result (λ m. m.levels.items ≡ []) }
     {
-        Emitter {
+        let finished = Vec::with_capacity(alloc, programs as usize)?;
+        Ok(Emitter {
             alloc,
-            finished: Vec::new(alloc),
+            finished,
             current: Program {
                 ops: Vec::new(alloc),
                 cycles: Vec::new(alloc),
@@ -41,7 +43,7 @@ impl Emitter {
             scopes: Scopes::new(alloc),
             cycles: Vec::new(alloc),
             levels: Vec::new(alloc),
-        }
+        })
     }
 
     /// An operation at the end of the program that grows.

@@ -360,8 +360,9 @@ fn expand_list(
     Ok(())
 }
 
-/// The programs of an outline.
-pub fn expand(alloc: Global, outline: &Outline) -> Result<Expanded, AllocError>
+/// The programs of an outline. There is room for so many processes from the start, and more are
+/// made room for.
+pub fn expand(alloc: Global, outline: &Outline, processes: u32) -> Result<Expanded, AllocError>
     ensures programs { IfOk result (λ x.
         map program_parts x.programs.items
         ≡ expansion.whole (expansion.expanded (outline_view outline.now).value)) }
@@ -369,7 +370,7 @@ pub fn expand(alloc: Global, outline: &Outline) -> Result<Expanded, AllocError>
         x.scopes ≡ (expansion.expanded (outline_view outline.now).value).scopes) }
 {
     let forks = phrases_fork(alloc, &outline.phrases)?;
-    let mut m = Emitter::new(alloc);
+    let mut m = Emitter::new(alloc, processes)?;
     expand_steps(
         &mut m,
         &outline.phrases,

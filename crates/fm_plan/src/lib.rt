@@ -14,4 +14,4 @@ mod planning;
 mod tests;
 
 pub use expanding::{Expanded, expand};
-pub use planning::{outline_plan, plan};
+pub use planning::{plan, plan_outline};

@@ -66,7 +66,7 @@ fn loop_of_phrase(alloc: Global) -> Result<Step, AllocError> {
 fn a_loop_names_the_places_round_it(rt: HostRuntime) -> Result<(), AllocError> {
     let alloc = rt.alloc();
     let block = vec![in alloc; note(), loop_of_phrase(alloc)?]?;
-    let expanded = expand(alloc, &outline(alloc, block)?)?;
+    let expanded = expand(alloc, &outline(alloc, block)?, 1)?;
     assert_eq!(rt; expanded.programs.len(), 1);
     let ops = [
         note_in(0),
@@ -90,7 +90,7 @@ fn a_fork_makes_processes_and_what_follows_waits(rt: HostRuntime) -> Result<(), 
     let other = vec![in alloc; loop_of_phrase(alloc)?]?;
     let branches = vec![in alloc; one, other]?;
     let block = vec![in alloc; step(Instruction::Par { branches }), note()]?;
-    let expanded = expand(alloc, &outline(alloc, block)?)?;
+    let expanded = expand(alloc, &outline(alloc, block)?, 1)?;
     assert_eq!(rt; expanded.programs.len(), 4);
     let waits: [&[u32]; 4] = [&[], &[0], &[0], &[1, 2]];
     for (i, wait) in waits.iter().enumerate() {
@@ -120,7 +120,7 @@ fn a_forking_loop_of_no_rounds_adds_nothing(rt: HostRuntime) -> Result<(), Alloc
     let fork = vec![in alloc; note(), step(Instruction::Par { branches })]?;
     let body = vec![in alloc; loop_that_forks(0, 1, fork), note()]?;
     let block = vec![in alloc; loop_that_forks(2, 0, body)]?;
-    let expanded = expand(alloc, &outline(alloc, block)?)?;
+    let expanded = expand(alloc, &outline(alloc, block)?, 1)?;
     assert_eq!(rt; expanded.programs.len(), 1);
     let ops = [note_in(1), note_in(2)];
     assert!(rt; expanded.programs[0].ops.as_slice() == ops.as_slice());

@@ -9,10 +9,10 @@ ghost use Rattle.fm_parse.specs.Whole.{IsFault};
 ghost use Rattle.fm_top.specs.Judging.{IsFirst, IsPlanned, IsJudged};
 
 use crate::run_fault::RunFault;
-use fm_check::{CheckFault, check};
+use fm_check::{CheckFault, Checked, check_outline};
 use fm_lex::{LexFault, MAX_TEXT};
 use fm_parse::{ParseFault, parse};
-use fm_plan::plan;
+use fm_plan::plan_outline;
 use fm_program::Plan;
 use std::alloc::Global;
 
@@ -88,8 +88,9 @@ pub fn judge(alloc: Global, text: &[u8]) -> Result<Plan, RunFault>
         Ok(score) => score,
         Err(fault) => return Err(fault_of(fault)),
     };
-    if let Err(fault) = check(alloc, &score) {
-        return Err(fault_of_check(fault));
-    }
-    Ok(plan(alloc, &score)?)
+    let Checked { outline, bounds } = match check_outline(alloc, &score) {
+        Ok(checked) => checked,
+        Err(fault) => return Err(fault_of_check(fault)),
+    };
+    Ok(plan_outline(alloc, outline, &bounds)?)
 }

@@ -1,74 +1,76 @@
-use Rattle.std.proofs.Common.{◌≡◌, ◌+◌, ◌∙◌, Err, map, drop, ap, sym, arith}
+use Rattle.std.proofs.Common.{◌≡◌, ◌+◌, ◌∙◌, Err, map, drop, ap, ap₂, sym}
 use Rattle.std.proofs.lemmas.Result.{err_from_is_err_and}
 use Rattle.fm_grammar.specs.View.{score_view, entry_view}
+use Rattle.fm_meaning.specs.Rules.{VersionRules}
+use Rattle.fm_meaning.specs.Resolve.{longest_of, resolved}
+use Rattle.fm_expansion.specs.Outline.{play_in, passage_in}
+use Rattle.fm_outline.specs.View.{tables_view, look_of, step_view, block_view}
+use Rattle.fm_outline.specs.OfScore.{passage_of_outline}
 use Rattle.fm_fault.specs.declared.fault.CheckFault.TheVariants.{Refused}
-use Rattle.fm_meaning.proofs.Versions.{few_processes}
-use Rattle.fm_bounds.proofs.WalkLemmas.{begun, at_end, at_entry, ends}
+use Rattle.fm_bounds.specs.Saturation.{capped}
+use Rattle.fm_bounds.proofs.WalkLemmas.{begun, at_end, at_step}
 use Rattle.fm_bounds.proofs.walk.find_bounds.Goals as goal
 
-pub loop-entry-init : goal.loop-entry-init
-loop-entry-init c =
-    begun (score_view c.args.score.now)
-    (record { rules = c.rules_of-rules.result; longest = c.longest_rhythm.result; phrases = c.new.result; shapes = c.new-2.result })
-    c.rules_of-rules.ensures.rules (rw c.deref.ensures.value at c.longest_rhythm.ensures) c.new.ensures c.new-2.ensures c.requires
+pub loop-step-init : goal.loop-step-init
+loop-step-init c = begun (score_view c.args.score.now) (passage_of_outline c.args.outline.now) c.requires
 
-pub returns-in_err-enter-clause-refused : goal.returns-in_err-enter-clause-refused
-returns-in_err-enter-clause-refused c = λ why spot is.
-    let handed = err_from_is_err_and c.from_residual.result c.from_residual.ensures.1 in
-    let joined = sym handed.1 ∙ is in
+pub loop-step-preserved : goal.loop-step-preserved
+loop-step-preserved c =
+    let s = score_view c.args.score.now in
+    let o = c.args.outline.now in
+    let t = tables_view o.tables in
+    let look = look_of o in
+    let i = c.loop-step.step-index in
+    let is : c.longest_rhythm-longest.result ≡ capped (resolved s).longest
+    = c.longest_rhythm-longest.ensures
+    ∙ ap₂ (λ w es. capped (longest_of w (map entry_view es))) (ap VersionRules.whole_note c.rules_of-rules.ensures.rules)
+    c.deref.ensures.value in
+    c.in_ok-before.ensures.ok s (play_in t (step_view look c.step-item.result).what)
+    (passage_in t (block_view look (drop (i + 1) o.block.items)))
+    (ap VersionRules.most_processes c.rules_of-rules.ensures.rules)
+    (c.weigh_step-weight.ensures (resolved s).longest look is (rw c.deref-in-loop-step.ensures.value
+    (rw c.deref-2.ensures.value at (c.in_ok-phrases.ensures (resolved s).longest is))))
+    (at_step s c.loop-step.before t look o.block.items i c.step-item.result
+    (rw c.deref-step-items.ensures.value at c.loop-step-test.true)
+    (rw c.deref-step-items.ensures.value at c.step-item.is) c.loop-step.invariant)
+
+pub returns-in_err-before-clause-refused : goal.returns-in_err-before-clause-refused
+returns-in_err-before-clause-refused c = λ why spot failed.
+    let s = score_view c.args.score.now in
+    let o = c.args.outline.now in
+    let t = tables_view o.tables in
+    let look = look_of o in
+    let i = c.loop-step.step-index in
+    let is : c.longest_rhythm-longest.result ≡ capped (resolved s).longest
+    = c.longest_rhythm-longest.ensures
+    ∙ ap₂ (λ w es. capped (longest_of w (map entry_view es))) (ap VersionRules.whole_note c.rules_of-rules.ensures.rules)
+    c.deref.ensures.value in
+    let handed = err_from_is_err_and c.from_residual-in_err-before.result c.from_residual-in_err-before.ensures.1 in
+    let joined = sym handed.1 ∙ failed in
     let same : handed.0 ≡ Refused why spot = cc in
-    let score = score_view c.args.score.now in
-    let entries = c.args.score.now.entries.items in
-    let i = c.loop-entry.entry-index in
-    c.in_err-enter.ensures.refused why spot (ap Err (sym handed.2 ∙ same)) score
-    (map entry_view (drop (i + 1) entries))
-    (at_entry score c.loop-entry.walk entries i c.entry-item.result
-    (rw c.deref-entry-items.ensures.value at c.loop-entry-test.true)
-    (rw c.deref-entry-items.ensures.value at c.entry-item.is) c.loop-entry.invariant)
+    c.in_err-before.ensures.refused why spot (ap Err (sym handed.2 ∙ same)) s
+    (play_in t (step_view look c.step-item.result).what) (passage_in t (block_view look (drop (i + 1) o.block.items)))
+    (ap VersionRules.most_processes c.rules_of-rules.ensures.rules)
+    (c.weigh_step-weight.ensures (resolved s).longest look is (rw c.deref-in-loop-step.ensures.value
+    (rw c.deref-2.ensures.value at (c.in_ok-phrases.ensures (resolved s).longest is))))
+    (at_step s c.loop-step.before t look o.block.items i c.step-item.result
+    (rw c.deref-step-items.ensures.value at c.loop-step-test.true)
+    (rw c.deref-step-items.ensures.value at c.step-item.is) c.loop-step.invariant)
 
 -- ---- the end
 
-pub overflow_cast-result : goal.overflow_cast-result
-overflow_cast-result c =
-    let score = score_view c.args.score.now in
-    let walk = c.loop-entry.walk in
-    let all = rw c.deref-entry-items.ensures.value at c.loop-entry-test.false in
-    let left = at_end score walk c.args.score.now.entries.items c.loop-entry.entry-index all c.loop-entry.invariant in
-    let e = ends score walk c.whole-whole.result c.whole-whole.ensures left in
-    omega (arith, e.processes, few_processes score)
-
-pub overflow_cast-result-2 : goal.overflow_cast-result-2
-overflow_cast-result-2 c =
-    let score = score_view c.args.score.now in
-    let walk = c.loop-entry.walk in
-    let all = rw c.deref-entry-items.ensures.value at c.loop-entry-test.false in
-    let left = at_end score walk c.args.score.now.entries.items c.loop-entry.entry-index all c.loop-entry.invariant in
-    let e = ends score walk c.whole-whole.result c.whole-whole.ensures left in
-    omega (arith, e.operations)
-
-pub overflow_cast-result-3 : goal.overflow_cast-result-3
-overflow_cast-result-3 c =
-    let score = score_view c.args.score.now in
-    let walk = c.loop-entry.walk in
-    let all = rw c.deref-entry-items.ensures.value at c.loop-entry-test.false in
-    let left = at_end score walk c.args.score.now.entries.items c.loop-entry.entry-index all c.loop-entry.invariant in
-    let e = ends score walk c.whole-whole.result c.whole-whole.ensures left in
-    omega (arith, e.events)
-
-pub overflow_cast-result-4 : goal.overflow_cast-result-4
-overflow_cast-result-4 c =
-    let score = score_view c.args.score.now in
-    let walk = c.loop-entry.walk in
-    let all = rw c.deref-entry-items.ensures.value at c.loop-entry-test.false in
-    let left = at_end score walk c.args.score.now.entries.items c.loop-entry.entry-index all c.loop-entry.invariant in
-    let e = ends score walk c.whole-whole.result c.whole-whole.ensures left in
-    omega (arith, e.steps)
+pub finish-requires : goal.finish-requires
+finish-requires c =
+    let s = score_view c.args.score.now in
+    let o = c.args.outline.now in (
+      s,
+      at_end s c.loop-step.before (tables_view o.tables) (look_of o) o.block.items c.loop-step.step-index
+          (rw c.deref-step-items.ensures.value at c.loop-step-test.false) c.loop-step.invariant,
+    )
 
 pub returns-clause-bounds : goal.returns-clause-bounds
 returns-clause-bounds c =
-    let score = score_view c.args.score.now in
-    let walk = c.loop-entry.walk in
-    let all = rw c.deref-entry-items.ensures.value at c.loop-entry-test.false in
-    let left = at_end score walk c.args.score.now.entries.items c.loop-entry.entry-index all c.loop-entry.invariant in
-    let e = ends score walk c.whole-whole.result c.whole-whole.ensures left in
-    e.bounds
+    let s = score_view c.args.score.now in
+    let o = c.args.outline.now in
+    c.finish.ensures s (at_end s c.loop-step.before (tables_view o.tables) (look_of o) o.block.items
+    c.loop-step.step-index (rw c.deref-step-items.ensures.value at c.loop-step-test.false) c.loop-step.invariant)

@@ -1,19 +1,19 @@
 use Rattle.std.proofs.Common.{◌≡◌, ℕ, take, map}
-use Rattle.fm_grammar.specs.View.{items_view, branches_of}
-use Rattle.fm_meaning.specs.Resolve.{Known, passage_of, fork_of}
-use Rattle.fm_bounds.specs.Weight.{weight_in, weight_beside}
-use Rattle.fm_bounds.specs.Stands.{Stands}
+use Rattle.fm_expansion.specs.Outline.{passage_in, fork_in}
+use Rattle.fm_outline.specs.View.{Look, tables_view, block_view, arms_of_blocks}
+use Rattle.fm_bounds.specs.Saturation.{capped}
+use Rattle.fm_bounds.specs.Weight.{weight_in, weight_beside, KnowsWeights}
 use Rattle.fm_bounds.proofs.weigh.+weigh.Given as goal
 
 -- the statements so far
-abbrev pub invariant-weigh_items-loop-item : goal.invariant-weigh_items-loop-item
-invariant-weigh_items-loop-item l =
-    (longest : ℕ) (known : Known) → Stands l.tables longest known
-    → l.sums ≡ weight_in longest (passage_of known (items_view (take l.item-index l.items)))
+abbrev pub invariant-weigh_steps-loop-step : goal.invariant-weigh_steps-loop-step
+invariant-weigh_steps-loop-step l =
+    (n : ℕ) (look : Look) → l.longest ≡ capped n → KnowsWeights (tables_view l.tables) l.phrases n look
+    → l.sums ≡ weight_in n (passage_in (tables_view l.tables) (block_view look (take l.step-index l.steps)))
 
 -- the branches so far
-abbrev pub invariant-weigh_item-loop-branch : goal.invariant-weigh_item-loop-branch
-invariant-weigh_item-loop-branch l =
-    (longest : ℕ) (known : Known) → Stands l.tables longest known
-    → l.sums ≡ weight_beside longest
-    (fork_of known (branches_of (map (λ b. items_view b.items) (take l.branch-index l.branch-items))))
+abbrev pub invariant-weigh_step-loop-branch : goal.invariant-weigh_step-loop-branch
+invariant-weigh_step-loop-branch l =
+    (n : ℕ) (look : Look) → l.longest ≡ capped n → KnowsWeights (tables_view l.tables) l.phrases n look
+    → l.sums ≡ weight_beside n
+    (fork_in (tables_view l.tables) (arms_of_blocks (map (λ b. block_view look b.items) (take l.branch-index l.branch-items))))

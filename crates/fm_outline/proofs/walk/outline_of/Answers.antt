@@ -1,7 +1,8 @@
-use Rattle.std.proofs.Common.{◌+◌, map, drop, ap}
+use Rattle.std.proofs.Common.{◌+◌, ◌∙◌, map, drop, ap}
 use Rattle.std.specs.Prelude.{vec_items}
 use Rattle.fm_grammar.specs.View.{entry_view, score_view}
 use Rattle.fm_meaning.specs.Rules.{VersionRules}
+use Rattle.fm_expansion.specs.Outline.{passage_in}
 use Rattle.fm_outline.specs.View.{tables_view}
 use Rattle.fm_outline.proofs.WalkLemmas.{begun, at_entry, ends_as_outline, phrases_stand}
 use Rattle.fm_outline.proofs.walk.outline_of.Goals as goal
@@ -43,6 +44,16 @@ returns-clause-outline c =
     ends_as_outline (score_view c.args.score.now) w.known (map vec_items w.phrases.items) w.block.items
     (tables_view w.tables) c.args.score.now.entries.items c.loop-entry.entry-index
     (rw c.deref-entry-items.ensures.value at c.loop-entry-test.false) c.loop-entry.invariant
+
+pub returns-clause-passage : goal.returns-clause-passage
+returns-clause-passage c =
+    let w = c.loop-entry.walk in
+    let score = score_view c.args.score.now in
+    ap (λ o. passage_in o.tables o.value)
+    (ends_as_outline score w.known (map vec_items w.phrases.items) w.block.items (tables_view w.tables)
+    c.args.score.now.entries.items c.loop-entry.entry-index
+    (rw c.deref-entry-items.ensures.value at c.loop-entry-test.false) c.loop-entry.invariant)
+    ∙ c.outlines_stand_for_scores.ensures score c.requires
 
 pub returns-clause-phrases : goal.returns-clause-phrases
 returns-clause-phrases c =

@@ -1,43 +1,102 @@
-use Rattle.std.proofs.Common.{◌≡◌, ◌∙◌, ◌+◌, drop, sym, ap, rules}
-use Rattle.fm_grammar.specs.Score as text
-use Rattle.fm_grammar.specs.View.{item_view, items_view}
-use Rattle.fm_grammar.specs.declared.item.Item.{the_lemmas}
-use Rattle.fm_places.specs.Needs.{both}
-use Rattle.fm_places.specs.Found.{needs_at, branches_view}
-use Rattle.fm_places.specs.Statements.{inner_needs, stmt_needs, body_needs, branches_needs}
+use Rattle.std.proofs.Common.{◌≡◌, ◌∙◌, ◌+◌, drop, sym, ap, ap₂, rules, map, Vec, Global}
+use Rattle.fm_expansion.specs.Outline as plain
+use Rattle.fm_expansion.specs.Outline.{play_in, passage_in}
+use Rattle.fm_outline.specs.declared.step.Step.{Step, the_lemmas}
+use Rattle.fm_outline.specs.View.{tables_view, step_view, block_view, quality_view, arms_of_blocks, phrase_at}
+use Rattle.fm_places.specs.Needs.{both, needs_of, needs_in, needs_among}
+use Rattle.fm_places.specs.Found.{fork_view}
+use Rattle.fm_places.specs.Statements.{inner_needs, outside}
 use Rattle.fm_places.proofs.BothLemmas.{nothing_both}
-use Rattle.fm_places.proofs.LoopLemmas.{map_twice, item_passed, branch_passed}
+use Rattle.fm_places.proofs.LoopLemmas.{map_twice, needs_split, step_passed, branch_passed}
 use Rattle.fm_places.proofs.statement.+needs.Goals as goal
 
+pub needs_inside-returns-in-Choice : goal.needs_inside-returns-in-Choice
+needs_inside-returns-in-Choice t c = λ look knows.
+    let seen : (step_view look c.args.step.now).what ≡ plain.choice c.in-Choice.expr
+    (block_view look c.in-Choice.yes.items) (block_view look c.in-Choice.no.items) = search (rules, the_lemmas) in
+    rw (seen, ← c.deref.ensures.value, ← c.deref-in-Choice.ensures.value)
+    (c.both.ensures ∙ ap₂ both (c.needs_of_steps.ensures look knows) (c.needs_of_steps-in-Choice.ensures look knows))
+
+pub needs_inside-returns-in-Phrase : goal.needs_inside-returns-in-Phrase
+needs_inside-returns-in-Phrase t c = λ look knows.
+    let seen : (step_view look c.args.step.now).what ≡ plain.phrase (phrase_at look c.in-Phrase.number)
+    = search (rules, the_lemmas) in
+    rw seen (c.needs_of_phrase.ensures (tables_view c.args.tables.now) look knows)
+
+pub needs_inside-returns-in-Loop : goal.needs_inside-returns-in-Loop
+needs_inside-returns-in-Loop t c = λ look knows.
+    let seen : (step_view look c.args.step.now).what ≡ plain.loop c.in-Loop.count (block_view look c.in-Loop.body.items)
+    = search (rules, the_lemmas) in
+    rw (seen, ← c.deref-in-Loop.ensures.value) (c.needs_of_steps-in-Loop.ensures look knows)
+
+pub needs_inside-returns-in-Warp : goal.needs_inside-returns-in-Warp
+needs_inside-returns-in-Warp t c = λ look knows.
+    let seen : (step_view look c.args.step.now).what ≡ plain.warp c.in-Warp.number (block_view look c.in-Warp.body.items)
+    = search (rules, the_lemmas) in
+    rw (seen, ← c.deref-in-Warp.ensures.value) (c.needs_of_steps-in-Warp.ensures look knows)
+
+pub needs_inside-returns-in-Channel : goal.needs_inside-returns-in-Channel
+needs_inside-returns-in-Channel t c = λ look knows.
+    let seen : (step_view look c.args.step.now).what ≡ plain.channel c.in-Channel.number (block_view look c.in-Channel.body.items)
+    = search (rules, the_lemmas) in
+    rw (seen, ← c.deref-in-Channel.ensures.value) (c.needs_of_steps-in-Channel.ensures look knows)
+
+pub needs_inside-returns-in-Steady : goal.needs_inside-returns-in-Steady
+needs_inside-returns-in-Steady t c = λ look knows.
+    let seen : (step_view look c.args.step.now).what ≡ plain.steady (quality_view c.in-Steady.quality) c.in-Steady.entry
+    (block_view look c.in-Steady.body.items)
+    = search (rules, the_lemmas) in
+    rw (seen, ← c.deref-in-Steady.ensures.value) (c.needs_of_steps-in-Steady.ensures look knows)
+
+pub needs_inside-returns-in-Under : goal.needs_inside-returns-in-Under
+needs_inside-returns-in-Under t c = λ look knows.
+    let seen : (step_view look c.args.step.now).what ≡ plain.under (quality_view c.in-Under.quality) c.in-Under.list
+    (block_view look c.in-Under.body.items)
+    = search (rules, the_lemmas) in
+    rw (seen, ← c.deref-in-Under.ensures.value) (c.needs_of_steps-in-Under.ensures look knows)
+
 pub needs_inside-loop-branch-init : goal.needs_inside-loop-branch-init
-needs_inside-loop-branch-init t c =
-    let view : (item_view c.args.item.now).what ≡ text.par (branches_view c.deref-branch-items.result.now)
-    = search (rules, the_lemmas, map_twice) in
-    ap (λ n. both n (branches_needs (needs_at c.args.phrases.now) (branches_view c.deref-branch-items.result.now)))
-    c.no_needs-needs.ensures
-    ∙ nothing_both (branches_needs (needs_at c.args.phrases.now) (branches_view c.deref-branch-items.result.now))
-    ∙ ap (inner_needs (needs_at c.args.phrases.now)) (sym view)
+needs_inside-loop-branch-init t c = λ look knows.
+    let tables = tables_view c.args.tables.now in
+    let branches = c.deref-branch-items.result.now in
+    let seen : (step_view look c.args.step.now).what
+    ≡ plain.par (arms_of_blocks (map (λ (b : Vec Step Global). block_view look b.items) branches))
+    = search (rules, the_lemmas, map_twice, c.deref-branch-items.ensures.value) in
+    ap (λ n. both n (needs_among (fork_view tables look branches))) c.no_needs-needs.ensures
+    ∙ nothing_both (needs_among (fork_view tables look branches))
+    ∙ ap (λ i. inner_needs (play_in tables i)) (sym seen)
 
 pub needs_inside-loop-branch-preserved : goal.needs_inside-loop-branch-preserved
-needs_inside-loop-branch-preserved t c =
+needs_inside-loop-branch-preserved t c = λ look knows.
+    let tables = tables_view c.args.tables.now in
     let one : c.both-needs.result
-    ≡ both c.loop-branch.needs (body_needs (needs_at c.args.phrases.now) (items_view c.branch-item.result.items))
+    ≡ both c.loop-branch.needs (needs_in (passage_in tables (block_view look c.branch-item.result.items)))
     = c.both-needs.ensures
     ∙ ap (both c.loop-branch.needs)
-    (c.needs_of_items-in-loop-branch.ensures
-    ∙ ap (λ l. body_needs (needs_at c.args.phrases.now) (items_view l)) c.deref-in-loop-branch.ensures.value) in
+    (c.needs_of_steps-in-loop-branch.ensures look knows
+    ∙ ap (λ l. needs_in (passage_in tables (block_view look l))) c.deref-in-loop-branch.ensures.value) in
     let left = drop (c.loop-branch.branch-index + 1) c.deref-branch-items.result.now in
-    ap (λ n. both n (branches_needs (needs_at c.args.phrases.now) (branches_view left))) one
-    ∙ branch_passed (needs_at c.args.phrases.now) c.deref-branch-items.result.now c.loop-branch.branch-index
+    ap (λ n. both n (needs_among (fork_view tables look left))) one
+    ∙ branch_passed tables look c.deref-branch-items.result.now c.loop-branch.branch-index
     c.loop-branch.needs c.branch-item.result c.loop-branch-test.true c.branch-item.is
-    ∙ c.loop-branch.invariant
+    ∙ c.loop-branch.invariant look knows
 
-pub needs_of_items-loop-item-preserved : goal.needs_of_items-loop-item-preserved
-needs_of_items-loop-item-preserved t c =
+pub needs_of_step-returns : goal.needs_of_step-returns
+needs_of_step-returns t c = λ look knows.
+    let tables = tables_view c.args.tables.now in
+    let play = play_in tables (step_view look c.args.step.now).what in
+    c.both.ensures
+    ∙ ap₂ both (c.own_needs.ensures look)
+    (c.outside.ensures tables look ∙ ap (outside play) (c.needs_inside.ensures look knows))
+    ∙ sym (needs_split play)
+
+pub needs_of_steps-loop-step-preserved : goal.needs_of_steps-loop-step-preserved
+needs_of_steps-loop-step-preserved t c = λ look knows.
+    let tables = tables_view c.args.tables.now in
     let one : c.both-needs.result
-    ≡ both c.loop-item.needs (stmt_needs (needs_at c.args.phrases.now) (item_view c.item-item.result).what)
-    = c.both-needs.ensures ∙ ap (both c.loop-item.needs) c.needs_of_item.ensures in
-    ap (λ n. both n (body_needs (needs_at c.args.phrases.now) (items_view (drop (c.loop-item.item-index + 1) c.args.items.now)))) one
-    ∙ item_passed (needs_at c.args.phrases.now) c.args.items.now c.loop-item.item-index
-    c.loop-item.needs c.item-item.result c.loop-item-test.true c.item-item.is
-    ∙ c.loop-item.invariant
+    ≡ both c.loop-step.needs (needs_of (play_in tables (step_view look c.step-item.result).what))
+    = c.both-needs.ensures ∙ ap (both c.loop-step.needs) (c.needs_of_step.ensures look knows) in
+    ap (λ n. both n (needs_in (passage_in tables (block_view look (drop (c.loop-step.step-index + 1) c.args.steps.now))))) one
+    ∙ step_passed tables look c.args.steps.now c.loop-step.step-index c.loop-step.needs c.step-item.result
+    c.loop-step-test.true c.step-item.is
+    ∙ c.loop-step.invariant look knows

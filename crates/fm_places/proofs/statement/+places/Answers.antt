@@ -1,67 +1,123 @@
-use Rattle.std.proofs.Common.{◌≡◌, ◌∙◌, sym, ap, rules, arith, Err}
+use Rattle.std.proofs.Common.{◌≡◌, ◌∙◌, sym, ap, rules, arith, Err, map, Vec, Global}
 use Rattle.std.proofs.lemmas.Grind.{common_steps}
-use Rattle.fm_grammar.specs.Score as text
-use Rattle.fm_grammar.specs.View.{item_view, items_view}
-use Rattle.fm_grammar.specs.declared.item.Item.{the_lemmas}
 use Rattle.fm_meaning.specs.Faults.{first_found}
+use Rattle.fm_expansion.specs.Outline as plain
+use Rattle.fm_expansion.specs.Outline.{play_in, passage_in}
 use Rattle.fm_fault.specs.Found.{found, numbered}
-use Rattle.fm_places.specs.Found.{needs_at, depths_view, branches_view}
-use Rattle.fm_places.specs.Statements.{inner_places, body_places}
+use Rattle.fm_outline.specs.declared.step.Step.{Step, the_lemmas}
+use Rattle.fm_outline.specs.View.{tables_view, step_view, block_view, quality_view, arms_of_blocks}
+use Rattle.fm_places.specs.Found.{depths_view}
+use Rattle.fm_places.specs.Statements.{inner_places, passage_places}
 use Rattle.fm_places.proofs.LoopLemmas.{map_twice}
-use Rattle.fm_places.proofs.FirstLemmas.{first_of_both, first_of_second, item_clean, item_fault, branch_clean, branch_fault}
+use Rattle.fm_places.proofs.FirstLemmas.{first_of_both, first_of_second, step_clean, step_fault, branch_clean, branch_fault}
 use Rattle.fm_places.proofs.statement.+places.Goals as goal
 
-pub check_inside-loop-branch-init : goal.check_inside-loop-branch-init
-check_inside-loop-branch-init t c =
-    let view : (item_view c.args.item.now).what ≡ text.par (branches_view c.deref-branch-items.result.now)
-    = search (rules, the_lemmas, map_twice) in
-    ap (λ w. first_found (inner_places (needs_at c.args.phrases.now) w (depths_view c.args.depths))) view
+pub check_inside-returns-in_err-check_steps-in-Choice : goal.check_inside-returns-in_err-check_steps-in-Choice
+check_inside-returns-in_err-check_steps-in-Choice t c = λ look knows.
+    let e = c.in_err-check_steps-in-Choice.field-0.0 in
+    let is : c.from_residual.result ≡ Err e = grind (arith, common_steps) in
+    let seen : (step_view look c.args.step.now).what ≡ plain.choice c.in-Choice.expr
+    (block_view look c.in-Choice.yes.items) (block_view look c.in-Choice.no.items) = search (rules, the_lemmas) in
+    rw (seen, ← c.deref.ensures.value)
+    (ap found is ∙ first_of_both _ _ (numbered e) (c.in_err-check_steps-in-Choice.ensures look knows))
 
-pub check_inside-returns-in_err-check_items-in-Par : goal.check_inside-returns-in_err-check_items-in-Par
-check_inside-returns-in_err-check_items-in-Par t c =
-    let e = c.in_err-check_items-in-Par.field-0.0 in
-    let is : c.from_residual-in_err-check_items-in-Par.result ≡ Err e = grind (arith, common_steps) in
+pub check_inside-returns-in_ok-check_steps-in-Choice : goal.check_inside-returns-in_ok-check_steps-in-Choice
+check_inside-returns-in_ok-check_steps-in-Choice t c = λ look knows.
+    let seen : (step_view look c.args.step.now).what ≡ plain.choice c.in-Choice.expr
+    (block_view look c.in-Choice.yes.items) (block_view look c.in-Choice.no.items) = search (rules, the_lemmas) in
+    rw (seen, ← c.deref.ensures.value, ← c.deref-in-Choice.ensures.value)
+    (c.check_steps-in-Choice.ensures look knows ∙ first_of_second _ _ (c.in_ok-check_steps-in-Choice.ensures look knows))
+
+pub check_inside-returns-in-Loop : goal.check_inside-returns-in-Loop
+check_inside-returns-in-Loop t c = λ look knows.
+    let seen : (step_view look c.args.step.now).what ≡ plain.loop c.in-Loop.count (block_view look c.in-Loop.body.items)
+    = search (rules, the_lemmas) in
+    rw (seen, ← c.deref-in-Loop.ensures.value) (c.check_steps-in-Loop.ensures look knows)
+
+pub check_inside-returns-in-Warp : goal.check_inside-returns-in-Warp
+check_inside-returns-in-Warp t c = λ look knows.
+    let seen : (step_view look c.args.step.now).what ≡ plain.warp c.in-Warp.number (block_view look c.in-Warp.body.items)
+    = search (rules, the_lemmas) in
+    rw (seen, ← c.deref-in-Warp.ensures.value) (c.check_steps-in-Warp.ensures look knows)
+
+pub check_inside-returns-in-Channel : goal.check_inside-returns-in-Channel
+check_inside-returns-in-Channel t c = λ look knows.
+    let seen : (step_view look c.args.step.now).what ≡ plain.channel c.in-Channel.number (block_view look c.in-Channel.body.items)
+    = search (rules, the_lemmas) in
+    rw (seen, ← c.deref-in-Channel.ensures.value) (c.check_steps-in-Channel.ensures look knows)
+
+pub check_inside-returns-in-Steady : goal.check_inside-returns-in-Steady
+check_inside-returns-in-Steady t c = λ look knows.
+    let seen : (step_view look c.args.step.now).what ≡ plain.steady (quality_view c.in-Steady.quality) c.in-Steady.entry
+    (block_view look c.in-Steady.body.items)
+    = search (rules, the_lemmas) in
+    rw (seen, ← c.deref-in-Steady.ensures.value) (c.check_steps-in-Steady.ensures look knows)
+
+pub check_inside-returns-in-Under : goal.check_inside-returns-in-Under
+check_inside-returns-in-Under t c = λ look knows.
+    let seen : (step_view look c.args.step.now).what ≡ plain.under (quality_view c.in-Under.quality) c.in-Under.list
+    (block_view look c.in-Under.body.items)
+    = search (rules, the_lemmas) in
+    rw (seen, ← c.deref-in-Under.ensures.value) (c.check_steps-in-Under.ensures look knows)
+
+pub check_inside-loop-branch-init : goal.check_inside-loop-branch-init
+check_inside-loop-branch-init t c = λ look knows.
+    let tables = tables_view c.args.tables.now in
+    let seen : (step_view look c.args.step.now).what
+    ≡ plain.par (arms_of_blocks (map (λ (b : Vec Step Global). block_view look b.items) c.deref-branch-items.result.now))
+    = search (rules, the_lemmas, map_twice, c.deref-branch-items.ensures.value) in
+    ap (λ i. first_found (inner_places (play_in tables i) (depths_view c.args.depths))) seen
+
+pub check_inside-returns-in_err-check_steps-in-Par : goal.check_inside-returns-in_err-check_steps-in-Par
+check_inside-returns-in_err-check_steps-in-Par t c = λ look knows.
+    let tables = tables_view c.args.tables.now in
+    let e = c.in_err-check_steps-in-Par.field-0.0 in
+    let is : c.from_residual-in_err-check_steps-in-Par.result ≡ Err e = grind (arith, common_steps) in
     ap found is
-    ∙ branch_fault (needs_at c.args.phrases.now) (depths_view c.args.depths) c.deref-branch-items.result.now
+    ∙ branch_fault tables look (depths_view c.args.depths) c.deref-branch-items.result.now
     c.loop-branch.branch-index c.branch-item.result (numbered e) c.loop-branch-test.true c.branch-item.is
-    (c.in_err-check_items-in-Par.ensures
-    ∙ ap (λ l. first_found (body_places (needs_at c.args.phrases.now) (items_view l) (depths_view c.args.depths)))
+    (c.in_err-check_steps-in-Par.ensures look knows
+    ∙ ap (λ l. first_found (passage_places (passage_in tables (block_view look l)) (depths_view c.args.depths)))
     c.deref-in-loop-branch.ensures.value)
-    ∙ sym c.loop-branch.invariant
+    ∙ sym (c.loop-branch.invariant look knows)
 
 pub check_inside-loop-branch-preserved : goal.check_inside-loop-branch-preserved
-check_inside-loop-branch-preserved t c =
-    c.loop-branch.invariant
-    ∙ branch_clean (needs_at c.args.phrases.now) (depths_view c.args.depths) c.deref-branch-items.result.now
+check_inside-loop-branch-preserved t c = λ look knows.
+    let tables = tables_view c.args.tables.now in
+    c.loop-branch.invariant look knows
+    ∙ branch_clean tables look (depths_view c.args.depths) c.deref-branch-items.result.now
     c.loop-branch.branch-index c.branch-item.result c.loop-branch-test.true c.branch-item.is
-    (c.in_ok-check_items-in-Par.ensures
-    ∙ ap (λ l. first_found (body_places (needs_at c.args.phrases.now) (items_view l) (depths_view c.args.depths)))
+    (c.in_ok-check_steps-in-Par.ensures look knows
+    ∙ ap (λ l. first_found (passage_places (passage_in tables (block_view look l)) (depths_view c.args.depths)))
     c.deref-in-loop-branch.ensures.value)
 
-pub check_item-returns-in_err-inner : goal.check_item-returns-in_err-inner
-check_item-returns-in_err-inner t c =
+pub check_step-returns-in_err-inner : goal.check_step-returns-in_err-inner
+check_step-returns-in_err-inner t c = λ look knows.
     let e = c.in_err-inner.field-0.0 in
     let is : c.from_residual.result ≡ Err e = grind (arith, common_steps) in
-    ap found is ∙ first_of_both _ _ (numbered e) c.in_err-inner.ensures.first
+    ap found is ∙ first_of_both _ _ (numbered e) (c.in_err-inner.ensures.first look knows)
 
-pub check_item-returns : goal.check_item-returns
-check_item-returns t c =
-    c.check_inside.ensures
-    ∙ ap (λ d. first_found (inner_places (needs_at c.args.phrases.now) (item_view c.args.item.now).what d))
-    c.in_ok-inner.ensures.inside
-    ∙ sym (first_of_second _ _ c.in_ok-inner.ensures.first)
+pub check_step-returns : goal.check_step-returns
+check_step-returns t c = λ look knows.
+    let tables = tables_view c.args.tables.now in
+    c.check_inside.ensures look knows
+    ∙ ap (λ d. first_found (inner_places (play_in tables (step_view look c.args.step.now).what) d))
+    (c.in_ok-inner.ensures.inside look)
+    ∙ first_of_second _ _ (c.in_ok-inner.ensures.first look knows)
 
-pub check_items-returns-in_err-check_item : goal.check_items-returns-in_err-check_item
-check_items-returns-in_err-check_item t c =
-    let e = c.in_err-check_item.field-0.0 in
+pub check_steps-returns-in_err-check_step : goal.check_steps-returns-in_err-check_step
+check_steps-returns-in_err-check_step t c = λ look knows.
+    let tables = tables_view c.args.tables.now in
+    let e = c.in_err-check_step.field-0.0 in
     let is : c.from_residual.result ≡ Err e = grind (arith, common_steps) in
     ap found is
-    ∙ item_fault (needs_at c.args.phrases.now) (depths_view c.args.depths) c.args.items.now c.loop-item.item-index
-    c.item-item.result (numbered e) c.loop-item-test.true c.item-item.is c.in_err-check_item.ensures
-    ∙ sym c.loop-item.invariant
+    ∙ step_fault tables look (depths_view c.args.depths) c.args.steps.now c.loop-step.step-index
+    c.step-item.result (numbered e) c.loop-step-test.true c.step-item.is (c.in_err-check_step.ensures look knows)
+    ∙ sym (c.loop-step.invariant look knows)
 
-pub check_items-loop-item-preserved : goal.check_items-loop-item-preserved
-check_items-loop-item-preserved t c =
-    c.loop-item.invariant
-    ∙ item_clean (needs_at c.args.phrases.now) (depths_view c.args.depths) c.args.items.now c.loop-item.item-index
-    c.item-item.result c.loop-item-test.true c.item-item.is c.in_ok-check_item.ensures
+pub check_steps-loop-step-preserved : goal.check_steps-loop-step-preserved
+check_steps-loop-step-preserved t c = λ look knows.
+    let tables = tables_view c.args.tables.now in
+    c.loop-step.invariant look knows
+    ∙ step_clean tables look (depths_view c.args.depths) c.args.steps.now c.loop-step.step-index
+    c.step-item.result c.loop-step-test.true c.step-item.is (c.in_ok-check_step.ensures look knows)
