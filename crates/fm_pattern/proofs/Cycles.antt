@@ -8,25 +8,25 @@ use Rattle.fm_pattern.specs.Cycle.{entry_at, StandsAt, IsNext, AreNext}
 remainder : (number multiple size rest : ℕ) → number ≡ multiple * size + rest → rest < size → rest ≡ number % size
 remainder number multiple size rest e lt = sym (ap (λ n. n % size) e ∙ mod-mul-add multiple size rest lt)
 
--- the first place is that of a cursor that was not moved
+-- the first index is that of a cursor that was not moved
 pub stands_at_first : (list : List ℕ) → 0 < length list → StandsAt list 0 0
 stands_at_first list some = remainder 0 0 (length list) 0 (omega arith) some
 
--- one place on, where that is a place of the list
-pub stands_one_on : (list : List ℕ) (place cursor : ℕ) → StandsAt list place cursor → place + 1 < length list
-    → StandsAt list (place + 1) (cursor + 1)
-stands_one_on list place cursor at lt =
+-- one index on, where that is one of the list
+pub stands_one_on : (list : List ℕ) (index cursor : ℕ) → StandsAt list index cursor → index + 1 < length list
+    → StandsAt list (index + 1) (cursor + 1)
+stands_one_on list index cursor at lt =
     let whole = div-add-mod' cursor (length list) in
-    remainder (cursor + 1) (cursor / length list) (length list) (place + 1) (omega arith) lt
+    remainder (cursor + 1) (cursor / length list) (length list) (index + 1) (omega arith) lt
 
--- the entry at a place that is not the last one, and the place behind it
-pub next_on : (list : List ℕ) (place old : ℕ) → place ≡ old → place + 1 < length list
-    → IsNext list old (slice_index list place) (place + 1)
-next_on list place old same lt = record {
+-- the entry at an index that is not the last one, and the index behind it
+pub next_on : (list : List ℕ) (index old : ℕ) → index ≡ old → index + 1 < length list
+    → IsNext list old (slice_index list index) (index + 1)
+next_on list index old same lt = record {
   at = ap (slice_index list) same;
   entry = λ cursor at. ap (slice_index list) (same ∙ at);
   within = lt;
-  after = λ cursor at. stands_one_on list place cursor (same ∙ at) lt;
+  after = λ cursor at. stands_one_on list index cursor (same ∙ at) lt;
 }
 
 -- the results of a list of calls are the entries from the first cursor on

@@ -5,11 +5,11 @@ use Rattle.std.specs.Prelude.{◌≡◌, ℕ, ◌+◌, ◌%◌, ◌<◌, List, [
 abbrev pub entry_at : List ℕ → ℕ → ℕ
 entry_at list cursor = slice_index list (cursor % length list)
 
--- a place in a list is where a cursor that was moved so often stands
+-- an index of a list is where a cursor that was moved so often stands
 abbrev pub StandsAt : List ℕ → ℕ → ℕ → Type 0
-StandsAt list place cursor = place ≡ cursor % length list
+StandsAt list index cursor = index ≡ cursor % length list
 
--- the result is the entry at the old place, and at whatever cursor that place is of; the new place, again one of the
+-- the result is the entry at the old index, and at whatever cursor that index is of; the new index, again one of the
 -- list, is of the cursor after it
 pub record IsNext (list : List ℕ) (old result new : ℕ) : Type 0 where
   pub at : result ≡ slice_index list old
@@ -17,7 +17,7 @@ pub record IsNext (list : List ℕ) (old result new : ℕ) : Type 0 where
   pub within : new < length list
   pub after : (cursor : ℕ) → StandsAt list old cursor → StandsAt list new (cursor + 1)
 
--- a list of calls from one place to another, with their results
+-- a list of calls from one index to another, with their results
 abbrev pub AreNext : List ℕ → ℕ → List ℕ → ℕ → Type 0
 AreNext list old [] new = old ≡ new
 AreNext list old (result ∷ results) new = (middle : ℕ) × IsNext list old result middle × AreNext list middle results new

@@ -1,4 +1,4 @@
-//! A place in a list that goes round.
+//! A position in a list that goes round.
 ghost use Rattle.std.specs.Prelude.{◌≡◌, ℕ, ◌<◌, ◌≤◌, length};
 ghost use Rattle.fm_pattern.specs.Cycle.{IsNext};
 
@@ -7,18 +7,18 @@ use std::marker::Model;
 /// How many entries a list has at most.
 pub const MAX_ENTRIES: usize = 256;
 
-/// The place of the entry that comes next, which contracts see as that number.
+/// The index of the entry that comes next, which contracts see as that number.
 #[derive(Clone, Copy, Debug, PartialEq, Eq)]
 pub struct Cursor {
-    place: u32,
+    index: u32,
 }
 
 impl Model for Cursor {
     ghost Value = { ℕ };
 
-    ghost view = { λ c. c.place };
+    ghost view = { λ c. c.index };
 
-    ghost inverse = { λ n. record { place = n } };
+    ghost inverse = { λ n. record { index = n } };
 }
 
 impl Cursor {
@@ -26,7 +26,7 @@ impl Cursor {
     pub fn new() -> Cursor
         ensures { result ≡ 0 }
     {
-        Cursor { place: 0 }
+        Cursor { index: 0 }
     }
 
     /// The entry at the cursor, which then moves on by one, from the last entry to the first.
@@ -36,10 +36,10 @@ impl Cursor {
         requires same_list { self.old < length list.now }
         ensures { IsNext list.now self.old result self.new }
     {
-        let entry = list[self.place as usize];
-        self.place += 1;
-        if self.place as usize == list.len() {
-            self.place = 0;
+        let entry = list[self.index as usize];
+        self.index += 1;
+        if self.index as usize == list.len() {
+            self.index = 0;
         }
         entry
     }

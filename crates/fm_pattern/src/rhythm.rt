@@ -5,7 +5,7 @@ ghost use Rattle.fm_pattern.specs.Cycle.{IsNext};
 use crate::cursor::{Cursor, MAX_ENTRIES};
 use std::marker::Model;
 
-/// A cursor in a list of durations, which contracts see as the place of the next one.
+/// A cursor in a list of durations, which contracts see as the index of the next one.
 #[derive(Clone, Copy, Debug, PartialEq, Eq)]
 pub struct Rhythm {
     cursor: Cursor,
