@@ -10,7 +10,7 @@ use Rattle.fm_read.specs.Written.{time_after}
 use Rattle.fm_read.specs.declared.limits.TheConstants.{MAX_FILE}
 use Rattle.fm_excerpt.specs.Last.{or_else, last_value}
 use Rattle.fm_excerpt.specs.Excerpt.{before}
-use Rattle.fm_excerpt.specs.Table.{slot_of, at_place, at_slot, Holds, AreInRange}
+use Rattle.fm_excerpt.specs.Table.{slot_of, at_place, at_slot, Holds, SlotsAreInRange}
 use Rattle.fm_excerpt.specs.declared.state.TheConstants.{SLOTS}
 
 or_else_assoc : {A : Type 0} (x y z : Option A) → or_else (or_else x y) z ≡ or_else x (or_else y z)
@@ -44,7 +44,7 @@ none_there n i = by_test (nat_lt i n) refl
         get_or_past (replicate n None) i None (subst (λ k. k ≤ i) (sym (length-replicate {A = Option Msg} n None)) behind)
 
 -- and so all that is set is in range
-pub nothing_in_range : AreInRange (replicate SLOTS None)
+pub nothing_in_range : SlotsAreInRange (replicate SLOTS None)
 nothing_in_range = λ i. subst (λ o. IfSome o (λ m. IsTrue (is_in_range m))) (sym (none_there SLOTS i)) tt
 
 -- a value in its place, and every other place as it was
@@ -69,8 +69,8 @@ holds_other slots ms m place had = λ i less.
     had i less ∙ ap (λ p. or_else (at_place i p m) (last_value (at_slot i) ms)) (sym place) ∙ sym (last_more (at_slot i) ms m)
 
 -- a message in range keeps the table in range
-pub set_in_range : (slots : List (Option Msg)) (m : Msg) (j : ℕ) → j < length slots → IsTrue (is_in_range m) → AreInRange slots →
-    AreInRange (set slots j (Some m))
+pub set_in_range : (slots : List (Option Msg)) (m : Msg) (j : ℕ) → j < length slots → IsTrue (is_in_range m) → SlotsAreInRange slots →
+    SlotsAreInRange (set slots j (Some m))
 set_in_range slots m j there fits had = λ i. by_test i (nat_eq j i) refl
   where
     by_test : (i : ℕ) (b : Bool) → nat_eq j i ≡ b → IfSome (get_or (set slots j (Some m)) i None) (λ x. IsTrue (is_in_range x))

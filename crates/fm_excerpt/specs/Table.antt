@@ -40,8 +40,8 @@ abbrev pub messages_of : List (Option Msg) → List Msg
 messages_of slots = flat_map (λ i. option_to_list (slice_index_or slots i None)) (below SLOTS)
 
 -- each message of the table is in range
-abbrev pub AreInRange : List (Option Msg) → Type 0
-AreInRange slots = (i : ℕ) → IfSome (slice_index_or slots i None) (λ m. IsTrue (is_in_range m))
+abbrev pub SlotsAreInRange : List (Option Msg) → Type 0
+SlotsAreInRange slots = (i : ℕ) → IfSome (slice_index_or slots i None) (λ m. IsTrue (is_in_range m))
 
 -- each count, with the note-offs of its channel and key among these messages, is their note-ons
 abbrev pub Sounds : List ℕ → List Msg → Type 0

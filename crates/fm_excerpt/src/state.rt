@@ -27,13 +27,13 @@ pub struct State {
 impl Model for State {
     ghost use Rattle.std.specs.Prelude.{List, Option};
     ghost use Rattle.fm_msg.specs.declared.msg.Msg.{Msg as Message};
-    ghost use Rattle.fm_excerpt.specs.Table.{AreInRange};
+    ghost use Rattle.fm_excerpt.specs.Table.{SlotsAreInRange};
 
     ghost Value = { List (Option Message) };
 
     ghost view = { λ s. s.slots };
 
-    ghost invariant = { λ s. AreInRange s.slots };
+    ghost invariant = { λ s. SlotsAreInRange s.slots };
 }
 
 // The place of what a message sets, where it sets something.

@@ -12,29 +12,29 @@ use Rattle.fm_smf.proofs.Tracks.{length-end}
 use Rattle.fm_read.specs.Reading.{Pair}
 use Rattle.fm_read.specs.Decoded.{decoded, message_from, and_message}
 use Rattle.fm_read.specs.Written.{time_after}
-use Rattle.fm_parts.specs.Format1.{Rises, track_behind}
+use Rattle.fm_parts.specs.Format1.{RisesTo, track_behind}
 
 -- from a lower tick on
-pub rises_lower : (low last : ℕ) (list : List (ℕ × Msg)) (end : ℕ) → low ≤ last → Rises last list end → Rises low list end
+pub rises_lower : (low last : ℕ) (list : List (ℕ × Msg)) (end : ℕ) → low ≤ last → RisesTo last list end → RisesTo low list end
 rises_lower low last [] end le rise = omega arith
 rises_lower low last (x ∷ list) end le rise = (omega (arith, rise.0), rise.1)
 
 -- the messages of a track are in time
-pub rises_decoded : (low now : ℕ) (es : List Pair) → low ≤ now → Rises low (decoded now es) (time_after now es)
+pub rises_decoded : (low now : ℕ) (es : List Pair) → low ≤ now → RisesTo low (decoded now es) (time_after now es)
 rises_decoded low now [] le = le
 rises_decoded low now (e ∷ es) le = by_message (message_from e.status e.bytes) (λ n fits. rises_decoded n (now + e.delta) es fits)
   where
-    by_message : (m : Option Msg) → ((n : ℕ) → n ≤ now + e.delta → Rises n (decoded (now + e.delta) es) (time_after (now + e.delta) es)) →
-        Rises low (and_message (now + e.delta) m (decoded (now + e.delta) es)) (time_after (now + e.delta) es)
+    by_message : (m : Option Msg) → ((n : ℕ) → n ≤ now + e.delta → RisesTo n (decoded (now + e.delta) es) (time_after (now + e.delta) es)) →
+        RisesTo low (and_message (now + e.delta) m (decoded (now + e.delta) es)) (time_after (now + e.delta) es)
     by_message None later = later low (omega arith)
     by_message (Some m) later = (omega arith, later (now + e.delta) (omega arith))
 
 -- some of them are
-pub rises_filter : (p : ℕ × Msg → Bool) (last : ℕ) (list : List (ℕ × Msg)) (end : ℕ) → Rises last list end → Rises last (filter p list) end
+pub rises_filter : (p : ℕ × Msg → Bool) (last : ℕ) (list : List (ℕ × Msg)) (end : ℕ) → RisesTo last list end → RisesTo last (filter p list) end
 rises_filter p last [] end rise = rise
 rises_filter p last (x ∷ list) end rise = by_test (p x) (rises_filter p x.0 list end rise.1)
   where
-    by_test : (b : Bool) → Rises x.0 (filter p list) end → Rises last (cond b (x ∷ filter p list) (filter p list)) end
+    by_test : (b : Bool) → RisesTo x.0 (filter p list) end → RisesTo last (cond b (x ∷ filter p list) (filter p list)) end
     by_test true later = (rise.0, later)
     by_test false later = rises_lower last x.0 (filter p list) end rise.0 later
 
@@ -68,7 +68,7 @@ one-long ticks m = omega (arith, length-append (delta ticks) (message_bytes m), 
     some (Bend channel bend) = omega arith
 
 -- seven bytes a message and for the end, and seven for each greatest quantity of ticks
-pub length-track : (last : ℕ) (list : List (ℕ × Msg)) (end : ℕ) → Rises last list end →
+pub length-track : (last : ℕ) (list : List (ℕ × Msg)) (end : ℕ) → RisesTo last list end →
     MAX_QUANTITY * length (track_behind last list end) + 7 * last ≤ MAX_QUANTITY * (7 * length list + 7) + 7 * end
 length-track last [] end rise = omega (arith, length-end last end)
 length-track last (x ∷ list) end rise =
@@ -81,6 +81,6 @@ length-track last (x ∷ list) end rise =
     )
 
 -- a track has a length of four bytes
-pub track_small : (list : List (ℕ × Msg)) (end : ℕ) → Rises 0 list end → length list ≤ 2 ^ 25 → end ≤ 2 ^ 57 →
+pub track_small : (list : List (ℕ × Msg)) (end : ℕ) → RisesTo 0 list end → length list ≤ 2 ^ 25 → end ≤ 2 ^ 57 →
     length (track_behind 0 list end) ≤ MAX_TRACK
 track_small list end rise few early = omega (arith, length-track 0 list end rise)

@@ -30,9 +30,9 @@ track_behind last [] end = end_bytes last end
 track_behind last (x ∷ list) end = (delta (x.0 - last) ++ message_bytes x.1) ++ track_behind x.0 list end
 
 -- no message is before the one in front of it, and the end is not before the last
-abbrev pub Rises : ℕ → List (ℕ × Msg) → ℕ → Type 0
-Rises last [] end = last ≤ end
-Rises last (x ∷ list) end = (last ≤ x.0) × Rises x.0 list end
+abbrev pub RisesTo : ℕ → List (ℕ × Msg) → ℕ → Type 0
+RisesTo last [] end = last ≤ end
+RisesTo last (x ∷ list) end = (last ≤ x.0) × RisesTo x.0 list end
 
 -- the track of the tempo alone
 abbrev pub tempo_track : ℕ → List ℕ
