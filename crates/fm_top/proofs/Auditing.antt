@@ -1,6 +1,6 @@
 -- What was audited of a record is said of its bytes, and of the input that it was.
 use Rattle.std.specs.Prelude.{◌≢◌}
-use Rattle.std.proofs.Common.{◌≡◌, ◌≤◌, ℕ, List, ◌++◌, length, Option, Some, None, Result, Err, IfErr, refl, ap, sym, ◌∙◌, subst, inl, inr, option_map}
+use Rattle.std.proofs.Common.{◌≡◌, ◌≤◌, ℕ, List, ◌++◌, length, Some, None, Result, Err, IfErr, refl, ap, sym, ◌∙◌, subst, inl, inr}
 use Rattle.fm_audit.specs.Verdict.{Verdict}
 use Rattle.fm_audit.specs.declared.fault.AuditFault.{AuditFault}
 use Rattle.fm_audit.specs.declared.fault.AuditFault.TheVariants as audit
@@ -8,7 +8,7 @@ use Rattle.fm_line.specs.declared.line.Line.{Line}
 use Rattle.fm_grammar.specs.Score as tree
 use Rattle.fm_line.specs.Line.{ValidLines}
 use Rattle.fm_line.specs.Piece.{piece}
-use Rattle.fm_meaning.specs.Lines.{played_lines, played_piece, played_end}
+use Rattle.fm_meaning.specs.Lines.{played_lines, played_end}
 use Rattle.fm_meaning.specs.Resolve.{resolved}
 use Rattle.fm_meaning.specs.Rules.{profile_of}
 use Rattle.fm_meaning.specs.Verdict.{Means}
@@ -26,7 +26,8 @@ use Rattle.fm_top.specs.Audits.{Accepts, CutsOff, IsToldOf, Rejects}
 use Rattle.fm_top.specs.Judging.{IsJudged, IsPlanned}
 use Rattle.fm_top.specs.Outcome.{Does, Stops}
 use Rattle.fm_top.specs.Products.{Product, performance}
-use Rattle.fm_top.specs.Records.{IsAccepted, IsRecord, Parts, RecordFails, begins, passes, step_fault, strays, too_long}
+use Rattle.fm_top.specs.Records.{IsAccepted, IsRecord, Parts, RecordFails, passes, step_fault, strays, too_long}
+use Rattle.fm_top.specs.Seen.{SourceSeen, SinkSeen}
 use Rattle.fm_top.specs.Taking.{TakesAll, TakesLong}
 use Rattle.fm_top.proofs.Playing.{LastLinesEnd, PlansPlay, plan_profile}
 
@@ -60,10 +61,10 @@ pub walked_valid : PlansPlay → LinesValid → (text : List ℕ) (plan : PlanPa
 walked_valid plays valid text plan p ls walked =
     subst ValidLines (sym (walked ∙ ap plan_lines p.planned ∙ plays text p.score p.means)) (valid text p.score p.means)
 
-module _ {K : Type 0} (content : K → Option (List ℕ)) (sure : K → Option ℕ) (faults : K → ℕ) (bytes : List ℕ) (parts : Parts)
+module _ {K : Type 0} (to : SinkSeen K) (bytes : List ℕ) (parts : Parts)
     (held : IsRecord bytes parts) where
   -- their text is refused
-  pub text_rejected : (sink : K) (fault : RunFault) → IsJudged parts.text fault → Rejects content sure faults sink sink bytes fault
+  pub text_rejected : (sink : K) (fault : RunFault) → IsJudged parts.text fault → Rejects to sink sink bytes fault
   text_rejected sink (run.Score spot n) judged = (record { parts = parts; is_record = held; fault = judged }, refl)
   text_rejected sink run.Memory judged = refl
   text_rejected sink run.Words judged = judged
@@ -102,23 +103,25 @@ module _ {K : Type 0} (content : K → Option (List ℕ)) (sure : K → Option �
     -- their steps are a run, and the file is written
     pub run_accepted : (profile : Profile) → profile ≡ plan.profile
         → Verdict ls parts.seats parts.room parts.lead parts.steps None
-        → IsFinished content sure faults sink sink' profile (piece ls) (piece_end ls)
-        → Accepts content sure faults sink sink' bytes
+        → IsFinished to.content to.sure to.faults sink sink' profile (piece ls) (piece_end ls)
+        → Accepts to sink sink' bytes
     run_accepted profile is found written = record {
       made = performance None p.score;
       makes = record { score = p.score; accepted = accepted found; is = refl };
-      done = of_score (λ (q : Profile) (z : List Line) (e : ℕ). IsFinished content sure faults sink sink' q (piece z) e) profile is written;
+      done = of_score (λ (q : Profile) (z : List Line) (e : ℕ). IsFinished to.content to.sure to.faults sink sink' q (piece z) e) profile is
+          written;
     }
 
     -- or a call failed before it was
     run_cut : (profile : Profile) → profile ≡ plan.profile
         → Verdict ls parts.seats parts.room parts.lead parts.steps None
-        → IsBroken content sure faults sink sink' profile (piece ls) (piece_end ls)
-        → CutsOff content sure faults sink sink' bytes
+        → IsBroken to.content to.sure to.faults sink sink' profile (piece ls) (piece_end ls)
+        → CutsOff to sink sink' bytes
     run_cut profile is found broken = record {
       made = performance None p.score;
       makes = record { score = p.score; accepted = accepted found; is = refl };
-      cut = of_score (λ (q : Profile) (z : List Line) (e : ℕ). IsBroken content sure faults sink sink' q (piece z) e) profile is broken;
+      cut = of_score (λ (q : Profile) (z : List Line) (e : ℕ). IsBroken to.content to.sure to.faults sink sink' q (piece z) e) profile is
+          broken;
     }
 
     -- or they have a fault
@@ -132,8 +135,8 @@ module _ {K : Type 0} (content : K → Option (List ℕ)) (sure : K → Option �
         → (fault ≢ audit.Sink → fault ≢ audit.Memory → Verdict ls parts.seats parts.room parts.lead parts.steps (Some fault))
         → (fault ≢ audit.Sink → sink' ≡ sink)
         → (fault ≡ audit.Sink → Verdict ls parts.seats parts.room parts.lead parts.steps None)
-        → (fault ≡ audit.Sink → IsBroken content sure faults sink sink' profile (piece ls) (piece_end ls))
-        → Rejects content sure faults sink sink' bytes f
+        → (fault ≡ audit.Sink → IsBroken to.content to.sure to.faults sink sink' profile (piece ls) (piece_end ls))
+        → Rejects to sink sink' bytes f
     run_rejected profile is fault (run.Record at number) told faulty untouched passed broken =
         let no_sink : fault ≢ audit.Sink = λ same. no_step audit.Sink at number refl (sym (ap step_fault same) ∙ told) in
         let no_want : fault ≢ audit.Memory = λ same. no_step audit.Memory at number refl (sym (ap step_fault same) ∙ told) in
@@ -149,13 +152,12 @@ module _ {K : Type 0} (content : K → Option (List ℕ)) (sure : K → Option �
 
 -- ---- the input
 
-module _ {S K : Type 0} (left : S → Option (List ℕ)) (source_faults : S → ℕ)
-    (content : K → Option (List ℕ)) (sure : K → Option ℕ) (faults : K → ℕ)
-    (source source' : S) (sink sink' : K) where
+module _ {S K : Type 0} (from : SourceSeen S) (source source' : S)
+    (to : SinkSeen K) (sink sink' : K) where
   -- it is accepted, and its file written
-  pub audit_done : (bytes : List ℕ) → TakesAll MAX_RECORD (left source) (left source') bytes
-      → Accepts content sure faults sink sink' bytes
-      → Does left source_faults content sure faults source source' sink sink' task.Audit None
+  pub audit_done : (bytes : List ℕ) → TakesAll MAX_RECORD (from.left source) (from.left source') bytes
+      → Accepts to sink sink' bytes
+      → Does from source source' to sink sink' task.Audit None
   audit_done bytes all a = record {
     input = bytes;
     all = all;
@@ -166,8 +168,8 @@ module _ {S K : Type 0} (left : S → Option (List ℕ)) (source_faults : S → 
   }
 
   -- too many bytes came
-  pub audit_long : TakesLong MAX_RECORD (left source) (left source')
-      → sink' ≡ sink → Stops left source_faults content sure faults source source' sink sink' task.Audit (run.Record 0 too_long)
+  pub audit_long : TakesLong MAX_RECORD (from.left source) (from.left source')
+      → sink' ≡ sink → Stops from source source' to sink sink' task.Audit (run.Record 0 too_long)
   audit_long long same = (
     record {
       input = long.text;
@@ -179,9 +181,9 @@ module _ {S K : Type 0} (left : S → Option (List ℕ)) (source_faults : S → 
   )
 
   -- it is rejected, or a call failed
-  pub audit_stopped : (bytes : List ℕ) (fault : RunFault) → TakesAll MAX_RECORD (left source) (left source') bytes
-      → Rejects content sure faults sink sink' bytes fault
-      → Stops left source_faults content sure faults source source' sink sink' task.Audit fault
+  pub audit_stopped : (bytes : List ℕ) (fault : RunFault) → TakesAll MAX_RECORD (from.left source) (from.left source') bytes
+      → Rejects to sink sink' bytes fault
+      → Stops from source source' to sink sink' task.Audit fault
   audit_stopped bytes (run.Record at n) all r =
       (record { input = bytes; taken = all.taken; whole = inr all.ended; holds = r.0 }, r.1)
   audit_stopped bytes (run.Score spot n) all r =
@@ -195,7 +197,7 @@ module _ {S K : Type 0} (left : S → Option (List ℕ)) (source_faults : S → 
 
   -- the same of the bytes as they are lent
   pub audit_stopped_at : (bytes slice : List ℕ) (fault : RunFault) → slice ≡ bytes
-      → TakesAll MAX_RECORD (left source) (left source') bytes → Rejects content sure faults sink sink' slice fault
-      → Stops left source_faults content sure faults source source' sink sink' task.Audit fault
+      → TakesAll MAX_RECORD (from.left source) (from.left source') bytes → Rejects to sink sink' slice fault
+      → Stops from source source' to sink sink' task.Audit fault
   audit_stopped_at bytes slice fault same all r =
-      audit_stopped slice fault (subst (λ (z : List ℕ). TakesAll MAX_RECORD (left source) (left source') z) (sym same) all) r
+      audit_stopped slice fault (subst (λ (z : List ℕ). TakesAll MAX_RECORD (from.left source) (from.left source') z) (sym same) all) r

@@ -5,19 +5,17 @@ use Rattle.fm_top.specs.declared.status.TheConstants.{DONE, CONSOLE_FAULT, OUT_O
 use Rattle.fm_top.specs.declared.run_fault.RunFault.{RunFault}
 use Rattle.fm_top.specs.declared.run_fault.RunFault.TheVariants as run
 use Rattle.fm_top.specs.declared.task.Task.{Task}
+use Rattle.fm_top.specs.Seen.{SourceSeen, SinkSeen, ConsoleSeen}
 use Rattle.fm_top.specs.Telling.{Tells, TellsEnd, fault_status, fault_text, told, untold}
 use Rattle.fm_top.specs.Outcome.{Does, Holds, IsRefused, StatusCause, Stops}
 
-module _ {S K C : Type 0} (left : S → Option (List ℕ)) (source_faults : S → ℕ)
-    (content : K → Option (List ℕ)) (sure : K → Option ℕ) (faults : K → ℕ)
-    (said : C → Option (List ℕ)) (room : C → Option ℕ) (console_faults : C → ℕ)
-    (asked : Option Task) (source source' : S) (sink sink' : K) (console console' : C) where
+module _ {S K C : Type 0} (from : SourceSeen S) (source source' : S) (to : SinkSeen K) (sink sink' : K)
+    (on : ConsoleSeen C) (console console' : C) (asked : Option Task) where
   abbrev Cause : ℕ → Type 0
-  Cause status = StatusCause left source_faults content sure faults said room console_faults asked source source' sink sink'
-      console console' status
+  Cause status = StatusCause from source source' to sink sink' on console console' asked status
 
   done_cause : (status : ℕ) (t : Task) (line : Option (List ℕ)) → asked ≡ Some t
-      → Does left source_faults content sure faults source source' sink sink' t line → status ≡ DONE → Cause status
+      → Does from source source' to sink sink' t line → status ≡ DONE → Cause status
   done_cause status t line given d is = record {
     known = omega (arith, is);
     done = λ _. (t, line, given, d);
@@ -30,7 +28,7 @@ module _ {S K C : Type 0} (left : S → Option (List ℕ)) (source_faults : S �
     untold = λ five. absurd (omega (arith, is, five));
   }
 
-  untold_cause : (status : ℕ) → Rose (console_faults console) (console_faults console') → status ≡ CONSOLE_FAULT → Cause status
+  untold_cause : (status : ℕ) → Rose (on.faults console) (on.faults console') → status ≡ CONSOLE_FAULT → Cause status
   untold_cause status rose is = record {
     known = omega (arith, is);
     done = λ zero. absurd (omega (arith, is, zero));
@@ -45,8 +43,8 @@ module _ {S K C : Type 0} (left : S → Option (List ℕ)) (source_faults : S �
 
   -- what is asked for is done, and its line is told, or the console failed
   pub cause_of_done : (status : ℕ) (t : Task) (line : Option (List ℕ)) → asked ≡ Some t
-      → Does left source_faults content sure faults source source' sink sink' t line
-      → TellsEnd said room console_faults console console' line status → Cause status
+      → Does from source source' to sink sink' t line
+      → TellsEnd on console console' line status → Cause status
   cause_of_done status t None given d end = done_cause status t None given d end.0
   cause_of_done status t (Some text) given d (told is all) = done_cause status t (Some text) given d is
   cause_of_done status t (Some text) given d (untold is breaks) = untold_cause status breaks.rose is
@@ -78,7 +76,7 @@ module _ {S K C : Type 0} (left : S → Option (List ℕ)) (source_faults : S �
   }
 
   refused_cause : (status : ℕ) (t : Task) (f : RunFault) → asked ≡ Some t
-      → IsRefused left source_faults content sure faults source source' sink sink' t f → fault_status f ≡ status
+      → IsRefused from source source' to sink sink' t f → fault_status f ≡ status
       → status ≡ SCORE_REFUSED → Cause status
   refused_cause status t f given refused same is = record {
     known = omega (arith, is);
@@ -94,7 +92,7 @@ module _ {S K C : Type 0} (left : S → Option (List ℕ)) (source_faults : S �
 
   -- a task stops with a fault, which is told
   stop_cause : (status : ℕ) (t : Task) (f : RunFault) → asked ≡ Some t
-      → Stops left source_faults content sure faults source source' sink sink' t f → status ≡ fault_status f → Cause status
+      → Stops from source source' to sink sink' t f → status ≡ fault_status f → Cause status
   stop_cause status t run.Words given h is = absurd h
   stop_cause status t (run.Score spot n) given h is = refused_cause status t (run.Score spot n) given h.0 (sym is) is
   stop_cause status t (run.File at n) given h is = refused_cause status t (run.File at n) given h.0 (sym is) is
@@ -136,8 +134,8 @@ module _ {S K C : Type 0} (left : S → Option (List ℕ)) (source_faults : S �
 
   -- a fault holds, and is told, or the console failed
   pub cause_of_stop : (status : ℕ) (a : Option Task) (f : RunFault) → asked ≡ a
-      → Holds left source_faults content sure faults source source' sink sink' a f
-      → Tells said room console_faults console console' (fault_text f) (fault_status f) status → Cause status
+      → Holds from source source' to sink sink' a f
+      → Tells on console console' (fault_text f) (fault_status f) status → Cause status
   cause_of_stop status a f given h (untold is breaks) = untold_cause status breaks.rose is
   cause_of_stop status (Some t) f given h (told is all) = stop_cause status t f given h is
   cause_of_stop status None run.Words given h (told is all) = words_cause status given is

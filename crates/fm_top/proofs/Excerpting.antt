@@ -24,6 +24,7 @@ use Rattle.fm_top.specs.declared.run_fault.RunFault.TheVariants as run
 use Rattle.fm_top.specs.declared.task.Task.TheVariants.{Excerpt}
 use Rattle.fm_top.specs.Outcome.{Does, Stops}
 use Rattle.fm_top.specs.Products.{part_of, score_excerpt, totals_with}
+use Rattle.fm_top.specs.Seen.{SourceSeen, SinkSeen}
 use Rattle.fm_top.specs.Summing.{totals}
 use Rattle.fm_top.specs.Taking.{TakesPlan, offered, remaining}
 use Rattle.fm_top.proofs.Playing.{PlansPlay, LastLinesEnd, profile_taken, totals_taken}
@@ -52,11 +53,10 @@ module _ (plays : PlansPlay) (last : LastLinesEnd) (reads : FilesRead) (old new 
     in_time = time t.text t.planned.score t.planned.means;
   }
 
-module _ {S K : Type 0} (left : S → Option (List ℕ)) (source_faults : S → ℕ)
-    (content : K → Option (List ℕ)) (sure : K → Option ℕ) (faults : K → ℕ)
-    (source source' : S) (sink sink' : K) (number : Option ℕ) (begin : ℕ) (until : Option ℕ)
+module _ {S K : Type 0} (from : SourceSeen S) (source source' : S)
+    (to : SinkSeen K) (sink sink' : K) (number : Option ℕ) (begin : ℕ) (until : Option ℕ)
     (plays : PlansPlay) (last : LastLinesEnd) (plan : PlanParts)
-    (t : TakesPlan (offered number (left source)) (remaining number (left source')) plan)
+    (t : TakesPlan (offered number (from.left source)) (remaining number (from.left source')) plan)
     (profile : Profile) (given : profile ≡ plan.profile) where
   -- its profile is that of the score
   same_profile : profile ≡ profile_of t.planned.score
@@ -69,9 +69,9 @@ module _ {S K : Type 0} (left : S → Option (List ℕ)) (source_faults : S → 
       (played_end (resolved t.planned.score))) (excerpt_end begin until (played_end (resolved t.planned.score))))
       → line ≡ option_map (λ _. summary_line (totals processes
       (record { events = played.events; last = played.last; bytes = bytes }))) number
-      → IsFinished content sure faults sink sink' profile (excerpt_events begin until (played_piece (resolved t.planned.score))
+      → IsFinished to.content to.sure to.faults sink sink' profile (excerpt_events begin until (played_piece (resolved t.planned.score))
       (played_end (resolved t.planned.score))) (excerpt_end begin until (played_end (resolved t.planned.score)))
-      → Does left source_faults content sure faults source source' sink sink' (Excerpt number begin until) line
+      → Does from source source' to sink sink' (Excerpt number begin until) line
   unfolding score_excerpt
   excerpt_done processes bytes played line count is size told finished = record {
     input = t.text;
@@ -79,7 +79,7 @@ module _ {S K : Type 0} (left : S → Option (List ℕ)) (source_faults : S → 
     made = part_of number begin until t.planned.score;
     makes = record { score = t.planned.score; means = t.planned.means; is = refl };
     done =
-        subst (λ p. IsFinished content sure faults sink sink' p (excerpt_events begin until (played_piece (resolved t.planned.score))
+        subst (λ p. IsFinished to.content to.sure to.faults sink sink' p (excerpt_events begin until (played_piece (resolved t.planned.score))
         (played_end (resolved t.planned.score))) (excerpt_end begin until (played_end (resolved t.planned.score))))
         same_profile finished;
     tells =
@@ -92,16 +92,17 @@ module _ {S K : Type 0} (left : S → Option (List ℕ)) (source_faults : S → 
   }
 
   -- a call failed before it was
-  pub excerpt_cut : IsBroken content sure faults sink sink' profile (excerpt_events begin until (played_piece (resolved t.planned.score))
+  pub excerpt_cut : IsBroken to.content to.sure to.faults sink sink' profile
+      (excerpt_events begin until (played_piece (resolved t.planned.score))
       (played_end (resolved t.planned.score))) (excerpt_end begin until (played_end (resolved t.planned.score)))
-      → Stops left source_faults content sure faults source source' sink sink' (Excerpt number begin until) run.Write
+      → Stops from source source' to sink sink' (Excerpt number begin until) run.Write
   excerpt_cut broken = record {
     input = t.text;
     all = t.all;
     made = part_of number begin until t.planned.score;
     makes = record { score = t.planned.score; means = t.planned.means; is = refl };
     cut =
-        subst (λ p. IsBroken content sure faults sink sink' p (excerpt_events begin until (played_piece (resolved t.planned.score))
+        subst (λ p. IsBroken to.content to.sure to.faults sink sink' p (excerpt_events begin until (played_piece (resolved t.planned.score))
         (played_end (resolved t.planned.score))) (excerpt_end begin until (played_end (resolved t.planned.score))))
         same_profile broken;
   }

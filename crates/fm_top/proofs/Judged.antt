@@ -7,6 +7,7 @@ use Rattle.fm_meaning.specs.Verdict.{HasFault}
 use Rattle.fm_top.specs.Judging.{IsJudged}
 use Rattle.fm_top.specs.declared.run_fault.RunFault.{RunFault}
 use Rattle.fm_top.specs.declared.run_fault.RunFault.TheVariants as run
+use Rattle.fm_top.specs.Seen.{SourceSeen}
 use Rattle.fm_top.specs.Taking.{TakesAll, IsTaken, offered, remaining}
 
 -- the input that the source told, where it was taken to its end
@@ -26,19 +27,19 @@ told_longer o (Some d) text told taken tells =
     omega (arith, ap length whole, length-append text d)
 
 -- the fault of judging a text that was taken to its end
-pub judged_taken : {S : Type 0} (left : S → Option (List ℕ)) (faults : S → ℕ) (asked : Option ℕ) (old new : S) (text slice : List ℕ)
-    (fault : RunFault) → TakesAll MAX_TEXT (offered asked (left old)) (remaining asked (left new)) text → slice ≡ text
-    → IsJudged slice fault → IsTaken left faults asked old new fault
-judged_taken left faults asked old new text slice run.Words all same judged = judged
-judged_taken left faults asked old new text slice run.Read all same judged = absurd judged
-judged_taken left faults asked old new text slice (run.Score spot number) all same judged = record {
+pub judged_taken : {S : Type 0} (from : SourceSeen S) (asked : Option ℕ) (old new : S) (text slice : List ℕ)
+    (fault : RunFault) → TakesAll MAX_TEXT (offered asked (from.left old)) (remaining asked (from.left new)) text → slice ≡ text
+    → IsJudged slice fault → IsTaken from asked old new fault
+judged_taken from asked old new text slice run.Words all same judged = judged
+judged_taken from asked old new text slice run.Read all same judged = absurd judged
+judged_taken from asked old new text slice (run.Score spot number) all same judged = record {
   input = text;
   taken = all.taken;
   whole = inr all.ended;
   holds = subst (λ z. HasFault z spot.line spot.column number) same judged;
 }
-judged_taken left faults asked old new text slice (run.File at number) all same judged = absurd judged
-judged_taken left faults asked old new text slice (run.Record at number) all same judged = absurd judged
-judged_taken left faults asked old new text slice run.NoProcess all same judged = absurd judged
-judged_taken left faults asked old new text slice run.Write all same judged = judged
-judged_taken left faults asked old new text slice run.Memory all same judged = tt
+judged_taken from asked old new text slice (run.File at number) all same judged = absurd judged
+judged_taken from asked old new text slice (run.Record at number) all same judged = absurd judged
+judged_taken from asked old new text slice run.NoProcess all same judged = absurd judged
+judged_taken from asked old new text slice run.Write all same judged = judged
+judged_taken from asked old new text slice run.Memory all same judged = tt

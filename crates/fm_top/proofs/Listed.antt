@@ -1,5 +1,5 @@
 -- What was listed is the listing of what the bytes are read as, and what was refused has its first fault.
-use Rattle.std.proofs.Common.{◌≡◌, ◌≤◌, ℕ, List, length, Option, Some, None, Ok, refl, inl, inr}
+use Rattle.std.proofs.Common.{◌≡◌, ◌≤◌, ℕ, List, length, Some, None, Ok, refl, inl, inr}
 use Rattle.std.proofs.lemmas.Bool.{le-ltb}
 use Rattle.fm_edge.specs.Runs.{Puts, Breaks}
 use Rattle.fm_listing.specs.Listing.{listing}
@@ -12,6 +12,7 @@ use Rattle.fm_top.specs.declared.run_fault.RunFault.TheVariants as run
 use Rattle.fm_top.specs.declared.task.Task.TheVariants as task
 use Rattle.fm_top.specs.Outcome.{Does, Stops}
 use Rattle.fm_top.specs.Products.{IsFaultOfFile, file_fault, listed, too_large}
+use Rattle.fm_top.specs.Seen.{SourceSeen, SinkSeen}
 use Rattle.fm_top.specs.Taking.{TakesAll, TakesLong}
 use Rattle.fm_top.proofs.Verdicts.{long_fault}
 
@@ -21,13 +22,12 @@ pub found_fault : (bytes : List ℕ) (kind : ReadKind) (at number : ℕ) → len
 unfolding file_fault
 found_fault bytes kind at number short is found = rw (le-ltb MAX_FILE (length bytes) short, found, is) refl
 
-module _ {S K : Type 0} (left : S → Option (List ℕ)) (source_faults : S → ℕ)
-    (content : K → Option (List ℕ)) (sure : K → Option ℕ) (faults : K → ℕ)
-    (source source' : S) (sink sink' : K) where
+module _ {S K : Type 0} (from : SourceSeen S) (source source' : S)
+    (to : SinkSeen K) (sink sink' : K) where
   -- the file is listed
-  pub list_done : (bytes : List ℕ) (c : Contents) → TakesAll MAX_FILE (left source) (left source') bytes → contents bytes ≡ Ok c
-      → Puts content sure faults sink sink' (listing c)
-      → Does left source_faults content sure faults source source' sink sink' task.List None
+  pub list_done : (bytes : List ℕ) (c : Contents) → TakesAll MAX_FILE (from.left source) (from.left source') bytes → contents bytes ≡ Ok c
+      → Puts to.content to.sure to.faults sink sink' (listing c)
+      → Does from source source' to sink sink' task.List None
   list_done bytes c all is put = record {
     input = bytes;
     all = all;
@@ -38,9 +38,9 @@ module _ {S K : Type 0} (left : S → Option (List ℕ)) (source_faults : S → 
   }
 
   -- a call failed before it was
-  pub list_cut : (bytes : List ℕ) (c : Contents) → TakesAll MAX_FILE (left source) (left source') bytes → contents bytes ≡ Ok c
-      → Breaks content sure faults sink sink' (listing c)
-      → Stops left source_faults content sure faults source source' sink sink' task.List run.Write
+  pub list_cut : (bytes : List ℕ) (c : Contents) → TakesAll MAX_FILE (from.left source) (from.left source') bytes → contents bytes ≡ Ok c
+      → Breaks to.content to.sure to.faults sink sink' (listing c)
+      → Stops from source source' to sink sink' task.List run.Write
   list_cut bytes c all is broken = record {
     input = bytes;
     all = all;
@@ -50,8 +50,8 @@ module _ {S K : Type 0} (left : S → Option (List ℕ)) (source_faults : S → 
   }
 
   -- too many bytes came
-  pub list_long : TakesLong MAX_FILE (left source) (left source')
-      → sink' ≡ sink → Stops left source_faults content sure faults source source' sink sink' task.List (run.File 0 too_large)
+  pub list_long : TakesLong MAX_FILE (from.left source) (from.left source')
+      → sink' ≡ sink → Stops from source source' to sink sink' task.List (run.File 0 too_large)
   list_long long same = (
     record {
       input = long.text;
@@ -63,11 +63,11 @@ module _ {S K : Type 0} (left : S → Option (List ℕ)) (source_faults : S → 
   )
 
 -- bytes that are no file
-pub list_refused : {S K : Type 0} (left : S → Option (List ℕ)) (source_faults : S → ℕ)
-    (content : K → Option (List ℕ)) (sure : K → Option ℕ) (faults : K → ℕ) (source source' : S) (sink : K) (bytes : List ℕ)
-    (fault : RunFault) → TakesAll MAX_FILE (left source) (left source') bytes → IsFaultOfFile bytes fault
-    → Stops left source_faults content sure faults source source' sink sink task.List fault
-list_refused left source_faults content sure faults source source' sink bytes (run.File at n) all refused = (
+pub list_refused : {S K : Type 0} (from : SourceSeen S) (source source' : S)
+    (to : SinkSeen K) (sink : K) (bytes : List ℕ)
+    (fault : RunFault) → TakesAll MAX_FILE (from.left source) (from.left source') bytes → IsFaultOfFile bytes fault
+    → Stops from source source' to sink sink task.List fault
+list_refused from source source' to sink bytes (run.File at n) all refused = (
   record {
     input = bytes;
     taken = all.taken;
@@ -76,10 +76,10 @@ list_refused left source_faults content sure faults source source' sink bytes (r
   },
   refl,
 )
-list_refused left source_faults content sure faults source source' sink bytes run.Words all refused = absurd refused
-list_refused left source_faults content sure faults source source' sink bytes run.Read all refused = absurd refused
-list_refused left source_faults content sure faults source source' sink bytes (run.Score s n) all refused = absurd refused
-list_refused left source_faults content sure faults source source' sink bytes run.NoProcess all refused = absurd refused
-list_refused left source_faults content sure faults source source' sink bytes run.Write all refused = absurd refused
-list_refused left source_faults content sure faults source source' sink bytes (run.Record at n) all refused = absurd refused
-list_refused left source_faults content sure faults source source' sink bytes run.Memory all refused = absurd refused
+list_refused from source source' to sink bytes run.Words all refused = absurd refused
+list_refused from source source' to sink bytes run.Read all refused = absurd refused
+list_refused from source source' to sink bytes (run.Score s n) all refused = absurd refused
+list_refused from source source' to sink bytes run.NoProcess all refused = absurd refused
+list_refused from source source' to sink bytes run.Write all refused = absurd refused
+list_refused from source source' to sink bytes (run.Record at n) all refused = absurd refused
+list_refused from source source' to sink bytes run.Memory all refused = absurd refused

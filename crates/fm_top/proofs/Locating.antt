@@ -10,6 +10,7 @@ use Rattle.fm_top.specs.declared.run_fault.RunFault.TheVariants as run
 use Rattle.fm_top.specs.declared.task.Task.TheVariants.{Locate}
 use Rattle.fm_top.specs.Outcome.{Does, Stops}
 use Rattle.fm_top.specs.Products.{IsDone, LacksProcess, Product, only_told}
+use Rattle.fm_top.specs.Seen.{SourceSeen, SinkSeen}
 use Rattle.fm_top.specs.Taking.{IsUnlocated, TakesPlan, TakesPosition, offered, remaining}
 use Rattle.fm_top.proofs.Playing.{PlansPlay, lines_taken}
 
@@ -44,23 +45,23 @@ module _ (plays : PlansPlay) (old new : Option (List ℕ)) (plan : PlanParts) (t
     few = omega (arith, few, processes_taken);
   }
 
-module _ {S K : Type 0} (left : S → Option (List ℕ)) (source_faults : S → ℕ)
-    (content : K → Option (List ℕ)) (sure : K → Option ℕ) (faults : K → ℕ)
-    (source source' : S) (sink : K) (number : Option ℕ) (tick process : ℕ) where
+module _ {S K : Type 0} (from : SourceSeen S) (source source' : S)
+    (to : SinkSeen K) (sink : K) (number : Option ℕ) (tick process : ℕ) where
   -- the sink is left alone
-  pub located : (line : Option (List ℕ)) → TakesPosition (offered number (left source)) (remaining number (left source')) tick process line
-      → Does left source_faults content sure faults source source' sink sink (Locate number tick process) line
+  pub located : (line : Option (List ℕ))
+      → TakesPosition (offered number (from.left source)) (remaining number (from.left source')) tick process line
+      → Does from source source' to sink sink (Locate number tick process) line
   located line t = record {
     input = t.text;
     all = t.all;
     made = t.made;
     makes = t.makes;
-    done = subst (λ (m : Product). IsDone content sure faults sink sink m.work) (sym t.makes.is) refl;
+    done = subst (λ (m : Product). IsDone to sink sink m.work) (sym t.makes.is) refl;
     tells = t.told;
   }
 
-  pub unlocated : (fault : RunFault) → IsUnlocated left source_faults number process source source' fault
-      → Stops left source_faults content sure faults source source' sink sink (Locate number tick process) fault
+  pub unlocated : (fault : RunFault) → IsUnlocated from number process source source' fault
+      → Stops from source source' to sink sink (Locate number tick process) fault
   unlocated run.Words none = absurd none
   unlocated run.Read taken = (taken.0, taken.1, refl)
   unlocated (run.Score spot n) taken = (taken, refl)

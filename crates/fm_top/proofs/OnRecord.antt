@@ -15,6 +15,7 @@ use Rattle.fm_top.specs.declared.task.Task.TheVariants as task
 use Rattle.fm_top.specs.Judging.{IsPlanned}
 use Rattle.fm_top.specs.Outcome.{Does, Stops}
 use Rattle.fm_top.specs.Products.{on_record}
+use Rattle.fm_top.specs.Seen.{SourceSeen, SinkSeen}
 use Rattle.fm_top.specs.Summing.{totals}
 use Rattle.fm_top.specs.Taking.{TakesAll, TakesPlan, offered, remaining}
 use Rattle.fm_top.proofs.Playing.{PlansPlay, LastLinesEnd, totals_taken}
@@ -25,43 +26,42 @@ abbrev pub plan_taken : (old new : Option (List ℕ)) (plan : PlanParts) (text :
 plan_taken old new plan text all planned = record { text = text; all = all; planned = planned }
 
 -- the head was put, and the steps were not
-pub put_broken : {K : Type 0} (content : K → Option (List ℕ)) (sure : K → Option ℕ) (faults : K → ℕ) {T E : Type 0}
+pub put_broken : {K : Type 0} (to : SinkSeen K) {T E : Type 0}
     (r : Result T E) (a b c : K) (front head rest told steps : List ℕ) → front ≡ head ++ rest → rest ≡ [] → told ≡ steps
-    → Puts content sure faults a b front → OnErr r (Breaks content sure faults b c told)
-    → OnErr r (Breaks content sure faults a c (head ++ steps))
-put_broken content sure faults (Ok x) a b c front head rest told steps same none is p q = tt
-put_broken content sure faults (Err e) a b c front head rest told steps same none is p q =
-    breaks_after content sure faults a b c head steps
-    (subst (λ (z : List ℕ). Puts content sure faults a b z) (same ∙ ap (λ (z : List ℕ). head ++ z) none ∙ append-nil head) p)
-    (subst (λ (z : List ℕ). Breaks content sure faults b c z) is q)
+    → Puts to.content to.sure to.faults a b front → OnErr r (Breaks to.content to.sure to.faults b c told)
+    → OnErr r (Breaks to.content to.sure to.faults a c (head ++ steps))
+put_broken to (Ok x) a b c front head rest told steps same none is p q = tt
+put_broken to (Err e) a b c front head rest told steps same none is p q =
+    breaks_after to.content to.sure to.faults a b c head steps
+    (subst (λ (z : List ℕ). Puts to.content to.sure to.faults a b z) (same ∙ ap (λ (z : List ℕ). head ++ z) none ∙ append-nil head) p)
+    (subst (λ (z : List ℕ). Breaks to.content to.sure to.faults b c z) is q)
 
-module _ {S K : Type 0} (left : S → Option (List ℕ)) (source_faults : S → ℕ)
-    (content : K → Option (List ℕ)) (sure : K → Option ℕ) (faults : K → ℕ)
-    (source source' : S) (sink sink' : K) (number : Option ℕ) (workers room lead : ℕ)
+module _ {S K : Type 0} (from : SourceSeen S) (source source' : S)
+    (to : SinkSeen K) (sink sink' : K) (number : Option ℕ) (workers room lead : ℕ)
     (plays : PlansPlay) (last : LastLinesEnd) (plan : PlanParts)
-    (t : TakesPlan (offered number (left source)) (remaining number (left source')) plan)
+    (t : TakesPlan (offered number (from.left source)) (remaining number (from.left source')) plan)
     (head : List ℕ) (same : head ≡ head_bytes (workers + 1) room lead t.text) (steps : List ℕ) (are : AreSteps steps) where
   -- the record is put, and this is what there is to tell of it
   pub record_done : (processes : ℕ) (played : Played) (line : Option (List ℕ)) → processes ≡ length plan.programs
       → played ≡ played_of plan → line ≡ option_map (λ _. summary_line (totals processes played)) number
-      → Puts content sure faults sink sink' (head ++ steps)
-      → Does left source_faults content sure faults source source' sink sink' (task.Record number workers room lead) line
+      → Puts to.content to.sure to.faults sink sink' (head ++ steps)
+      → Does from source source' to sink sink' (task.Record number workers room lead) line
   record_done processes played line count is told put = record {
     input = t.text;
     all = t.all;
     made = on_record number (head_bytes (workers + 1) room lead t.text ++ steps) t.planned.score;
     makes = record { score = t.planned.score; means = t.planned.means; steps = steps; are_steps = are; is = refl };
-    done = subst (λ (z : List ℕ). Puts content sure faults sink sink' (z ++ steps)) same put;
+    done = subst (λ (z : List ℕ). Puts to.content to.sure to.faults sink sink' (z ++ steps)) same put;
     tells = told ∙ ap (λ s. option_map (λ _. summary_line s) number) (totals_taken plays last _ _ plan t processes played count is);
   }
 
   -- a call failed before it was
-  pub record_cut : Breaks content sure faults sink sink' (head ++ steps)
-      → Stops left source_faults content sure faults source source' sink sink' (task.Record number workers room lead) run.Write
+  pub record_cut : Breaks to.content to.sure to.faults sink sink' (head ++ steps)
+      → Stops from source source' to sink sink' (task.Record number workers room lead) run.Write
   record_cut broken = record {
     input = t.text;
     all = t.all;
     made = on_record number (head_bytes (workers + 1) room lead t.text ++ steps) t.planned.score;
     makes = record { score = t.planned.score; means = t.planned.means; steps = steps; are_steps = are; is = refl };
-    cut = subst (λ (z : List ℕ). Breaks content sure faults sink sink' (z ++ steps)) same broken;
+    cut = subst (λ (z : List ℕ). Breaks to.content to.sure to.faults sink sink' (z ++ steps)) same broken;
   }

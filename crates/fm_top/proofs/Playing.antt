@@ -22,6 +22,7 @@ use Rattle.fm_gen.specs.declared.summary.Summary.{Summary}
 use Rattle.fm_top.specs.declared.run_fault.RunFault.{RunFault}
 use Rattle.fm_top.specs.declared.run_fault.RunFault.TheVariants as run
 use Rattle.fm_top.specs.declared.task.Task.TheVariants.{Play}
+use Rattle.fm_top.specs.Seen.{SourceSeen, SinkSeen}
 use Rattle.fm_top.specs.Summing.{totals}
 use Rattle.fm_top.specs.Taking.{TakesPlan, offered, remaining}
 use Rattle.fm_top.specs.Outcome.{Does, Stops, StopsAt}
@@ -71,11 +72,10 @@ totals_taken plays last o n plan t processes played count is =
     ∙ ap (λ ls. summed (profile_of t.planned.score) ls (piece_end ls)) (lines_taken plays o n plan t)
     ∙ ap (summed (profile_of t.planned.score) (played_lines r)) (last t.text t.planned.score t.planned.means)
 
-module _ {S K : Type 0} (left : S → Option (List ℕ)) (source_faults : S → ℕ)
-    (content : K → Option (List ℕ)) (sure : K → Option ℕ) (faults : K → ℕ)
-    (source source' : S) (sink sink' : K) (number : Option ℕ)
+module _ {S K : Type 0} (from : SourceSeen S) (source source' : S)
+    (to : SinkSeen K) (sink sink' : K) (number : Option ℕ)
     (plays : PlansPlay) (last : LastLinesEnd) (plan : PlanParts)
-    (t : TakesPlan (offered number (left source)) (remaining number (left source')) plan) where
+    (t : TakesPlan (offered number (from.left source)) (remaining number (from.left source')) plan) where
   -- the lines that are played
   lines : plan_lines plan ≡ played_lines (resolved t.planned.score)
   lines = lines_taken plays _ _ plan t
@@ -88,25 +88,25 @@ module _ {S K : Type 0} (left : S → Option (List ℕ)) (source_faults : S → 
   pub performed : (processes : ℕ) (played : Played) (line : Option (List ℕ))
       → processes ≡ length plan.programs → played ≡ played_of plan
       → line ≡ option_map (λ _. summary_line (totals processes played)) number
-      → IsFinished content sure faults sink sink' plan.profile (piece (plan_lines plan)) (piece_end (plan_lines plan))
-      → Does left source_faults content sure faults source source' sink sink' (Play number) line
+      → IsFinished to.content to.sure to.faults sink sink' plan.profile (piece (plan_lines plan)) (piece_end (plan_lines plan))
+      → Does from source source' to sink sink' (Play number) line
   performed processes played line count is told finished = record {
     input = t.text;
     all = t.all;
     made = performance number t.planned.score;
     makes = record { score = t.planned.score; means = t.planned.means; is = refl };
     done =
-        subst (λ e. IsFinished content sure faults sink sink' (profile_of t.planned.score) (played_piece (resolved t.planned.score)) e)
+        subst (λ e. IsFinished to.content to.sure to.faults sink sink' (profile_of t.planned.score) (played_piece (resolved t.planned.score)) e)
         (last t.text t.planned.score t.planned.means)
-        (subst (λ ls. IsFinished content sure faults sink sink' (profile_of t.planned.score) (piece ls) (piece_end ls)) lines
-        (subst (λ p. IsFinished content sure faults sink sink' p (piece (plan_lines plan)) (piece_end (plan_lines plan)))
+        (subst (λ ls. IsFinished to.content to.sure to.faults sink sink' (profile_of t.planned.score) (piece ls) (piece_end ls)) lines
+        (subst (λ p. IsFinished to.content to.sure to.faults sink sink' p (piece (plan_lines plan)) (piece_end (plan_lines plan)))
         profile finished));
     tells = told ∙ ap (λ s. option_map (λ _. summary_line s) number) (totals_taken plays last _ _ plan t processes played count is);
   }
 
   -- the play of the plan stopped: a call failed before it was, or memory was wanting
-  pub play_stopped : (fault : RunFault) → StopsAt content sure faults sink sink' plan fault
-      → Stops left source_faults content sure faults source source' sink sink' (Play number) fault
+  pub play_stopped : (fault : RunFault) → StopsAt to sink sink' plan fault
+      → Stops from source source' to sink sink' (Play number) fault
   play_stopped run.Words none = absurd none
   play_stopped run.Read none = absurd none
   play_stopped (run.Score spot n) none = absurd none
@@ -120,9 +120,9 @@ module _ {S K : Type 0} (left : S → Option (List ℕ)) (source_faults : S → 
     made = performance number t.planned.score;
     makes = record { score = t.planned.score; means = t.planned.means; is = refl };
     cut =
-        subst (λ e. IsBroken content sure faults sink sink' (profile_of t.planned.score) (played_piece (resolved t.planned.score)) e)
+        subst (λ e. IsBroken to.content to.sure to.faults sink sink' (profile_of t.planned.score) (played_piece (resolved t.planned.score)) e)
         (last t.text t.planned.score t.planned.means)
-        (subst (λ ls. IsBroken content sure faults sink sink' (profile_of t.planned.score) (piece ls) (piece_end ls)) lines
-        (subst (λ p. IsBroken content sure faults sink sink' p (piece (plan_lines plan)) (piece_end (plan_lines plan)))
+        (subst (λ ls. IsBroken to.content to.sure to.faults sink sink' (profile_of t.planned.score) (piece ls) (piece_end ls)) lines
+        (subst (λ p. IsBroken to.content to.sure to.faults sink sink' p (piece (plan_lines plan)) (piece_end (plan_lines plan)))
         profile broken));
   }

@@ -11,7 +11,7 @@ use Rattle.fm_top.specs.declared.run_fault.RunFault.{RunFault}
 use Rattle.fm_top.specs.declared.run_fault.RunFault.TheVariants as run
 use Rattle.fm_top.specs.Products.{MakesAudited, Product, performance}
 use Rattle.fm_top.specs.Records.{HasVerdict, IsAccepted, IsFaultOfRecord, IsRecord, Parts, RecordFails, TextFails, begins, passes, step_fault, strays}
-use Rattle.fm_top.proofs.TextVerdicts.{TextVerdict, text_apart, text_fault}
+use Rattle.fm_top.proofs.TextVerdicts.{TextVerdict, text_fault}
 
 -- ---- the parts of a record
 

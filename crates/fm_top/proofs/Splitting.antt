@@ -26,6 +26,7 @@ use Rattle.fm_top.specs.declared.run_fault.RunFault.TheVariants as run
 use Rattle.fm_top.specs.declared.task.Task.TheVariants.{Split}
 use Rattle.fm_top.specs.Outcome.{Does, Stops}
 use Rattle.fm_top.specs.Products.{score_file, score_parts, score_summary, split, totals_with}
+use Rattle.fm_top.specs.Seen.{SourceSeen, SinkSeen}
 use Rattle.fm_top.specs.Summing.{totals}
 use Rattle.fm_top.specs.Taking.{TakesPlan, offered, remaining}
 use Rattle.fm_top.proofs.Playing.{PlansPlay, LastLinesEnd, lines_taken, profile_taken, totals_taken}
@@ -88,11 +89,10 @@ pub with_size : (processes bytes : ℕ) (played : Played) (s : tree.Score) → t
 unfolding score_summary
 with_size processes bytes played s same = ap (λ (z : Summary). record z { bytes = bytes }) same
 
-module _ {S K : Type 0} (left : S → Option (List ℕ)) (source_faults : S → ℕ)
-    (content : K → Option (List ℕ)) (sure : K → Option ℕ) (faults : K → ℕ)
-    (source source' : S) (sink sink' : K) (number : Option ℕ)
+module _ {S K : Type 0} (from : SourceSeen S) (source source' : S)
+    (to : SinkSeen K) (sink sink' : K) (number : Option ℕ)
     (plays : PlansPlay) (last : LastLinesEnd) (plan : PlanParts)
-    (t : TakesPlan (offered number (left source)) (remaining number (left source')) plan) where
+    (t : TakesPlan (offered number (from.left source)) (remaining number (from.left source')) plan) where
   -- the parts are put, and this is what there is to tell of them
   pub split_done : (processes bytes : ℕ) (played : Played) (line : Option (List ℕ))
       → processes ≡ length plan.programs → played ≡ played_of plan
@@ -100,9 +100,9 @@ module _ {S K : Type 0} (left : S → Option (List ℕ)) (source_faults : S → 
       (played_end (resolved t.planned.score)))
       → line ≡ option_map (λ _. summary_line (totals processes
       (record { events = played.events; last = played.last; bytes = bytes }))) number
-      → Puts content sure faults sink sink' (format1 (profile_of t.planned.score).division
+      → Puts to.content to.sure to.faults sink sink' (format1 (profile_of t.planned.score).division
       (map as_message (played_piece (resolved t.planned.score))) (played_end (resolved t.planned.score)))
-      → Does left source_faults content sure faults source source' sink sink' (Split number) line
+      → Does from source source' to sink sink' (Split number) line
   unfolding score_parts
   split_done processes bytes played line count is size told put = record {
     input = t.text;
@@ -118,9 +118,9 @@ module _ {S K : Type 0} (left : S → Option (List ℕ)) (source_faults : S → 
   }
 
   -- a call failed before they were
-  pub split_cut : Breaks content sure faults sink sink' (format1 (profile_of t.planned.score).division
+  pub split_cut : Breaks to.content to.sure to.faults sink sink' (format1 (profile_of t.planned.score).division
       (map as_message (played_piece (resolved t.planned.score))) (played_end (resolved t.planned.score)))
-      → Stops left source_faults content sure faults source source' sink sink' (Split number) run.Write
+      → Stops from source source' to sink sink' (Split number) run.Write
   unfolding score_parts
   split_cut broken = record {
     input = t.text;

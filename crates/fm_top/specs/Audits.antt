@@ -1,25 +1,26 @@
 -- What the audit of some bytes says of them and of the sink.
-use Rattle.std.specs.Prelude.{◌≡◌, ℕ, List, Option, Some}
+use Rattle.std.specs.Prelude.{◌≡◌, ℕ, List, Some}
 use Rattle.fm_audit.specs.declared.fault.AuditFault.{AuditFault}
 use Rattle.fm_audit.specs.declared.fault.AuditFault.TheVariants as audit
 use Rattle.fm_top.specs.Products.{IsCutOff, IsDone, MakesAudited, Product}
 use Rattle.fm_top.specs.Records.{RecordFails, TextFails, step_fault}
 use Rattle.fm_top.specs.declared.run_fault.RunFault.{RunFault}
 use Rattle.fm_top.specs.declared.run_fault.RunFault.TheVariants as run
+use Rattle.fm_top.specs.Seen.{SinkSeen}
 
-module _ {K : Type 0} (content : K → Option (List ℕ)) (sure : K → Option ℕ) (faults : K → ℕ) (sink sink' : K)
+module _ {K : Type 0} (to : SinkSeen K) (sink sink' : K)
     (bytes : List ℕ) where
   -- the record is accepted, and the file of its score is written
   pub record Accepts : Type 0 where
     pub made : Product
     pub makes : MakesAudited bytes made
-    pub done : IsDone content sure faults sink sink' made.work
+    pub done : IsDone to sink sink' made.work
 
   -- it is accepted, but a call failed before its file was in the sink
   pub record CutsOff : Type 0 where
     pub made : Product
     pub makes : MakesAudited bytes made
-    pub cut : IsCutOff content sure faults sink sink' made.work
+    pub cut : IsCutOff to sink sink' made.work
 
   -- what a fault says of the bytes and of the sink
   abbrev pub Rejects : RunFault → Type 0

@@ -1,3 +1,4 @@
+pub mod Seen
 pub mod Tasks
 pub mod Judging
 pub mod Records

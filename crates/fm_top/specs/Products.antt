@@ -28,6 +28,7 @@ use Rattle.fm_top.specs.declared.run_fault.RunFault.{RunFault}
 use Rattle.fm_top.specs.declared.run_fault.RunFault.TheVariants as run
 use Rattle.fm_top.specs.declared.task.Task.{Task}
 use Rattle.fm_top.specs.declared.task.Task.TheVariants as task
+use Rattle.fm_top.specs.Seen.{SinkSeen}
 
 -- ---- what is done with the sink
 
@@ -44,17 +45,17 @@ size_of (writes profile events end) = length (file profile events end)
 size_of (puts bytes) = length bytes
 size_of leaves = 0
 
-module _ {K : Type 0} (content : K → Option (List ℕ)) (sure : K → Option ℕ) (faults : K → ℕ) (sink sink' : K) where
+module _ {K : Type 0} (to : SinkSeen K) (sink sink' : K) where
   -- it is done
   abbrev pub IsDone : Work → Type 0
-  IsDone (writes profile events end) = IsFinished content sure faults sink sink' profile events end
-  IsDone (puts bytes) = Puts content sure faults sink sink' bytes
+  IsDone (writes profile events end) = IsFinished to.content to.sure to.faults sink sink' profile events end
+  IsDone (puts bytes) = Puts to.content to.sure to.faults sink sink' bytes
   IsDone leaves = sink' ≡ sink
 
   -- a call failed before it was
   abbrev pub IsCutOff : Work → Type 0
-  IsCutOff (writes profile events end) = IsBroken content sure faults sink sink' profile events end
-  IsCutOff (puts bytes) = Breaks content sure faults sink sink' bytes
+  IsCutOff (writes profile events end) = IsBroken to.content to.sure to.faults sink sink' profile events end
+  IsCutOff (puts bytes) = Breaks to.content to.sure to.faults sink sink' bytes
   IsCutOff leaves = ⊥
 
 -- ---- what is made

@@ -12,19 +12,23 @@ use Rattle.fm_record.specs.declared.limits.TheConstants.{MAX_RECORD}
 use Rattle.fm_top.specs.declared.run_fault.RunFault.{RunFault}
 use Rattle.fm_top.specs.declared.run_fault.RunFault.TheVariants as run
 
--- the numbers of the faults of a record: its head, the next step, a step that is refused, its end, and its length
+-- the number of a head that is cut, or that has a field which cannot stand
 abbrev pub bad_head : ℕ
 bad_head = 41
 
+-- of bytes where a step should begin and none does
 abbrev pub bad_step : ℕ
 bad_step = 43
 
+-- of a step that the core refuses
 abbrev pub refused_step : ℕ
 refused_step = 44
 
+-- of steps that do not bring the run to its end
 abbrev pub unfinished_run : ℕ
 unfinished_run = 45
 
+-- of more bytes than a record may have
 abbrev pub too_long : ℕ
 too_long = 46
 

@@ -12,6 +12,7 @@ use Rattle.fm_top.specs.Judging.{IsPlanned}
 use Rattle.fm_top.specs.Products.{LacksProcess, MakesPosition, Product}
 use Rattle.fm_top.specs.declared.run_fault.RunFault.{RunFault}
 use Rattle.fm_top.specs.declared.run_fault.RunFault.TheVariants as run
+use Rattle.fm_top.specs.Seen.{SourceSeen}
 
 -- the text that there is to take, where it is told: the large score of a number, where one is asked for; else what the
 -- source has left
@@ -29,11 +30,11 @@ abbrev pub IsLeftAlone : {S : Type 0} → Option ℕ → S → S → Type 0
 IsLeftAlone asked old new = (number : ℕ) → asked ≡ Some number → new ≡ old
 
 -- bytes were taken that pass the limit by one at most, and the count of faults didn't fall
-pub record Takes {S : Type 0} (left : S → Option (List ℕ)) (faults : S → ℕ) (most : ℕ) (old new : S) : Type 0 where
+pub record Takes {S : Type 0} (from : SourceSeen S) (most : ℕ) (old new : S) : Type 0 where
   pub text : List ℕ
-  pub taken : left old ≡ prepend_known text (left new)
+  pub taken : from.left old ≡ prepend_known text (from.left new)
   pub few : length text ≤ most + 1
-  pub later : faults old ≤ faults new
+  pub later : from.faults old ≤ from.faults new
 
 -- an input was taken to its end, which is within the limit
 pub record TakesAll (most : ℕ) (old new : Option (List ℕ)) (text : List ℕ) : Type 0 where
@@ -68,14 +69,13 @@ pub record TakesPlan (old new : Option (List ℕ)) (plan : PlanParts) : Type 0 w
 
 -- the fault of taking a score: a read failed, where no large score was asked for; or the text was taken and has a
 -- fault; or want of memory
-abbrev pub IsTaken : {S : Type 0} → (left : S → Option (List ℕ)) → (faults : S → ℕ) → (asked : Option ℕ) → (old new : S)
-    → RunFault → Type 0
-IsTaken left faults asked old new run.Read = (asked ≡ None) × Rose (faults old) (faults new)
-IsTaken left faults asked old new (run.Score spot number) =
-    TakesRefused MAX_TEXT (offered asked (left old)) (remaining asked (left new))
+abbrev pub IsTaken : {S : Type 0} → SourceSeen S → (asked : Option ℕ) → (old new : S) → RunFault → Type 0
+IsTaken from asked old new run.Read = (asked ≡ None) × Rose (from.faults old) (from.faults new)
+IsTaken from asked old new (run.Score spot number) =
+    TakesRefused MAX_TEXT (offered asked (from.left old)) (remaining asked (from.left new))
     (λ text. HasFault text spot.line spot.column number)
-IsTaken left faults asked old new run.Memory = Unit {0}
-IsTaken left faults asked old new fault = ⊥
+IsTaken from asked old new run.Memory = Unit {0}
+IsTaken from asked old new fault = ⊥
 
 -- a text was taken to its end; it means a score that has the process, and this is the line for the tick
 pub record TakesPosition (old new : Option (List ℕ)) (tick process : ℕ) (line : Option (List ℕ)) : Type 0 where
@@ -86,8 +86,9 @@ pub record TakesPosition (old new : Option (List ℕ)) (tick process : ℕ) (lin
   pub told : line ≡ made.told
 
 -- the fault of taking a score for a position: that of taking a score, or that the score has no such process
-abbrev pub IsUnlocated : {S : Type 0} → (left : S → Option (List ℕ)) → (faults : S → ℕ) → (asked : Option ℕ)
-    → (process : ℕ) → (old new : S) → RunFault → Type 0
-IsUnlocated left faults asked process old new run.NoProcess =
-    TakesRefused MAX_TEXT (offered asked (left old)) (remaining asked (left new)) (λ text. LacksProcess process text)
-IsUnlocated left faults asked process old new fault = IsTaken left faults asked old new fault
+abbrev pub IsUnlocated : {S : Type 0} → SourceSeen S → (asked : Option ℕ) → (process : ℕ) → (old new : S) → RunFault
+    → Type 0
+IsUnlocated from asked process old new run.NoProcess =
+    TakesRefused MAX_TEXT (offered asked (from.left old)) (remaining asked (from.left new))
+    (λ text. LacksProcess process text)
+IsUnlocated from asked process old new fault = IsTaken from asked old new fault

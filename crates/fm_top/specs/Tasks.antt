@@ -1,11 +1,11 @@
 -- What a run is asked to do, and what it may take for it.
-use Rattle.std.specs.Prelude.{ℕ, ◌<◌, ◌≤◌, nat_eq, if◌then◌else◌, Option, Some, None, option_map}
+use Rattle.std.specs.Prelude.{ℕ, ◌<◌, ◌≤◌, nat_eq, if◌then◌else◌, List, map, Option, Some, None, option_map, String, string_bytes}
 use Rattle.fm_buffer.specs.declared.outbox.TheConstants.{MAX_ROOM}
 use Rattle.fm_core.specs.declared.limits.TheConstants.{MAX_LEAD, MAX_SEATS}
 use Rattle.fm_lex.specs.declared.lexer.TheConstants.{MAX_TEXT}
 use Rattle.fm_read.specs.declared.limits.TheConstants.{MAX_FILE}
 use Rattle.fm_record.specs.declared.limits.TheConstants.{MAX_RECORD}
-use Rattle.fm_words.specs.Settings.{Settings}
+use Rattle.fm_words.specs.Settings.{Settings, settings_of}
 use Rattle.fm_top.specs.declared.task.Task.{Task}
 use Rattle.fm_top.specs.declared.task.Task.TheVariants as task
 
@@ -35,9 +35,9 @@ task_of settings =
     else or_locate settings.generate settings.locate settings.process
     (if settings.parts then task.Split settings.generate else window_task settings.generate settings.from settings.to)
 
--- the task that is asked for, where the words are not refused
-abbrev pub task_asked : Option Settings → Option Task
-task_asked asked = option_map task_of asked
+-- the task that words ask for, where they are not refused
+abbrev pub asked_by : {A : Type 0} → List (String A) → Option Task
+asked_by words = option_map task_of (settings_of (map string_bytes words))
 
 -- the number of the large score that is played in place of a text, where one is asked for; who lists or audits has
 -- none

@@ -4,6 +4,7 @@ use Rattle.fm_edge.specs.Runs.{Puts, Breaks}
 use Rattle.fm_top.specs.declared.status.TheConstants.{DONE, WORDS_REFUSED, READ_FAULT, SCORE_REFUSED, WRITE_FAULT, CONSOLE_FAULT, OUT_OF_MEMORY, NO_PROCESS}
 use Rattle.fm_top.specs.declared.run_fault.RunFault.{RunFault}
 use Rattle.fm_top.specs.declared.run_fault.RunFault.TheVariants.{Words, Read, Score, File, Record, NoProcess, Write, Memory}
+use Rattle.fm_top.specs.Seen.{ConsoleSeen}
 
 -- the status of a fault
 abbrev pub fault_status : RunFault → ℕ
@@ -45,13 +46,14 @@ fault_text NoProcess = codes "formula: no such process\n"
 fault_text Write = codes "formula: write fault\n"
 fault_text Memory = codes "formula: out of memory\n"
 
-module _ {C : Type 0} (content : C → Option (List ℕ)) (sure : C → Option ℕ) (faults : C → ℕ)
+module _ {C : Type 0} (on : ConsoleSeen C)
     (console console' : C) where
   -- the text is told and the status is the verdict; or the console failed, a front of the text is told, and the status
   -- says so
   pub data Tells (text : List ℕ) (verdict status : ℕ) : Type 0 where
-    told : status ≡ verdict → Puts content sure faults console console' text → Tells text verdict status
-    untold : status ≡ CONSOLE_FAULT → Breaks content sure faults console console' text → Tells text verdict status
+    told : status ≡ verdict → Puts on.content on.sure on.faults console console' text → Tells text verdict status
+    untold : status ≡ CONSOLE_FAULT → Breaks on.content on.sure on.faults console console' text
+        → Tells text verdict status
 
   -- of a task that is done nothing is told, or its line where there is one
   abbrev pub TellsEnd : Option (List ℕ) → ℕ → Type 0

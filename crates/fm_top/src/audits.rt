@@ -39,11 +39,11 @@ pub fn audit_record<S: Source, K: Sink>(
     sink: &mut K,
 ) -> Result<(), RunFault>
     requires new { IsNew (K.content sink.old) }
-    ensures takes { Takes S.left S.faults MAX_RECORD source.old source.new }
-    ensures ok { OnOk result (Does S.left S.faults K.content K.sure K.faults
-        source.old source.new sink.old sink.new task.Audit None) }
-    ensures err { IfErr result (Stops S.left S.faults K.content K.sure K.faults
-        source.old source.new sink.old sink.new task.Audit) }
+    ensures takes { Takes S.Source MAX_RECORD source.old source.new }
+    ensures ok { OnOk result (Does S.Source source.old source.new K.Sink sink.old sink.new
+        task.Audit None) }
+    ensures err { IfErr result (Stops S.Source source.old source.new K.Sink sink.old sink.new
+        task.Audit) }
 {
     let bytes = match read_input(alloc, source, MAX_RECORD) {
         Ok(bytes) => bytes,
@@ -63,10 +63,8 @@ pub fn audit_record<S: Source, K: Sink>(
 fn audit_bytes<K: Sink>(alloc: Global, bytes: &[u8], sink: &mut K) -> Result<(), RunFault>
     requires short { length bytes.now ≤ MAX_RECORD }
     requires new { IsNew (K.content sink.old) }
-    ensures ok { OnOk result
-        (Accepts K.content K.sure K.faults sink.old sink.new bytes.now) }
-    ensures err { IfErr result
-        (Rejects K.content K.sure K.faults sink.old sink.new bytes.now) }
+    ensures ok { OnOk result (Accepts K.Sink sink.old sink.new bytes.now) }
+    ensures err { IfErr result (Rejects K.Sink sink.old sink.new bytes.now) }
 {
     let reel = match header(bytes) {
         Ok(reel) => reel,

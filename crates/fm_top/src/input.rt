@@ -17,7 +17,7 @@ pub fn read_input<S: Source>(
     most: usize,
 ) -> Result<Vec<u8>, ReadFault>
     requires { most < 2 ^ 32 }
-    ensures takes { Takes S.left S.faults most source.old source.new }
+    ensures takes { Takes S.Source most source.old source.new }
     ensures text { IfOk result
         (λ t. TakesAll most (S.left source.old) (S.left source.new) t.items) }
     ensures long { IsErrOf result ReadFault.TooLong

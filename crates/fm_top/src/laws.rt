@@ -9,7 +9,7 @@ use fm_position::ticks_are_told_once;
 /// Two runs of one text that end with status 0 leave the same file in sinks that held the same,
 /// however many workers there are, whatever the lead and the room, and in rounds or not.
 pub fn same_file_for_every_schedule<S: Source, K: Sink>()
-    ensures same { SameFile S.left S.faults K.content K.sure K.faults }
+    ensures same { SameFile S.Source K.Sink }
 {
     each_text_has_one_verdict();
 }

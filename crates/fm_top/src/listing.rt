@@ -27,11 +27,11 @@ pub fn list_file<S: Source, K: Sink>(
     source: &mut S,
     sink: &mut K,
 ) -> Result<(), RunFault>
-    ensures takes { Takes S.left S.faults MAX_FILE source.old source.new }
-    ensures ok { OnOk result (Does S.left S.faults K.content K.sure K.faults
-        source.old source.new sink.old sink.new task.List None) }
-    ensures err { IfErr result (Stops S.left S.faults K.content K.sure K.faults
-        source.old source.new sink.old sink.new task.List) }
+    ensures takes { Takes S.Source MAX_FILE source.old source.new }
+    ensures ok { OnOk result (Does S.Source source.old source.new K.Sink sink.old sink.new
+        task.List None) }
+    ensures err { IfErr result (Stops S.Source source.old source.new K.Sink sink.old sink.new
+        task.List) }
 {
     let bytes = match read_input(alloc, source, MAX_FILE) {
         Ok(bytes) => bytes,

@@ -33,7 +33,7 @@ pub fn play<R: Threads + Wait + Sync, G: Gate + Sync, K: Sink>(
     requires new { IsNew (K.content sink.old) }
     ensures ok { OnOk result (IsFinished K.content K.sure K.faults sink.old sink.new
         plan.profile (piece (plan_lines plan)) (piece_end (plan_lines plan))) }
-    ensures err { IfErr result (StopsAt K.content K.sure K.faults sink.old sink.new plan) }
+    ensures err { IfErr result (StopsAt K.Sink sink.old sink.new plan) }
     ensures played { IfOk result (λ played. played ≡ played_of plan) }
 {
     if options.workers == 0 {
@@ -56,7 +56,7 @@ fn play_alone<K: Sink>(
     requires new { IsNew (K.content sink.old) }
     ensures ok { OnOk result (IsFinished K.content K.sure K.faults sink.old sink.new
         plan.profile (piece (plan_lines plan)) (piece_end (plan_lines plan))) }
-    ensures err { IfErr result (StopsAt K.content K.sure K.faults sink.old sink.new plan) }
+    ensures err { IfErr result (StopsAt K.Sink sink.old sink.new plan) }
     ensures played { IfOk result (λ played. played ≡ played_of plan) }
 {
     let rounds = Rounds::open(alloc, plan, options.room, options.lead)?;
@@ -76,7 +76,7 @@ fn play_in_rounds<R: Threads + Sync, G: Gate + Sync, K: Sink>(
     requires new { IsNew (K.content sink.old) }
     ensures ok { OnOk result (IsFinished K.content K.sure K.faults sink.old sink.new
         plan.profile (piece (plan_lines plan)) (piece_end (plan_lines plan))) }
-    ensures err { IfErr result (StopsAt K.content K.sure K.faults sink.old sink.new plan) }
+    ensures err { IfErr result (StopsAt K.Sink sink.old sink.new plan) }
     ensures played { IfOk result (λ played. played ≡ played_of plan) }
 {
     let rounds = Rounds::open(alloc, plan, options.room, options.lead)?;
@@ -96,7 +96,7 @@ fn play_by_crew<R: Threads + Wait + Sync, G: Gate + Sync, K: Sink>(
     requires new { IsNew (K.content sink.old) }
     ensures ok { OnOk result (IsFinished K.content K.sure K.faults sink.old sink.new
         plan.profile (piece (plan_lines plan)) (piece_end (plan_lines plan))) }
-    ensures err { IfErr result (StopsAt K.content K.sure K.faults sink.old sink.new plan) }
+    ensures err { IfErr result (StopsAt K.Sink sink.old sink.new plan) }
     ensures played { IfOk result (λ played. played ≡ played_of plan) }
 {
     let (board, mut seat, others, mut gather) = fm_crew::open(

@@ -26,12 +26,12 @@ pub fn locate_tick<S: Source>(
 ) -> Result<Told, RunFault>
     requires number { IfSome number (λ n. n ≤ MAX_NUMBER) }
     requires tick { tick ≤ MAX_TICK }
-    ensures takes { Takes S.left S.faults MAX_TEXT source.old source.new }
+    ensures takes { Takes S.Source MAX_TEXT source.old source.new }
     ensures unread { IsLeftAlone number source.old source.new }
     ensures ok { IfOk result (λ told. TakesPosition (offered number (S.left source.old))
         (remaining number (S.left source.new)) tick process (told_text told)) }
     ensures err { IfErr result (λ fault.
-        IsUnlocated S.left S.faults number process source.old source.new fault) }
+        IsUnlocated S.Source number process source.old source.new fault) }
 {
     let plan = read_score(alloc, number, source)?;
     plans_play_the_score();

@@ -1,13 +1,12 @@
 //! A run, from the words to what they ask for.
-ghost use Rattle.std.specs.Prelude.{◌≡◌, ◌≤◌, Some, map, string_bytes, IfOk, IfErr, IfSome};
+ghost use Rattle.std.specs.Prelude.{◌≡◌, ◌≤◌, Some, IfOk, IfErr, IfSome};
 ghost use Rattle.fm_edge.specs.Content.{IsNew};
 ghost use Rattle.fm_gen.specs.declared.score.TheConstants.{MAX_NUMBER};
 ghost use Rattle.fm_tick.specs.declared.tick.TheConstants.{MAX_TICK};
-ghost use Rattle.fm_words.specs.Settings.{settings_of};
 ghost use Rattle.fm_words.specs.View.{HasRanges, options_view};
 ghost use Rattle.fm_top.specs.Taking.{Takes, IsLeftAlone};
-ghost use Rattle.fm_top.specs.Tasks.{CanDo, most_asked, most_of, number_asked, number_of};
-ghost use Rattle.fm_top.specs.Tasks.{task_asked, tick_of};
+ghost use Rattle.fm_top.specs.Tasks.{CanDo, asked_by, most_asked, most_of, number_asked};
+ghost use Rattle.fm_top.specs.Tasks.{number_of, tick_of};
 ghost use Rattle.fm_top.specs.Outcome.{Does, Stops, Holds};
 ghost use Rattle.fm_top.specs.Summing.{told_text};
 ghost use Rattle.fm_top.specs.declared.task.Task.{Task as What};
@@ -39,20 +38,12 @@ pub fn run<R: Threads + Wait + Sync, S: Source, K: Sink, G: Gate + Sync>(
     gate: &G,
 ) -> Result<Told, RunFault>
     requires new { IsNew (K.content sink.old) }
-    ensures takes { Takes S.left S.faults
-        (most_asked (task_asked (settings_of (map string_bytes words.now))))
-        source.old source.new }
-    ensures unread { IsLeftAlone
-        (number_asked (task_asked (settings_of (map string_bytes words.now))))
-        source.old source.new }
-    ensures ok { IfOk result (λ told. (t : What)
-        × (task_asked (settings_of (map string_bytes words.now)) ≡ Some t)
-        × Does S.left S.faults K.content K.sure K.faults
-        source.old source.new sink.old sink.new t (told_text told)) }
+    ensures takes { Takes S.Source (most_asked (asked_by words.now)) source.old source.new }
+    ensures unread { IsLeftAlone (number_asked (asked_by words.now)) source.old source.new }
+    ensures ok { IfOk result (λ told. (t : What) × (asked_by words.now ≡ Some t)
+        × Does S.Source source.old source.new K.Sink sink.old sink.new t (told_text told)) }
     ensures err { IfErr result
-        (Holds S.left S.faults K.content K.sure K.faults
-        source.old source.new sink.old sink.new
-        (task_asked (settings_of (map string_bytes words.now)))) }
+        (Holds S.Source source.old source.new K.Sink sink.old sink.new (asked_by words.now)) }
 {
     let options = match read_options(alloc, words) {
         Ok(options) => options,
@@ -78,12 +69,12 @@ fn run_task<R: Threads + Wait + Sync, S: Source, K: Sink, G: Gate + Sync>(
     requires tick { IfSome (tick_of task) (λ n. n ≤ MAX_TICK) }
     requires limits { CanDo task }
     requires new { IsNew (K.content sink.old) }
-    ensures takes { Takes S.left S.faults (most_of task) source.old source.new }
+    ensures takes { Takes S.Source (most_of task) source.old source.new }
     ensures unread { IsLeftAlone (number_of task) source.old source.new }
-    ensures ok { IfOk result (λ told. Does S.left S.faults K.content K.sure K.faults
-        source.old source.new sink.old sink.new task (told_text told)) }
-    ensures err { IfErr result (Stops S.left S.faults K.content K.sure K.faults
-        source.old source.new sink.old sink.new task) }
+    ensures ok { IfOk result (λ told. Does S.Source source.old source.new K.Sink sink.old sink.new
+        task (told_text told)) }
+    ensures err { IfErr result (Stops S.Source source.old source.new K.Sink sink.old sink.new
+        task) }
 {
     match task {
         Task::Play { generate } => perform(rt, alloc, generate, options, source, sink, gate),

@@ -30,12 +30,11 @@ pub fn read_score<S: Source>(
     source: &mut S,
 ) -> Result<Plan, RunFault>
     requires { IfSome asked (λ number. number ≤ MAX_NUMBER) }
-    ensures takes { Takes S.left S.faults MAX_TEXT source.old source.new }
+    ensures takes { Takes S.Source MAX_TEXT source.old source.new }
     ensures unread { IsLeftAlone asked source.old source.new }
     ensures planned { IfOk result (λ p. TakesPlan
         (offered asked (S.left source.old)) (remaining asked (S.left source.new)) p) }
-    ensures stopped { IfErr result (λ fault.
-        IsTaken S.left S.faults asked source.old source.new fault) }
+    ensures stopped { IfErr result (λ fault. IsTaken S.Source asked source.old source.new fault) }
 {
     let (_, plan) = read_text_and_plan(alloc, asked, source)?;
     Ok(plan)
@@ -48,13 +47,12 @@ pub fn read_text_and_plan<S: Source>(
     source: &mut S,
 ) -> Result<(Vec<u8>, Plan), RunFault>
     requires { IfSome asked (λ number. number ≤ MAX_NUMBER) }
-    ensures takes { Takes S.left S.faults MAX_TEXT source.old source.new }
+    ensures takes { Takes S.Source MAX_TEXT source.old source.new }
     ensures unread { IsLeftAlone asked source.old source.new }
     ensures text { IfOk result (λ r. TakesAll MAX_TEXT
         (offered asked (S.left source.old)) (remaining asked (S.left source.new)) r.0.items) }
     ensures planned { IfOk result (λ r. IsPlanned r.0.items r.1) }
-    ensures stopped { IfErr result (λ fault.
-        IsTaken S.left S.faults asked source.old source.new fault) }
+    ensures stopped { IfErr result (λ fault. IsTaken S.Source asked source.old source.new fault) }
 {
     let text = match take_text(alloc, asked, source) {
         Ok(text) => text,
@@ -80,7 +78,7 @@ fn take_text<S: Source>(
     source: &mut S,
 ) -> Result<Vec<u8>, ReadFault>
     requires { IfSome asked (λ number. number ≤ MAX_NUMBER) }
-    ensures takes { Takes S.left S.faults MAX_TEXT source.old source.new }
+    ensures takes { Takes S.Source MAX_TEXT source.old source.new }
     ensures unread { IsLeftAlone asked source.old source.new }
     ensures text { IfOk result (λ t. TakesAll MAX_TEXT
         (offered asked (S.left source.old)) (remaining asked (S.left source.new)) t.items) }

@@ -53,12 +53,12 @@ pub fn record_score<R: Threads + Wait + Sync, S: Source, K: Sink, G: Gate + Sync
     requires limits { CanRecord workers room lead }
     requires number { IfSome number (λ n. n ≤ MAX_NUMBER) }
     requires new { IsNew (K.content sink.old) }
-    ensures takes { Takes S.left S.faults MAX_TEXT source.old source.new }
+    ensures takes { Takes S.Source MAX_TEXT source.old source.new }
     ensures unread { IsLeftAlone number source.old source.new }
-    ensures ok { IfOk result (λ told. Does S.left S.faults K.content K.sure K.faults source.old
-        source.new sink.old sink.new (task.Record number workers room lead) (told_text told)) }
-    ensures err { IfErr result (Stops S.left S.faults K.content K.sure K.faults
-        source.old source.new sink.old sink.new (task.Record number workers room lead)) }
+    ensures ok { IfOk result (λ told. Does S.Source source.old source.new K.Sink sink.old sink.new
+        (task.Record number workers room lead) (told_text told)) }
+    ensures err { IfErr result (Stops S.Source source.old source.new K.Sink sink.old sink.new
+        (task.Record number workers room lead)) }
 {
     let (text, plan) = read_text_and_plan(alloc, number, source)?;
     plans_play_the_score();

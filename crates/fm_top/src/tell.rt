@@ -119,7 +119,7 @@ fn status_of(fault: RunFault) -> u8
 // Tells the console a text, in one put, and gives the exit status: the verdict, or that the console
 // failed.
 fn say<C: Console>(text: &[u8], verdict: u8, console: &mut C) -> u8
-    ensures { Tells C.content C.sure C.faults console.old console.new text.now verdict result }
+    ensures { Tells C.Console console.old console.new text.now verdict result }
 {
     match console.say(text) {
         Ok(()) => verdict,
@@ -129,8 +129,8 @@ fn say<C: Console>(text: &[u8], verdict: u8, console: &mut C) -> u8
 
 /// Tells the console of a fault, in one put, and gives the exit status.
 pub fn tell<C: Console>(fault: RunFault, console: &mut C) -> u8
-    ensures { Tells C.content C.sure C.faults console.old console.new
-        (fault_text fault) (fault_status fault) result }
+    ensures { Tells C.Console console.old console.new (fault_text fault) (fault_status fault)
+        result }
 {
     say(&text_of(fault), status_of(fault), console)
 }
@@ -138,7 +138,7 @@ pub fn tell<C: Console>(fault: RunFault, console: &mut C) -> u8
 /// Tells the console what there is to tell of a task that is done, in one put, and gives the exit
 /// status. It takes no memory.
 pub fn tell_end<C: Console>(told: Told, console: &mut C) -> u8
-    ensures { TellsEnd C.content C.sure C.faults console.old console.new (told_text told) result }
+    ensures { TellsEnd C.Console console.old console.new (told_text told) result }
 {
     match told {
         Told::Nothing => DONE,

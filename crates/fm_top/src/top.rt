@@ -1,12 +1,8 @@
 //! The top call.
-ghost use Rattle.std.specs.Prelude.{◌≡◌, ℕ, Option, Some, map, string_bytes};
 ghost use Rattle.fm_edge.specs.Content.{IsNew};
-ghost use Rattle.fm_words.specs.Settings.{settings_of};
-ghost use Rattle.fm_top.specs.declared.status.TheConstants.{DONE};
-ghost use Rattle.fm_top.specs.declared.task.Task.TheVariants.{Play};
 ghost use Rattle.fm_top.specs.Taking.{Takes, IsLeftAlone};
-ghost use Rattle.fm_top.specs.Tasks.{most_asked, number_asked, task_asked};
-ghost use Rattle.fm_top.specs.Outcome.{WritesScore, RunEnds, StatusCause, Completes};
+ghost use Rattle.fm_top.specs.Tasks.{asked_by, most_asked, number_asked};
+ghost use Rattle.fm_top.specs.Outcome.{Plays, RunEnds, StatusCause, Completes};
 
 use crate::laws::each_input_has_one_verdict;
 use crate::run::run;
@@ -37,32 +33,21 @@ pub fn formula<R: Threads + Wait + Sync, S: Source, K: Sink, C: Console, G: Gate
     requires new { IsNew (K.content sink.old) }
 
     // After status 0 of a run that plays, the sink holds the file of the text.
-    ensures done { (number : Option ℕ)
-        → task_asked (settings_of (map string_bytes words.now)) ≡ Some (Play number)
-        → result ≡ DONE
-        → WritesScore S.left S.faults K.content K.sure K.faults
-        source.old source.new sink.old sink.new number }
+    ensures done { Plays S.Source source.old source.new K.Sink sink.old sink.new words.now result }
 
     // The answers, the cause of each but want of memory, and what the console is told.
-    ensures cause { StatusCause S.left S.faults K.content K.sure K.faults
-        C.content C.sure C.faults (task_asked (settings_of (map string_bytes words.now)))
-        source.old source.new sink.old sink.new console.old console.new result }
-    ensures ends { RunEnds S.left S.faults K.content K.sure K.faults
-        C.content C.sure C.faults (task_asked (settings_of (map string_bytes words.now)))
-        source.old source.new sink.old sink.new console.old console.new result }
+    ensures cause { StatusCause S.Source source.old source.new K.Sink sink.old sink.new
+        C.Console console.old console.new (asked_by words.now) result }
+    ensures ends { RunEnds S.Source source.old source.new K.Sink sink.old sink.new
+        C.Console console.old console.new (asked_by words.now) result }
 
     // What is read of the source, which is left alone where a large score is played.
-    ensures takes { Takes S.left S.faults
-        (most_asked (task_asked (settings_of (map string_bytes words.now))))
-        source.old source.new }
-    ensures unread { IsLeftAlone
-        (number_asked (task_asked (settings_of (map string_bytes words.now))))
-        source.old source.new }
+    ensures takes { Takes S.Source (most_asked (asked_by words.now)) source.old source.new }
+    ensures unread { IsLeftAlone (number_asked (asked_by words.now)) source.old source.new }
 
     // What comes where no fault is counted.
-    ensures complete { Completes S.left S.faults K.content K.sure K.faults
-        C.content C.sure C.faults (task_asked (settings_of (map string_bytes words.now)))
-        source.old source.new sink.old sink.new console.old console.new result }
+    ensures complete { Completes S.Source source.old source.new K.Sink sink.old sink.new
+        C.Console console.old console.new (asked_by words.now) result }
 {
     each_input_has_one_verdict();
     match run(rt, alloc, words, source, sink, gate) {

@@ -11,8 +11,8 @@ returns-in_err-plan-clause-err g c =
     let e = c.in_err-plan.field-0.0 in
     let is : c.from_residual.result ≡ Err e = grind (arith, common_steps) in
     on_err_of c.from_residual.result e
-    (Rejects {K = g.row.K.Denot} g.K.Sink.content g.K.Sink.sure g.K.Sink.faults c.args.sink.now c.args.sink.now c.args.bytes.now) is
-    (text_rejected {K = g.row.K.Denot} g.K.Sink.content g.K.Sink.sure g.K.Sink.faults _ _ held c.args.sink.now e
+    (Rejects {K = g.row.K.Denot} g.K.Sink c.args.sink.now c.args.sink.now c.args.bytes.now) is
+    (text_rejected {K = g.row.K.Denot} g.K.Sink _ _ held c.args.sink.now e
     c.in_err-plan.ensures.refused)
 
 pub audit-requires-clause-valid : goal.audit-requires-clause-valid
@@ -24,7 +24,7 @@ audit-requires-clause-valid g c =
 pub returns-in-Ok-audit-clause-ok : goal.returns-in-Ok-audit-clause-ok
 returns-in-Ok-audit-clause-ok g c =
     let held = held_record _ _ _ _ _ _ c.requires.short c.in-Ok.ensures.limits c.in-Ok.ensures.parts in
-    run_accepted {K = g.row.K.Denot} g.K.Sink.content g.K.Sink.sure g.K.Sink.faults _ _ held c.plans_play_the_score.ensures
+    run_accepted {K = g.row.K.Denot} g.K.Sink _ _ held c.plans_play_the_score.ensures
     c.scores_end_with_their_last_line.ensures _ c.in_ok-plan.ensures.planned _ c.in_ok-of_plan.ensures
     c.args.sink.now c.audit.new.sink _ c.profile-profile.ensures c.in-Ok-audit.ensures.run c.in-Ok-audit.ensures.written
 
@@ -32,7 +32,7 @@ returns-in-Ok-audit-clause-ok g c =
 pub returns-clause-err : goal.returns-clause-err
 returns-clause-err g c =
     let held = held_record _ _ _ _ _ _ c.requires.short c.in-Ok.ensures.limits c.in-Ok.ensures.parts in
-    run_rejected {K = g.row.K.Denot} g.K.Sink.content g.K.Sink.sure g.K.Sink.faults _ _ held c.plans_play_the_score.ensures
+    run_rejected {K = g.row.K.Denot} g.K.Sink _ _ held c.plans_play_the_score.ensures
     c.scores_end_with_their_last_line.ensures _ c.in_ok-plan.ensures.planned _ c.in_ok-of_plan.ensures
     c.args.sink.now c.audit.new.sink _ c.profile-profile.ensures c.in-Err-audit.fault c.fault_of.result c.fault_of.ensures
     c.in-Err-audit.ensures.faulty c.in-Err-audit.ensures.untouched

@@ -4,6 +4,6 @@ use Rattle.fm_top.proofs.laws.same_file_for_every_schedule.Goals as goal
 pub returns : goal.returns
 returns g c = record {
   same =
-      same_file {S = g.row.S.Denot} {K = g.row.K.Denot} g.S.Source.left g.S.Source.faults
-      g.K.Sink.content g.K.Sink.sure g.K.Sink.faults c.each_text_has_one_verdict.ensures.score;
+      same_file {S = g.row.S.Denot} {K = g.row.K.Denot} g.S.Source
+      g.K.Sink c.each_text_has_one_verdict.ensures.score;
 }

@@ -3,12 +3,12 @@ use Rattle.fm_top.proofs.perform.perform.Goals as goal
 
 pub returns-in-Ok-clause-ok : goal.returns-in-Ok-clause-ok
 returns-in-Ok-clause-ok g c =
-    performed {S = g.row.S.Denot} {K = g.row.K.Denot} g.S.Source.left g.S.Source.faults g.K.Sink.content g.K.Sink.sure g.K.Sink.faults
-    _ _ _ _ _ c.plans_play_the_score.ensures c.scores_end_with_their_last_line.ensures _ c.in_ok-plan.ensures.planned _ _ _
+    performed {S = g.row.S.Denot} {K = g.row.K.Denot} g.S.Source _ _ g.K.Sink _ _ _ c.plans_play_the_score.ensures
+    c.scores_end_with_their_last_line.ensures _ c.in_ok-plan.ensures.planned _ _ _
     c.processes-processes.ensures.value c.in-Ok.ensures.played c.totals_of.ensures c.in-Ok.ensures.ok
 
 pub returns-in-Err-clause-err : goal.returns-in-Err-clause-err
 returns-in-Err-clause-err g c =
-    play_stopped {S = g.row.S.Denot} {K = g.row.K.Denot} g.S.Source.left g.S.Source.faults g.K.Sink.content g.K.Sink.sure g.K.Sink.faults
-    _ _ _ _ _ c.plans_play_the_score.ensures c.scores_end_with_their_last_line.ensures _ c.in_ok-plan.ensures.planned _
+    play_stopped {S = g.row.S.Denot} {K = g.row.K.Denot} g.S.Source _ _ g.K.Sink _ _ _ c.plans_play_the_score.ensures
+    c.scores_end_with_their_last_line.ensures _ c.in_ok-plan.ensures.planned _
     c.in-Err.ensures.err

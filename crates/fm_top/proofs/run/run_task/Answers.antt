@@ -7,10 +7,10 @@ pub returns-in-Locate-clause-err : goal.returns-in-Locate-clause-err
 returns-in-Locate-clause-err g c =
     rw c.in-Locate.is
     (IfErr-weaker c.locate_tick.result
-    (λ fault. IsUnlocated g.S.Source.left g.S.Source.faults c.in-Locate.generate c.in-Locate.process c.args.source.now
+    (λ fault. IsUnlocated g.S.Source c.in-Locate.generate c.in-Locate.process c.args.source.now
     c.locate_tick.new.source fault) _
     (λ fault.
-    unlocated {S = g.row.S.Denot} {K = g.row.K.Denot} g.S.Source.left g.S.Source.faults g.K.Sink.content g.K.Sink.sure
-    g.K.Sink.faults c.args.source.now c.locate_tick.new.source c.args.sink.now c.in-Locate.generate c.in-Locate.tick
+    unlocated {S = g.row.S.Denot} {K = g.row.K.Denot} g.S.Source c.args.source.now c.locate_tick.new.source g.K.Sink c.args.sink.now
+    c.in-Locate.generate c.in-Locate.tick
     c.in-Locate.process fault)
     c.locate_tick.ensures.err)

@@ -11,7 +11,7 @@ returns-in-Ok-clause-ends g c =
 
 pub returns-in-Ok-clause-complete : goal.returns-in-Ok-clause-complete
 returns-in-Ok-clause-complete g c =
-    completes_of _ _ _ _ _ _ _ _ _ _ _ _ _ _ c.each_input_has_one_verdict.ensures _ _
+    completes_of _ _ _ _ _ _ _ _ _ c.each_input_has_one_verdict.ensures _ _
     (does c.in-Ok.ensures.ok.0 _ c.in-Ok.ensures.ok.1 c.in-Ok.ensures.ok.2 c.tell_end.ensures)
 
 -- a fault is told
@@ -20,13 +20,13 @@ returns-in-Err-clause-ends g c = stops _ c.in-Err.ensures.err c.tell.ensures
 
 pub returns-in-Err-clause-complete : goal.returns-in-Err-clause-complete
 returns-in-Err-clause-complete g c =
-    completes_of _ _ _ _ _ _ _ _ _ _ _ _ _ _ c.each_input_has_one_verdict.ensures _ _ (stops _ c.in-Err.ensures.err c.tell.ensures)
+    completes_of _ _ _ _ _ _ _ _ _ c.each_input_has_one_verdict.ensures _ _ (stops _ c.in-Err.ensures.err c.tell.ensures)
 
 pub returns-in-Ok-clause-cause : goal.returns-in-Ok-clause-cause
 returns-in-Ok-clause-cause g c =
-    cause_of_done _ _ _ _ _ _ _ _ _ _ _ _ _ _ _ _ c.in-Ok.ensures.ok.0 _ c.in-Ok.ensures.ok.1 c.in-Ok.ensures.ok.2
+    cause_of_done _ _ _ _ _ _ _ _ _ _ _ c.in-Ok.ensures.ok.0 _ c.in-Ok.ensures.ok.1 c.in-Ok.ensures.ok.2
     c.tell_end.ensures
 
 pub returns-in-Err-clause-cause : goal.returns-in-Err-clause-cause
 returns-in-Err-clause-cause g c =
-    cause_of_stop _ _ _ _ _ _ _ _ _ _ _ _ _ _ _ _ _ c.in-Err.fault refl c.in-Err.ensures.err c.tell.ensures
+    cause_of_stop _ _ _ _ _ _ _ _ _ _ _ _ c.in-Err.fault refl c.in-Err.ensures.err c.tell.ensures
