@@ -25,5 +25,4 @@ pub mod Pairs
 pub mod Sweeping
 pub mod Advancing
 pub mod Taking
-pub mod Voices
 mod Numerals

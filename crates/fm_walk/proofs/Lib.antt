@@ -1,2 +1,1 @@
 pub mod EndLemmas
-mod Voices
