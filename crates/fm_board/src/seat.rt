@@ -1,6 +1,7 @@
 //! A seat at a board.
-ghost use Rattle.std.specs.Prelude.{◌≡◌, length};
+ghost use Rattle.std.specs.Prelude.{◌≡◌, ◌<◌, length};
 ghost use Rattle.fm_core.specs.Sweep.{least};
+ghost use Rattle.fm_core.specs.declared.limits.TheConstants.{MAX_SEATS};
 
 use crate::sweep::{Sweep, least_pair};
 use crate::token::Token;
@@ -33,9 +34,10 @@ impl Model for BoardSeat {
 }
 
 impl BoardSeat {
-    /// Its number; 0 is the conductor's.
+    /// Its number, from 0 to 16; 0 is the conductor's.
     pub fn number(&self) -> u32
-        ensures { result ≡ self.now.mind.view.number }
+        ensures value { result ≡ self.now.mind.view.number }
+        ensures most { result < MAX_SEATS }
     {
         self.number
     }
