@@ -3,10 +3,36 @@ use Rattle.std.proofs.Common.{◌≡◌, ◌⊎◌, ℕ, ◌+◌, ◌<◌, ◌�
 use Rattle.std.specs.Prelude.{nat_le, if◌then◌else◌}
 use Rattle.std.proofs.lemmas.Bool.{cases_eq, cases_lt, leb-true, leb-false}
 use Rattle.fm_program.specs.Parts.{PlanParts}
+use Rattle.fm_strand.specs.declared.strand.Strand.{Strand}
 use Rattle.fm_round.specs.declared.slot.Slot.{Slot}
-use Rattle.fm_round.specs.Slots.{IsLeast, IsNotPast, LeastOf, lesser_of, live_clock, slot}
+use Rattle.fm_round.specs.Slots.{IsLeast, IsNotPast, LeastOf, lesser_of, live_clock, run_clock, run_is_live, slot}
+
+-- who does not run has no clock
+pub idle_clock : (p : PlanParts) (ended : Bool) (strand : Option Strand) → run_is_live ended strand ≡ false
+    → run_clock p ended strand ≡ None
+idle_clock p true strand is = refl
+idle_clock p false None is = refl
+idle_clock p false (Some t) is = cc
 
 module _ (p : PlanParts) (ss : List Slot) (j : ℕ) where
+  -- processes that are not live leave the least pair
+  pub least_over : (k : ℕ) → j ≤ k → ((i : ℕ) → j ≤ i → i < k → live_clock p (slot ss i) ≡ None) → (best : Option (ℕ × ℕ))
+      → LeastOf p ss j best → LeastOf p ss k best
+  least_over k up idle None before = λ i below. by_side i below (cases_lt i j)
+    where
+      by_side : (i : ℕ) → i < k → (i < j) ⊎ (j ≤ i) → live_clock p (slot ss i) ≡ None
+      by_side i below (inl less) = before i less
+      by_side i below (inr more) = idle i more below
+  least_over k up idle (Some r) before = record {
+    inside = let inside = before.inside in omega arith;
+    clock = before.clock;
+    least = λ i t below live. by_side i t below live (cases_lt i j);
+  }
+    where
+      by_side : (i t : ℕ) → i < k → live_clock p (slot ss i) ≡ Some t → (i < j) ⊎ (j ≤ i) → IsNotPast r.0 r.1 t i
+      by_side i t below live (inl less) = before.least i t less live
+      by_side i t below live (inr more) = let never : Some t ≡ None = sym live ∙ idle i more below in cc
+
   -- where the process j is not live the least pair stays
   none_more : (best : Option (ℕ × ℕ)) → live_clock p (slot ss j) ≡ None → LeastOf p ss j best → LeastOf p ss (j + 1) best
   none_more None idle before = λ i below. by_place i below (cases_eq i j)

@@ -1,10 +1,13 @@
 -- Taking what is due, slot by slot.
-use Rattle.std.proofs.Common.{◌≡◌, ℕ, suc, ◌+◌, ◌<◌, List, [], ◌∷◌, ◌++◌, length, map, take, drop, Option, refl, ap, ap₂, ◌∙◌, arith, append-nil, add-one}
+use Rattle.std.proofs.Common.{◌≡◌, ◌⊎◌, ℕ, zero, suc, ◌+◌, ◌<◌, ◌≤◌, List, [], ◌∷◌, ◌++◌, length, map, take, drop, Option, refl, sym, ap, ap₂, ◌∙◌, subst, inl, inr, arith, append-nil, add-one}
+use Rattle.std.proofs.lemmas.Bool.{cases_lt}
 use Rattle.std.proofs.Math.Seq.{drop-cons}
 use Rattle.std.proofs.lemmas.List.{take_more}
 use Rattle.fm_round.specs.declared.slot.Slot.{Slot}
 use Rattle.fm_round.specs.Lefts.{joined}
-use Rattle.fm_round.specs.Slots.{due, no_slot, room_of, room_sum, slot}
+use Rattle.fm_msg.specs.Event.{TimedMessage}
+use Rattle.fm_buffer.specs.Outbox.{count_through}
+use Rattle.fm_round.specs.Slots.{due, no_slot, room_of, room_sum, slot, without_due}
 use Rattle.fm_round.proofs.Opening.{joined-append}
 
 -- the room of the slots from a place on is that of the slot there and of those behind it
@@ -37,3 +40,55 @@ mapped_each f (s ∷ old) [] same each = absurd (omega arith)
 mapped_each f (s ∷ old) (t ∷ new) same each =
     ap₂ (λ (x : Slot) (xs : List Slot). x ∷ xs) (each 0 (omega arith))
     (mapped_each f old new (omega arith) (λ k within. each (suc k) (omega arith)))
+
+-- ---- slots of which nothing waits
+
+-- of them nothing is due
+due_none : (key : Option (ℕ × ℕ)) (s : Slot) → s.outbox.events ≡ [] → due key s ≡ []
+due_none key s is = rw is refl
+
+-- and without it they are as they were
+pub without_none : (key : Option (ℕ × ℕ)) (s : Slot) → s.outbox.events ≡ [] → without_due key s ≡ s
+without_none key s is =
+    ap (λ es. record s { outbox = record s.outbox { events = es } })
+    (subst (λ (es : List TimedMessage). drop (count_through key es) es ≡ es) (sym is) refl)
+
+-- what is due of several such slots more
+pub due_over : (key : Option (ℕ × ℕ)) (ss : List Slot) (a b : ℕ) → a ≤ b → b ≤ length ss
+    → ((i : ℕ) → a ≤ i → i < b → (slot ss i).outbox.events ≡ [])
+    → joined (map (due key) (take b ss)) ≡ joined (map (due key) (take a ss))
+due_over key ss a zero up within none =
+    let same : 0 ≡ a = omega arith in ap (λ (n : ℕ). joined (map (due key) (take n ss))) same
+due_over key ss a (suc b) up within none =
+    by_end (cases_lt b a) (λ more. due_over key ss a b more (omega arith) (λ i above below. none i above (omega arith)))
+  where
+    next : suc b ≡ b + 1
+    next = omega arith
+
+    by_end : (b < a) ⊎ (a ≤ b) → (a ≤ b → joined (map (due key) (take b ss)) ≡ joined (map (due key) (take a ss)))
+        → joined (map (due key) (take (suc b) ss)) ≡ joined (map (due key) (take a ss))
+    by_end (inl less) before = let same : suc b ≡ a = omega arith in ap (λ (n : ℕ). joined (map (due key) (take n ss))) same
+    by_end (inr more) before =
+        ap (λ (n : ℕ). joined (map (due key) (take n ss))) next
+        ∙ due_more key ss b (omega arith)
+        ∙ ap (λ es. joined (map (due key) (take b ss)) ++ es) (due_none key (slot ss b) (none b more (omega arith)))
+        ∙ append-nil (joined (map (due key) (take b ss)))
+        ∙ before more
+
+drop_no_slot : (k : ℕ) → drop {A = Slot} k [] ≡ []
+drop_no_slot zero = refl
+drop_no_slot (suc k) = refl
+
+-- fewer slots have no more room
+pub rooms_over : (ss : List Slot) (a b : ℕ) → a ≤ b → room_sum (map room_of (drop b ss)) ≤ room_sum (map room_of (drop a ss))
+rooms_over [] a b up =
+    omega (
+      arith,
+      ap (λ (xs : List Slot). room_sum (map room_of xs)) (drop_no_slot a),
+      ap (λ (xs : List Slot). room_sum (map room_of
+          xs)) (drop_no_slot b),
+    )
+rooms_over (s ∷ ss) zero zero up = omega arith
+rooms_over (s ∷ ss) zero (suc b) up = let less = rooms_over ss 0 b (omega arith) in omega arith
+rooms_over (s ∷ ss) (suc a) zero up = absurd (omega arith)
+rooms_over (s ∷ ss) (suc a) (suc b) up = rooms_over ss a b (omega arith)

@@ -6,11 +6,16 @@ pub mod Releasing
 pub mod Ending
 pub mod Opening
 pub mod Running
+pub mod Chaining
 pub mod Quanta
 pub mod Between
 pub mod Starting
 pub mod Gathering
 pub mod Finding
 pub mod Freshness
+pub mod Passing
+pub mod Listing
+pub mod Following
+pub mod Watched
 pub mod Rows
 mod Numerals

@@ -115,6 +115,8 @@ module _ (p : PlanParts) (j limit : ℕ) (old new : Slot) (s t : Strand) (answer
     moves = λ can. rw (load_before, load_after) (moved can answer refl makes.is);
     few = rw (load_before, load_after) (few_steps answer makes.is);
     puts = record { put = makes.put; events = makes.events; in_time = makes.in_time };
+    idle = λ idle. let never : true ≡ false = sym (rw (live, was) refl) ∙ idle in cc;
+    begun = λ none. let never : Some t ≡ None = sym now ∙ none in cc;
   }
 
 -- a slot that is left as it was, since it has not started or has ended
@@ -131,4 +133,6 @@ rests p j limit s fits idle = record {
     events = sym (append-nil s.outbox.events);
     in_time = All-nil (λ (e : TimedMessage). e.time ≤ limit);
   };
+  idle = λ idle. refl;
+  begun = λ none. none;
 }

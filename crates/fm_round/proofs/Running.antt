@@ -9,7 +9,7 @@ use Rattle.fm_line.specs.declared.line.Line.{Line}
 use Rattle.fm_buffer.specs.Outbox.{count_through}
 use Rattle.fm_program.specs.Parts.{PlanParts}
 use Rattle.fm_strand.specs.declared.strand.Strand.{Strand}
-use Rattle.fm_strand.specs.Strand.{clock_of, rest}
+use Rattle.fm_strand.specs.Strand.{clock_of}
 use Rattle.fm_round.specs.declared.slot.Slot.{Slot}
 use Rattle.fm_round.specs.Slots.{AllSlots, IsRun, IsSlotOf, Runs, RunsAll, RunsEach, left, lefts, load, loads, no_slot, room_of, slot, without_due}
 
@@ -100,6 +100,8 @@ runs_all p limit old new same each = record {
   rooms = rooms_same old new same (λ k within. (each k within).room);
   less = loads_less p 0 old new same (λ k within. (each k within).less);
   moves = λ j within can. loads_fall p 0 old new j same within (λ k inside. (each k inside).less) ((each j within).moves can);
+  idle = λ j within. (each j within).idle;
+  begun = λ j within. (each j within).begun;
 }
   where
     zero_add : (j : ℕ) → 0 + j ≡ j

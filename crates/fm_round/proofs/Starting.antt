@@ -1,5 +1,5 @@
 -- What it changes to start a process.
-use Rattle.std.proofs.Common.{◌≡◌, ◌⊎◌, ℕ, suc, ◌+◌, ◌<◌, ◌≤◌, List, [], ◌∷◌, ◌++◌, length, map, get_or, set, Bool, true, false, Option, Some, None, IfSome, refl, sym, ap, ap₂, ◌∙◌, subst, inl, inr, arith, get_or-set_same, get_or-set_other}
+use Rattle.std.proofs.Common.{◌≡◌, ◌⊎◌, ℕ, suc, ◌+◌, ◌<◌, ◌≤◌, List, [], ◌∷◌, ◌++◌, length, map, get_or, set, Bool, false, Option, Some, None, refl, sym, ap, ap₂, ◌∙◌, subst, inl, inr, arith, get_or-set_same, get_or-set_other}
 use Rattle.std.proofs.lemmas.Bool.{cases_eq}
 use Rattle.std.proofs.lemmas.List.Elements.{All-nil}
 use Rattle.std.proofs.Math.ListN.{length-set}
@@ -11,8 +11,10 @@ use Rattle.fm_program.specs.Process.{plan_lines}
 use Rattle.fm_strand.specs.declared.strand.Strand.{Strand}
 use Rattle.fm_strand.specs.Course.{steps_of}
 use Rattle.fm_strand.specs.Strand.{InCourse, clock_of, rest, steps_left}
+use Rattle.std.specs.Prelude.{is_some}
+use Rattle.fm_round.specs.Starts.{Begins}
 use Rattle.fm_round.specs.declared.slot.Slot.{Slot}
-use Rattle.fm_round.specs.Slots.{AllSlots, AllStarted, IsRun, IsSlotOf, IsWaiting, left, lefts, load, loads, no_slot, predecessors, room_of, run_load, slot, yet}
+use Rattle.fm_round.specs.Slots.{AllSlots, IsRun, IsSlotOf, left, lefts, load, loads, no_slot, predecessors, room_of, run_load, slot, yet}
 use Rattle.fm_program.specs.Fit.{PartsFit}
 use Rattle.fm_round.proofs.Births.{predecessor_below}
 use Rattle.fm_round.proofs.Running.{any_default, rooms_same}
@@ -137,30 +139,23 @@ module _ (p : PlanParts) (ss : List Slot) (j : ℕ) (there : j < length ss) (t :
           subst (λ (k : ℕ). (slot (set ss j y) k).ended ≡ (slot ss k).ended) (sym same) (ap (λ (s : Slot). s.ended) here ∙ ended)
       by_place (inr apart) = ap (λ (s : Slot). s.ended) (other i apart)
 
-  -- who waits among the processes below j waits on
-  pub started_below : AllStarted p ss j → AllStarted p (set ss j y) (j + 1)
-  started_below before i below none = by_place (cases_eq i j)
-    where
-      by_place : (i ≡ j) ⊎ (i ≡ j → ⊥) → IsWaiting p (set ss j y) i
-      by_place (inl same) =
-          let never : None ≡ Some t =
-          sym none ∙ ap (λ (k : ℕ). (slot (set ss j y) k).strand) same ∙ ap (λ (s : Slot). s.strand) here ∙ strand in cc
-      by_place (inr apart) =
-          let waits = before i (omega arith) (sym (ap (λ (s : Slot). s.strand) (other i apart)) ∙ none) in record {
-            at = waits.at;
-            there = waits.there;
-            live = ended_kept (get_or (predecessors p i) waits.at 0) ∙ waits.live;
-          }
+  -- the process has begun, and no other is changed
+  pub begins_one : Begins p j ss (set ss j y)
+  begins_one = record {
+    some = record {
+      slots = started_slots;
+      ended = ended_kept;
+      same = started_lefts;
+      rooms = started_rooms;
+      loads = started_loads;
+    };
+    others = other;
+  }
 
--- a process that is not started waits, and so do those below it
-pub waiting_below : (p : PlanParts) (ss : List Slot) (j : ℕ) → AllStarted p ss j
-    → ((slot ss j).strand ≡ None → IsWaiting p ss j) → AllStarted p ss (j + 1)
-waiting_below p ss j before own i below none = by_place (cases_eq i j)
-  where
-    by_place : (i ≡ j) ⊎ (i ≡ j → ⊥) → IsWaiting p ss i
-    by_place (inl same) =
-        subst (IsWaiting p ss) (sym same) (own (sym (ap (λ (k : ℕ). (slot ss k).strand) same) ∙ none))
-    by_place (inr apart) = before i (omega arith) none
+-- what is not there
+pub no_strand : (t : Option Strand) → is_some t ≡ false → t ≡ None
+no_strand None is = refl
+no_strand (Some t) is = cc
 
 -- ---- predecessors
 

@@ -2,7 +2,7 @@
 use Rattle.std.specs.Prelude.{◌≡◌, ℕ, ◌+◌, ◌<◌, ◌≤◌, ◌⊎◌, List, [], ◌∷◌, ◌++◌, length, map, suc, take, drop, slice_index_or, All, Bool, true, false, Option, Some, None, nat_le, if◌then◌else◌}
 use Rattle.fm_msg.specs.Event.{TimedMessage}
 use Rattle.fm_line.specs.declared.line.Line.{Line}
-use Rattle.fm_buffer.specs.Outbox.{EventQueue, count_through}
+use Rattle.fm_buffer.specs.Outbox.{count_through}
 use Rattle.fm_program.specs.Parts.{PlanParts, process_program}
 use Rattle.fm_strand.specs.declared.strand.Strand.{Strand}
 use Rattle.fm_strand.specs.declared.answers.Quantum.{Quantum}
@@ -216,6 +216,9 @@ pub record Runs (p : PlanParts) (j limit : ℕ) (old new : Slot) : Type 0 where
   -- at most as many steps are made as a quantum has, and the end is found
   pub few : load p j old ≤ load p j new + MAX_QUANTUM + 1
   pub puts : PutsInTime limit old new
+  -- who has not started, or has ended, is left as it was, and who has started stays so
+  pub idle : is_running old ≡ false → new ≡ old
+  pub begun : new.strand ≡ None → old.strand ≡ None
 
 -- of each of the processes from `first` on
 abbrev pub RunsEach : PlanParts → (first limit : ℕ) → List Slot → List Slot → Type 0
@@ -229,6 +232,8 @@ pub record RunsAll (p : PlanParts) (limit : ℕ) (old new : List Slot) : Type 0 
   pub rooms : map room_of new ≡ map room_of old
   pub less : loads p 0 new ≤ loads p 0 old
   pub moves : (j : ℕ) → j < length old → CanRun p limit (slot old j) → loads p 0 new < loads p 0 old
+  pub idle : (j : ℕ) → j < length old → is_running (slot old j) ≡ false → slot new j ≡ slot old j
+  pub begun : (j : ℕ) → j < length old → (slot new j).strand ≡ None → (slot old j).strand ≡ None
 
 -- ---- one release
 

@@ -1,63 +1,169 @@
 //! Starts the processes whose predecessors have ended.
-ghost use Rattle.std.specs.Prelude.{◌≡◌, ◌<◌, ℕ, length, map, true, false, None, Some};
+ghost use Rattle.std.specs.Prelude.{◌≡◌, ◌<◌, ◌≤◌, ◌+◌, ℕ, length, true, false, None, IfSome, IfNone};
 ghost use Rattle.fm_program.specs.Fit.{PartsFit};
-ghost use Rattle.fm_program.specs.Process.{plan_lines};
 ghost use Rattle.fm_strand.specs.Course.{end_place, start_place};
+ghost use Rattle.fm_round.specs.Chain.{link};
 ghost use Rattle.fm_round.specs.Slots.{AllEnded, AllSlots, IsSlotOf, IsWaiting, slot};
-ghost use Rattle.fm_round.specs.Starts.{Starts, StartsOne};
+ghost use Rattle.fm_round.specs.Starts.{Begins, Starts, StartsSome};
+ghost use Rattle.fm_round.specs.Watching.{AllAwait, AreThere, Watched, ended_at};
 
+use crate::chain::{join, leave};
 use crate::slot::Slot;
+use crate::watch::{Watch, take_follower};
 use fm_play::met;
 use fm_strand::{Place, Plan, Strand, first};
 
-/// Starts each process that has not started and whose predecessors have all ended.
-pub fn begin_ready(plan: &Plan, slots: &mut [Slot])
+/// Starts each process that has no predecessor.
+pub fn begin_first(plan: &Plan, watch: &mut Watch, slots: &mut [Slot])
     requires fits { PartsFit plan.now }
     requires count { length slots.old ≡ length plan.now.programs }
     requires slots { AllSlots plan.now slots.old }
-    ensures { Starts plan.now slots.old slots.new }
+    requires watched { Watched plan.now watch.old slots.old }
+    ensures starts { Starts plan.now slots.old slots.new }
+    ensures watched { Watched plan.now watch.new slots.new }
 {
     for process in 0..plan.processes() {
-        begin_if_ready(plan, process, slots);
+        ask(plan, 0, process, watch, slots);
     }
 }
 
-// Starts a process if it has not started and all its predecessors have ended.
-fn begin_if_ready(plan: &Plan, process: u32, slots: &mut [Slot])
+/// Starts each process that has not started and whose predecessors have all ended. Only those are
+/// asked that follow one in the chain that has ended.
+pub fn begin_next(plan: &Plan, watch: &mut Watch, slots: &mut [Slot])
+    requires fits { PartsFit plan.now }
+    requires count { length slots.old ≡ length plan.now.programs }
+    requires slots { AllSlots plan.now slots.old }
+    requires watched { Watched plan.now watch.old slots.old }
+    requires awaited { AllAwait plan.now watch.old 0 slots.old }
+    ensures starts { Starts plan.now slots.old slots.new }
+    ensures watched { Watched plan.now watch.new slots.new }
+{
+    let mut at = 0;
+    while (at as usize) < slots.len() {
+        visit(plan, at, watch, slots);
+        at = watch.next[at as usize];
+    }
+    leave(&mut watch.next, slots);
+}
+
+// Asks each process that follows one in the chain, if that has ended.
+fn visit(plan: &Plan, before: u32, watch: &mut Watch, slots: &mut [Slot])
+    requires fits { PartsFit plan.now }
+    requires count { length slots.old ≡ length plan.now.programs }
+    requires before { before < length slots.old }
+    requires slots { AllSlots plan.now slots.old }
+    requires watched { Watched plan.now watch.old slots.old }
+    requires chained { 0 < link watch.old.next.items before }
+    requires awaited { AllAwait plan.now watch.old before slots.old }
+    ensures starts { StartsSome plan.now slots.old slots.new }
+    ensures watched { Watched plan.now watch.new slots.new }
+    ensures chained { 0 < link watch.new.next.items before }
+    ensures awaited { AllAwait plan.now watch.new (before + 1) slots.new }
+{
+    if !slots[before as usize].ended {
+        return;
+    }
+    ask_followers(plan, before, watch, slots);
+}
+
+// Asks each process that follows one that has ended.
+fn ask_followers(plan: &Plan, before: u32, watch: &mut Watch, slots: &mut [Slot])
+    requires fits { PartsFit plan.now }
+    requires count { length slots.old ≡ length plan.now.programs }
+    requires slots { AllSlots plan.now slots.old }
+    requires watched { Watched plan.now watch.old slots.old }
+    requires chained { 0 < link watch.old.next.items before }
+    requires ended { (slot slots.old before).ended ≡ true }
+    requires awaited { AllAwait plan.now watch.old before slots.old }
+    ensures starts { StartsSome plan.now slots.old slots.new }
+    ensures watched { Watched plan.now watch.new slots.new }
+    ensures chained { 0 < link watch.new.next.items before }
+    ensures awaited { AllAwait plan.now watch.new (before + 1) slots.new }
+{
+    while let Some(process) = take_follower(before, &mut watch.followers) {
+        ask(plan, before, process, watch, slots);
+    }
+}
+
+// Starts a process if it has not started and all its predecessors have ended. It joins the chain
+// behind an earlier one.
+fn ask(plan: &Plan, from: u32, process: u32, watch: &mut Watch, slots: &mut [Slot])
+    requires fits { PartsFit plan.now }
+    requires count { length slots.old ≡ length plan.now.programs }
+    requires slots { AllSlots plan.now slots.old }
+    requires watched { Watched plan.now watch.old slots.old }
+    requires process { process < length plan.now.programs }
+    requires from { (from ≤ process) × (0 < link watch.old.next.items from) }
+    ensures begins { Begins plan.now process slots.old slots.new }
+    ensures waits { (slot slots.new process).strand ≡ None
+        → IsWaiting plan.now slots.new process }
+    ensures watched { Watched plan.now watch.new slots.new }
+    ensures chain { (k : ℕ) → 0 < link watch.old.next.items k → 0 < link watch.new.next.items k }
+    ensures lists { watch.new.followers ≡ watch.old.followers }
+{
+    if begin_if_ready(plan, process, &mut watch.guesses, slots) {
+        join(from, process, &mut watch.next);
+    }
+}
+
+// Starts a process if it has not started and all its predecessors have ended. Says whether it did.
+fn begin_if_ready(plan: &Plan, process: u32, guesses: &mut Vec<usize>, slots: &mut [Slot]) -> bool
     requires fits { PartsFit plan.now }
     requires count { length slots.old ≡ length plan.now.programs }
     requires process { process < length plan.now.programs }
+    requires guesses { length guesses.old.items ≡ length plan.now.programs }
     requires slots { AllSlots plan.now slots.old }
-    ensures { StartsOne plan.now process slots.old slots.new }
-{
-    if !is_ready(plan, process, slots) {
-        return;
-    }
-    let place = start_of(plan, process, slots);
-    slots[process as usize].strand = Some(Strand::begin(plan, process, &place));
-}
-
-// Whether a process has not started and all its predecessors have ended.
-fn is_ready(plan: &Plan, process: u32, slots: &[Slot]) -> bool
-    requires fits { PartsFit plan.now }
-    requires count { length slots.now ≡ length plan.now.programs }
-    requires process { process < length plan.now.programs }
-    ensures yes { result ≡ true
-        → ((slot slots.now process).strand ≡ None) × AllEnded plan.now slots.now process }
-    ensures no { result ≡ false
-        → (slot slots.now process).strand ≡ None → IsWaiting plan.now slots.now process }
+    ensures begins { Begins plan.now process slots.old slots.new }
+    ensures waits { (slot slots.new process).strand ≡ None
+        → IsWaiting plan.now slots.new process }
+    ensures no { result ≡ false → slots.new ≡ slots.old }
+    ensures guesses { length guesses.new.items ≡ length guesses.old.items }
 {
     if slots[process as usize].strand.is_some() {
         return false;
     }
-    for before in plan.predecessors(process) {
-        if !slots[*before as usize].ended {
-            return false;
-        }
+    if let Some(found) = awaited(plan, process, guesses[process as usize], slots) {
+        guesses[process as usize] = found;
+        return false;
     }
+    let place = start_of(plan, process, slots);
+    slots[process as usize].strand = Some(Strand::begin(plan, process, &place));
     true
 }
 
+// A predecessor that has not ended, by its place, or none. It is looked for from a place on, and
+// then in front of it.
+fn awaited(plan: &Plan, process: u32, guess: usize, slots: &[Slot]) -> Option<usize>
+    requires fits { PartsFit plan.now }
+    requires count { length slots.now ≡ length plan.now.programs }
+    requires process { process < length plan.now.programs }
+    ensures some { IfSome result (λ i. IsWaiting plan.now slots.now process) }
+    ensures none { IfNone result (AllEnded plan.now slots.now process) }
+{
+    let predecessors = plan.predecessors(process);
+    let from = predecessors.len().min(guess);
+    match first_live(predecessors, from, predecessors.len(), slots) {
+        Some(found) => Some(found),
+        None => first_live(predecessors, 0, from, slots),
+    }
+}
+
+// The first one of these processes, from a place up to another, that has not ended.
+fn first_live(processes: &[u32], from: usize, to: usize, slots: &[Slot]) -> Option<usize>
+    requires range { (from ≤ to) × (to ≤ length processes.now) }
+    requires there { AreThere processes.now slots.now }
+    ensures some { IfSome result (λ i. (i < length processes.now)
+        × (ended_at processes.now slots.now i ≡ false)) }
+    ensures none { IfNone result ((i : ℕ) → from ≤ i → i < to
+        → ended_at processes.now slots.now i ≡ true) }
+{
+    for place in from..to {
+        if !slots[processes[place] as usize].ended {
+            return Some(place);
+        }
+    }
+    None
+}
 // Where a process starts whose predecessors have all ended.
 fn start_of(plan: &Plan, process: u32, slots: &[Slot]) -> Place
     requires fits { PartsFit plan.now }

@@ -8,6 +8,7 @@
 #![tactic(auto)]
 
 mod begin;
+mod chain;
 mod least;
 mod limits;
 mod perform;
@@ -17,6 +18,7 @@ mod run;
 mod slot;
 #[cfg(test)]
 mod tests;
+mod watch;
 
 pub use fm_play::Played;
 pub use fm_strand::Plan;

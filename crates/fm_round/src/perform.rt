@@ -7,13 +7,15 @@ ghost use Rattle.fm_smf.specs.Track.{events_bytes};
 ghost use Rattle.fm_smf.specs.Writing.{Writes, just_begun};
 ghost use Rattle.fm_round.specs.Rounds.{Opened};
 ghost use Rattle.fm_round.specs.Slots.{AllAtEnd};
+ghost use Rattle.fm_round.specs.Watching.{Watched};
 
-use crate::begin::begin_ready;
+use crate::begin::{begin_first, begin_next};
 use crate::least::least;
 use crate::limits::MAX_WORKERS;
 use crate::release::release;
 use crate::run::{run_alone, run_shared};
 use crate::slot::Slot;
+use crate::watch::Watch;
 use fm_buffer::Gather;
 use fm_edge::{Gate, Sink};
 use fm_smf::{SinkFault, Writer};
@@ -23,6 +25,7 @@ use std::thread::Threads;
 /// Plays all rounds on the caller's thread. The lead is in ticks. Says how many events these are.
 pub fn perform_alone<K: Sink>(
     plan: &Plan,
+    watch: &mut Watch,
     slots: &mut [Slot],
     gather: &mut Gather,
     room: u32,
@@ -31,6 +34,7 @@ pub fn perform_alone<K: Sink>(
     sink: &mut K,
 ) -> Result<u64, SinkFault>
     requires opened { Opened plan.now slots.old gather.old room }
+    requires watched { Watched plan.now watch.old slots.old }
     requires begun { writer.old ≡ just_begun plan.now.profile }
     requires at_end { IfSome (K.content sink.old) (λ c. length c ≡ writer.old.put) }
     ensures ended { OnOk result (AllAtEnd plan.now slots.new) }
@@ -41,13 +45,14 @@ pub fn perform_alone<K: Sink>(
         sink.old sink.new (events_bytes writer.old.state (piece (plan_lines plan.now)))) }
 {
     let mut events = 0;
-    begin_ready(plan, slots);
-    while let Some(next) = least(plan, slots) {
-        events += release(Some(next), slots, gather, writer, sink)?;
-        run_alone(plan, next.0.saturating_add(lead), slots);
-        begin_ready(plan, slots);
+    begin_first(plan, watch, slots);
+    while let Some(next) = least(plan, &watch.next, slots) {
+        events += release(Some(next), &watch.next, slots, gather, writer, sink)?;
+        let limit = next.0.saturating_add(lead);
+        run_alone(plan, limit, &watch.next, slots);
+        begin_next(plan, watch, slots);
     }
-    events += release(None, slots, gather, writer, sink)?;
+    events += release(None, &watch.next, slots, gather, writer, sink)?;
     Ok(events)
 }
 
@@ -57,6 +62,7 @@ pub fn perform_shared<R: Threads + Sync, G: Gate + Sync, K: Sink>(
     gate: &G,
     workers: u32,
     plan: &Plan,
+    watch: &mut Watch,
     slots: &mut [Slot],
     gather: &mut Gather,
     room: u32,
@@ -66,6 +72,7 @@ pub fn perform_shared<R: Threads + Sync, G: Gate + Sync, K: Sink>(
 ) -> Result<u64, SinkFault>
     requires workers { (0 < workers) × (workers ≤ MAX_WORKERS) }
     requires opened { Opened plan.now slots.old gather.old room }
+    requires watched { Watched plan.now watch.old slots.old }
     requires begun { writer.old ≡ just_begun plan.now.profile }
     requires at_end { IfSome (K.content sink.old) (λ c. length c ≡ writer.old.put) }
     ensures ended { OnOk result (AllAtEnd plan.now slots.new) }
@@ -76,12 +83,13 @@ pub fn perform_shared<R: Threads + Sync, G: Gate + Sync, K: Sink>(
         sink.old sink.new (events_bytes writer.old.state (piece (plan_lines plan.now)))) }
 {
     let mut events = 0;
-    begin_ready(plan, slots);
-    while let Some(next) = least(plan, slots) {
-        events += release(Some(next), slots, gather, writer, sink)?;
-        run_shared(rt, gate, workers, plan, next.0.saturating_add(lead), slots);
-        begin_ready(plan, slots);
+    begin_first(plan, watch, slots);
+    while let Some(next) = least(plan, &watch.next, slots) {
+        events += release(Some(next), &watch.next, slots, gather, writer, sink)?;
+        let limit = next.0.saturating_add(lead);
+        run_shared(rt, gate, workers, plan, limit, &watch.next, slots);
+        begin_next(plan, watch, slots);
     }
-    events += release(None, slots, gather, writer, sink)?;
+    events += release(None, &watch.next, slots, gather, writer, sink)?;
     Ok(events)
 }

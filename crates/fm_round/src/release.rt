@@ -6,6 +6,7 @@ ghost use Rattle.fm_line.proofs.Sorting.{Ordered};
 ghost use Rattle.fm_smf.specs.Track.{events_bytes};
 ghost use Rattle.fm_smf.specs.Writing.{Writes};
 ghost use Rattle.fm_play.specs.Ends.{CanFollow};
+ghost use Rattle.fm_round.specs.Chain.{IsChain, OthersIdle};
 ghost use Rattle.fm_round.specs.Lefts.{OwnFrom, joined};
 ghost use Rattle.fm_round.specs.Slots.{due, room_of, room_sum, without_due};
 
@@ -16,9 +17,11 @@ use fm_play::write_all;
 use fm_smf::{SinkFault, Writer};
 
 /// Takes the events up to the key, a pair of tick and process, out of all outboxes, or all events
-/// where there is no key, and writes them in their order. Says how many these are.
+/// where there is no key, and writes them in their order. Says how many these are. Only those in
+/// the chain are gone through.
 pub fn release<K: Sink>(
     key: Option<(u64, u32)>,
+    next: &[u32],
     slots: &mut [Slot],
     gather: &mut Gather,
     writer: &mut Writer,
@@ -26,6 +29,9 @@ pub fn release<K: Sink>(
 ) -> Result<u64, SinkFault>
     requires empty { gather.old.events ≡ [] }
     requires space { room_sum (map room_of slots.old) ≤ gather.old.capacity }
+    requires chain { IsChain next.now }
+    requires size { length next.now ≡ length slots.old }
+    requires idle { OthersIdle next.now slots.old }
     requires own { OwnFrom 0 (map (due key) slots.old) }
     requires follow { CanFollow writer.old (sorted (joined (map (due key) slots.old))) }
     requires at_end { IfSome (K.content sink.old) (λ c. length c ≡ writer.old.put) }
@@ -37,7 +43,7 @@ pub fn release<K: Sink>(
     ensures err { OnErr result (Breaks K.content K.sure K.faults sink.old sink.new
         (events_bytes writer.old.state (sorted (joined (map (due key) slots.old))))) }
 {
-    gather_due(key, slots, gather);
+    gather_due(key, next, slots, gather);
     settle(gather);
     write_all(gather.events(), writer, sink)?;
     let count = gather.events().len() as u64;
@@ -46,15 +52,20 @@ pub fn release<K: Sink>(
 }
 
 // Takes what is due out of all outboxes.
-fn gather_due(key: Option<(u64, u32)>, slots: &mut [Slot], gather: &mut Gather)
+fn gather_due(key: Option<(u64, u32)>, next: &[u32], slots: &mut [Slot], gather: &mut Gather)
     requires empty { gather.old.events ≡ [] }
     requires space { room_sum (map room_of slots.old) ≤ gather.old.capacity }
+    requires chain { IsChain next.now }
+    requires size { length next.now ≡ length slots.old }
+    requires idle { OthersIdle next.now slots.old }
     ensures slots { slots.new ≡ map (without_due key) slots.old }
     ensures gather { gather.new
         ≡ record gather.old { events = joined (map (due key) slots.old) } }
 {
-    for slot in slots.iter_mut() {
-        take_due(key, slot, gather);
+    let mut at = 0;
+    while at < slots.len() {
+        take_due(key, &mut slots[at], gather);
+        at = next[at] as usize;
     }
 }
 

@@ -14,6 +14,7 @@ ghost use Rattle.fm_round.specs.Slots.{AllAtEnd, IsAtEnd, IsFresh};
 use crate::limits::MAX_WORKERS;
 use crate::perform::{perform_alone, perform_shared};
 use crate::slot::Slot;
+use crate::watch::{Watch, open_watch};
 use fm_buffer::{Gather, MAX_ROOM, Outbox};
 use fm_edge::{Gate, Sink};
 use fm_play::{Played, begin_file, finish_file};
@@ -27,6 +28,7 @@ use std::thread::Threads;
 #[derive(Drop)]
 pub struct Rounds {
     plan: Plan,
+    watch: Watch,
     slots: Vec<Slot>,
     gather: Gather,
     room: u32,
@@ -36,12 +38,14 @@ pub struct Rounds {
 impl Model for Rounds {
     ghost use Rattle.fm_program.specs.Parts.{PlanParts};
     ghost use Rattle.fm_round.specs.Rounds.{Opened};
+    ghost use Rattle.fm_round.specs.Watching.{Watched};
 
     ghost Value = { PlanParts };
 
     ghost view = { λ r. r.plan };
 
-    ghost invariant = { λ r. Opened r.plan r.slots.items r.gather r.room };
+    ghost invariant = { λ r. Opened r.plan r.slots.items r.gather r.room
+        × Watched r.plan r.watch r.slots.items };
 }
 
 impl Rounds {
@@ -53,10 +57,12 @@ impl Rounds {
         ensures { IfOk result (λ rounds. rounds ≡ plan) }
     {
         let processes = plan.processes();
+        let watch = open_watch(alloc, &plan)?;
         let slots = fresh_slots(alloc, processes, room)?;
         let gather = Gather::new(alloc, processes as usize * room as usize)?;
         Ok(Rounds {
             plan,
+            watch,
             slots,
             gather,
             room,
@@ -84,6 +90,7 @@ impl Rounds {
     {
         let Rounds {
             plan,
+            mut watch,
             mut slots,
             mut gather,
             room,
@@ -96,6 +103,7 @@ impl Rounds {
             gate,
             workers.max(1),
             &plan,
+            &mut watch,
             lent,
             &mut gather,
             room,
@@ -124,6 +132,7 @@ impl Rounds {
     {
         let Rounds {
             plan,
+            mut watch,
             mut slots,
             mut gather,
             room,
@@ -131,7 +140,16 @@ impl Rounds {
         } = self;
         let lent = slots.as_mut_slice();
         let mut writer = begin_file(&plan, sink)?;
-        let events = perform_alone(&plan, lent, &mut gather, room, lead, &mut writer, sink)?;
+        let events = perform_alone(
+            &plan,
+            &mut watch,
+            lent,
+            &mut gather,
+            room,
+            lead,
+            &mut writer,
+            sink,
+        )?;
         let last = end_of_piece(&plan, lent);
         let bytes = finish_file(&plan, last, writer, sink)?;
         Ok(Played {

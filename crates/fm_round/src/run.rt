@@ -1,6 +1,7 @@
 //! One quantum of each process, on one thread or on several.
 ghost use Rattle.std.specs.Prelude.{◌≡◌, ◌+◌, ◌*◌, ◌<◌, ◌≤◌, true, false, length};
 ghost use Rattle.std.specs.Thread.{IsSync};
+ghost use Rattle.fm_round.specs.Chain.{Cuts, Enters, IsChain, OthersIdle, OthersIdleFrom, link};
 ghost use Rattle.fm_round.specs.Slots.{AllSlots, AreSlots, NoneRuns, RunsAll, RunsEach, SomeRuns};
 
 use crate::limits::{MAX_PROCESSES, MAX_WORKERS};
@@ -9,13 +10,17 @@ use fm_edge::{Gate, OpenGate};
 use fm_strand::Plan;
 use std::thread::{Threads, join_mut};
 
-/// One quantum of each process up to the limit, a tick, on the caller's thread.
-pub fn run_alone(plan: &Plan, limit: u64, slots: &mut [Slot])
+/// One quantum of each process up to the limit, a tick, on the caller's thread. Only those in the
+/// chain are gone through.
+pub fn run_alone(plan: &Plan, limit: u64, next: &[u32], slots: &mut [Slot])
     requires few { length slots.old ≤ MAX_PROCESSES }
     requires slots { AllSlots plan.now slots.old }
+    requires chain { IsChain next.now }
+    requires size { length next.now ≡ length slots.old }
+    requires idle { OthersIdle next.now slots.old }
     ensures { RunsAll plan.now limit slots.old slots.new }
 {
-    run_chunk(&OpenGate, 0, plan, 0, limit, slots);
+    run_chunk(&OpenGate, 0, plan, limit, next, 0, 0, slots);
 }
 
 /// The same in exactly as many chunks as there are workers, each with a thread of its own where
@@ -26,30 +31,57 @@ pub fn run_shared<R: Threads + Sync, G: Gate + Sync>(
     workers: u32,
     plan: &Plan,
     limit: u64,
+    next: &[u32],
     slots: &mut [Slot],
 )
     requires workers { (0 < workers) × (workers ≤ MAX_WORKERS) }
     requires few { length slots.old ≤ MAX_PROCESSES }
     requires slots { AllSlots plan.now slots.old }
+    requires chain { IsChain next.now }
+    requires size { length next.now ≡ length slots.old }
+    requires idle { OthersIdle next.now slots.old }
     ensures { RunsAll plan.now limit slots.old slots.new }
 {
-    share(rt, gate, plan, 0, workers, limit, 0, slots);
+    share(rt, gate, plan, 0, workers, limit, next, 0, 0, slots);
 }
 
-// One quantum of each of the processes from `first` on.
-fn run_chunk<G: Gate>(gate: &G, actor: u32, plan: &Plan, first: u32, limit: u64, slots: &mut [Slot])
+// One quantum of each of the processes from `first` on. The chain enters them at `head`.
+fn run_chunk<G: Gate>(
+    gate: &G,
+    actor: u32,
+    plan: &Plan,
+    limit: u64,
+    next: &[u32],
+    head: u32,
+    first: u32,
+    slots: &mut [Slot],
+)
     requires few { first + length slots.old ≤ MAX_PROCESSES }
     requires slots { AreSlots plan.now first slots.old }
+    requires chain { IsChain next.now }
+    requires size { first + length slots.old ≤ length next.now }
+    requires head { Enters next.now first (first + length slots.old) head }
+    requires idle { OthersIdleFrom next.now first slots.old }
     ensures each { RunsEach plan.now first limit slots.old slots.new }
     ensures len { length slots.new ≡ length slots.old }
 {
-    for (k, slot) in slots.iter_mut().enumerate() {
-        run_slot(gate, actor, plan, first + k as u32, limit, slot);
+    let end = first + slots.len() as u32;
+    let mut at = head;
+    while at < end {
+        run_slot(
+            gate,
+            actor,
+            plan,
+            at,
+            limit,
+            &mut slots[(at - first) as usize],
+        );
+        at = next[at as usize];
     }
 }
 
-// One quantum of each of the processes from `first` on, in exactly so many chunks. The number of a
-// chunk is the actor at the gate.
+// One quantum of each of the processes from `first` on, in exactly so many chunks, which have about
+// as many numbers of the chain. The number of a chunk is the actor at the gate.
 #[cycle(shares)]
 fn share<R: Threads + Sync, G: Gate + Sync>(
     rt: &R,
@@ -58,22 +90,28 @@ fn share<R: Threads + Sync, G: Gate + Sync>(
     actor: u32,
     workers: u32,
     limit: u64,
+    next: &[u32],
+    head: u32,
     first: u32,
     slots: &mut [Slot],
 )
     requires workers { (0 < workers) × (actor + workers ≤ MAX_WORKERS) }
     requires few { first + length slots.old ≤ MAX_PROCESSES }
     requires slots { AreSlots plan.now first slots.old }
+    requires chain { IsChain next.now }
+    requires size { first + length slots.old ≤ length next.now }
+    requires head { Enters next.now first (first + length slots.old) head }
+    requires idle { OthersIdleFrom next.now first slots.old }
     ensures each { RunsEach plan.now first limit slots.old slots.new }
     ensures len { length slots.new ≡ length slots.old }
 {
     if workers == 1 {
-        run_chunk(gate, actor, plan, first, limit, slots);
+        run_chunk(gate, actor, plan, limit, next, head, first, slots);
         return;
     }
     let low = workers / 2;
-    let mid = part(slots.len(), low, workers);
-    let (a, b) = slots.split_at_mut(mid);
+    let mid = middle(next, head, first + slots.len() as u32, low, workers);
+    let (a, b) = slots.split_at_mut((mid - first) as usize);
     share_both(
         rt,
         gate,
@@ -82,14 +120,51 @@ fn share<R: Threads + Sync, G: Gate + Sync>(
         low,
         workers - low,
         limit,
+        next,
+        head,
         first,
-        first + mid as u32,
+        mid,
         a,
         b,
     );
 }
 
-// How many slots of all so many of the workers have.
+// Where the chain is cut so that so many of the workers have their share of it.
+fn middle(next: &[u32], head: u32, end: u32, low: u32, workers: u32) -> u32
+    requires chain { IsChain next.now }
+    requires end { (end ≤ length next.now) × (end ≤ MAX_PROCESSES) }
+    requires head { head < end → 0 < link next.now head }
+    requires workers { (low < workers) × (workers ≤ MAX_WORKERS) }
+    ensures { Cuts next.now head end result }
+{
+    let all = count_from(next, head, end);
+    let share = part(all, low, workers);
+    let mut at = head;
+    for _passed in 0..share {
+        if at < end {
+            at = next[at as usize];
+        }
+    }
+    at.min(end)
+}
+
+// How many numbers the chain has from `head` on below `end`.
+fn count_from(next: &[u32], head: u32, end: u32) -> usize
+    requires chain { IsChain next.now }
+    requires end { end ≤ length next.now }
+    requires head { head < end → 0 < link next.now head }
+    ensures { result ≤ end }
+{
+    let mut count = 0;
+    let mut at = head;
+    while at < end {
+        count += 1;
+        at = next[at as usize];
+    }
+    count
+}
+
+// How many of all numbers so many of the workers have.
 fn part(all: usize, low: u32, workers: u32) -> usize
     requires { (low < workers) × (workers ≤ MAX_WORKERS) × (all ≤ MAX_PROCESSES) }
     ensures within { result ≤ all }
@@ -99,14 +174,22 @@ fn part(all: usize, low: u32, workers: u32) -> usize
 }
 
 // Whether one of the processes has started and not ended.
-fn has_live(slots: &[Slot]) -> bool
+fn has_live(next: &[u32], head: u32, first: u32, slots: &[Slot]) -> bool
+    requires few { first + length slots.now ≤ MAX_PROCESSES }
+    requires chain { IsChain next.now }
+    requires size { first + length slots.now ≤ length next.now }
+    requires head { Enters next.now first (first + length slots.now) head }
+    requires idle { OthersIdleFrom next.now first slots.now }
     ensures yes { result ≡ true → SomeRuns slots.now }
     ensures no { result ≡ false → NoneRuns slots.now }
 {
-    for slot in slots {
-        if is_live(slot) {
+    let end = first + slots.len() as u32;
+    let mut at = head;
+    while at < end {
+        if is_live(&slots[(at - first) as usize]) {
             return true;
         }
+        at = next[at as usize];
     }
     false
 }
@@ -122,6 +205,8 @@ fn share_both<R: Threads + Sync, G: Gate + Sync>(
     low: u32,
     high: u32,
     limit: u64,
+    next: &[u32],
+    head: u32,
     first: u32,
     second: u32,
     a: &mut [Slot],
@@ -132,24 +217,37 @@ fn share_both<R: Threads + Sync, G: Gate + Sync>(
         × (second + length b.old ≤ MAX_PROCESSES) }
     requires front { AreSlots plan.now first a.old }
     requires back { AreSlots plan.now second b.old }
+    requires chain { IsChain next.now }
+    requires size { (first + length a.old ≤ length next.now)
+        × (second + length b.old ≤ length next.now) }
+    requires head { Enters next.now first (first + length a.old) head }
+    requires mid { Enters next.now second (second + length b.old) second }
+    requires front_idle { OthersIdleFrom next.now first a.old }
+    requires back_idle { OthersIdleFrom next.now second b.old }
     ensures ran_front { RunsEach plan.now first limit a.old a.new }
     ensures ran_back { RunsEach plan.now second limit b.old b.new }
 {
     let up = actor + low;
-    if !has_live(a) || !has_live(b) {
-        share(rt, gate, plan, actor, low, limit, first, a);
-        share(rt, gate, plan, up, high, limit, second, b);
+    if !has_live(next, head, first, a) || !has_live(next, second, second, b) {
+        share(rt, gate, plan, actor, low, limit, next, head, first, a);
+        share(rt, gate, plan, up, high, limit, next, second, second, b);
         return;
     }
     let mut front = ||
         requires { IsSync R.row × IsSync G.row × (0 < low) × (actor + low ≤ MAX_WORKERS)
-            × (first + length a.now ≤ MAX_PROCESSES) × AreSlots plan.now first a.now }
+            × (first + length a.now ≤ MAX_PROCESSES) × AreSlots plan.now first a.now
+            × IsChain next.now × (first + length a.now ≤ length next.now)
+            × Enters next.now first (first + length a.now) head
+            × OthersIdleFrom next.now first a.now }
         ensures { RunsEach plan.entry.now first limit a.entry.now a.exit.now }
-    { share(rt, gate, plan, actor, low, limit, first, a) };
+    { share(rt, gate, plan, actor, low, limit, next, head, first, a) };
     let mut back = ||
         requires { IsSync R.row × IsSync G.row × (0 < high) × (up + high ≤ MAX_WORKERS)
-            × (second + length b.now ≤ MAX_PROCESSES) × AreSlots plan.now second b.now }
+            × (second + length b.now ≤ MAX_PROCESSES) × AreSlots plan.now second b.now
+            × IsChain next.now × (second + length b.now ≤ length next.now)
+            × Enters next.now second (second + length b.now) second
+            × OthersIdleFrom next.now second b.now }
         ensures { RunsEach plan.entry.now second limit b.entry.now b.exit.now }
-    { share(rt, gate, plan, up, high, limit, second, b) };
+    { share(rt, gate, plan, up, high, limit, next, second, second, b) };
     join_mut(rt, &mut front, &mut back);
 }

@@ -1,6 +1,7 @@
 //! A process between two rounds.
+ghost use Rattle.fm_round.specs.Chain.{IsIdle};
 ghost use Rattle.fm_round.specs.Slots.{IsSlotOf, Runs, has_ended, is_running, live_clock};
-ghost use Rattle.std.specs.Prelude.{◌≡◌};
+ghost use Rattle.std.specs.Prelude.{◌≡◌, true};
 
 use fm_buffer::Outbox;
 use fm_edge::{Gate, Moment};
@@ -42,6 +43,13 @@ pub fn is_live(slot: &Slot) -> bool
         Some(_) => true,
         None => false,
     }
+}
+
+/// Whether a process does not run, and none of its events waits.
+pub fn is_idle(slot: &Slot) -> bool
+    ensures { result ≡ true → IsIdle slot.now }
+{
+    slot.outbox.len() == 0 && !is_live(slot)
 }
 
 /// One quantum of a process up to the limit, a tick, if it has started and not ended.

@@ -1,16 +1,24 @@
 use Rattle.std.proofs.Common.{sym, ap, ◌∙◌, subst, arith}
+use Rattle.fm_round.specs.Chain.{link}
 use Rattle.fm_round.specs.Slots.{LeastOf, live_clock, no_slot}
+use Rattle.fm_round.proofs.Passing.{least_passed}
 use Rattle.fm_round.proofs.Running.{any_default}
-use Rattle.fm_round.proofs.Finding.{least_more}
 use Rattle.fm_round.proofs.least.least.Goals as goal
 
-pub loop-j-preserved : goal.loop-j-preserved
-loop-j-preserved c =
-    let at = c.index-slots-j.is ∙ any_default c.args.slots.now c.loop-j.j c.index-slots-j.result no_slot c.loop-j-test.true in
-    subst (LeastOf c.args.plan.now c.args.slots.now _) (sym c.lesser-best.ensures)
-    (least_more c.args.plan.now c.args.slots.now c.loop-j.j c.loop-j.best c.clock.result
-    (sym (c.clock.ensures ∙ ap (live_clock c.args.plan.now) at)) c.loop-j.invariant)
+pub loop-at-preserved : goal.loop-at-preserved
+loop-at-preserved c =
+    let at = c.index-slots-at.is ∙ any_default c.args.slots.now c.loop-at.at c.index-slots-at.result no_slot c.loop-at-test.true in
+    let on = c.loop-at.invariant.there c.loop-at-test.true in
+    let all = c.requires.chain.within c.loop-at.at in
+    record {
+      least = subst (LeastOf c.args.plan.now c.args.slots.now (link c.args.next.now c.loop-at.at)) (sym c.lesser-best.ensures)
+          (least_passed c.args.plan.now c.args.slots.now c.args.next.now c.loop-at.at c.loop-at.best c.clock.result c.requires.chain
+          c.requires.size c.requires.idle on (sym (c.clock.ensures ∙ ap (live_clock c.args.plan.now) at)) c.loop-at.invariant.least);
+      within = omega (arith, c.requires.size);
+      there = λ less. c.requires.chain.linked c.loop-at.at on (omega (arith, less, c.requires.size));
+    }
 
 pub returns : goal.returns
 returns c =
-    subst (λ j. LeastOf c.args.plan.now c.args.slots.now j c.loop-j.best) (omega (arith, c.loop-j.auto.j-end, c.loop-j-test.false)) c.loop-j.invariant
+    subst (λ j. LeastOf c.args.plan.now c.args.slots.now j c.loop-at.best)
+    (omega (arith, c.loop-at.invariant.within, c.loop-at-test.false)) c.loop-at.invariant.least

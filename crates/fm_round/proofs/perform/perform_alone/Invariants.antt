@@ -1,10 +1,13 @@
 use Rattle.fm_round.specs.Rounds.{Between}
 use Rattle.fm_round.specs.Slots.{loads}
+use Rattle.fm_round.specs.Watching.{Watched}
 use Rattle.fm_round.proofs.perform.perform_alone.Given as goal
 
 abbrev pub invariant-loop-next : goal.invariant-loop-next
-invariant-loop-next g l =
-    Between g.K.Sink.content g.K.Sink.sure g.K.Sink.faults l.plan l.fn.sink l.sink l.fn.writer l.writer l.slots l.gather l.events
+invariant-loop-next g l = record {
+  between : Between g.K.Sink.content g.K.Sink.sure g.K.Sink.faults l.plan l.fn.sink l.sink l.fn.writer l.writer l.slots l.gather l.events;
+  watched : Watched l.plan l.watch l.slots;
+}
 
 -- a round makes a step, or ends a process
 abbrev pub decreases-loop-next : goal.decreases-loop-next

@@ -1,74 +1,58 @@
-use Rattle.std.proofs.Common.{◌≡◌, ◌⊎◌, ℕ, ◌+◌, ◌<◌, length, get_or, set, ◌++◌, sym, ap, ◌∙◌, subst, inl, inr, arith, length-append, get_or-set_same, get_or-set_other}
-use Rattle.std.proofs.lemmas.Bool.{cases_eq}
+use Rattle.std.proofs.Common.{◌≡◌, ◌++◌, ℕ, ◌<◌, List, length, get_or, ap, ap₂, ◌∙◌, arith, refl}
+use Rattle.fm_msg.specs.Event.{TimedMessage}
 use Rattle.fm_buffer.specs.Gather.{EventGather}
 use Rattle.fm_round.specs.declared.slot.Slot.{Slot}
 use Rattle.fm_round.specs.Slots.{due, no_slot, room_of, slot, without_due}
+use Rattle.fm_round.proofs.Gathering.{mapped_each}
+use Rattle.fm_round.proofs.Passing.{gathered_all, gathered_more, gathered_none, room_here}
 use Rattle.fm_round.proofs.Running.{any_default}
-use Rattle.fm_round.proofs.Gathering.{due_more, mapped_each, rooms_from}
 use Rattle.fm_round.proofs.release.gather_due.Goals as goal
+
+pub loop-at-init : goal.loop-at-init
+loop-at-init c = record {
+  gathered = gathered_none c.args.key c.args.next.now c.args.slots.now c.args.gather.now.events c.args.gather.now.capacity c.requires.chain
+      c.requires.empty c.requires.space;
+  capacity = refl;
+}
 
 pub take_due-requires : goal.take_due-requires
 take_due-requires c =
-    let i = c.loop-slot.slot-index in
-    let within = c.loop-slot-test.true in
-    let here = any_default c.loop-slot.slots c.loop-slot.slot-index c.slot-item.result no_slot (omega arith)
-    ∙ c.loop-slot.invariant.others c.loop-slot.slot-index (omega arith) in
-    let rooms = rooms_from c.args.slots.now c.loop-slot.slot-index within in
-    let room = ap room_of here in
-    let space = c.loop-slot.invariant.space in
-    let capacity = c.loop-slot.invariant.capacity in omega arith
+    let before = c.loop-at.invariant.gathered in
+    let within : c.loop-at.at < length c.args.slots.now = omega (arith, c.loop-at-test.true, before.size) in
+    let at = any_default c.loop-at.slots c.loop-at.at c.index-slots-at.result no_slot (omega (arith, c.loop-at-test.true))
+    ∙ before.others c.loop-at.at (omega arith) in
+    let free = room_here c.args.key c.args.next.now c.args.slots.now c.loop-at.slots c.loop-at.gather.events c.args.gather.now.capacity
+    c.loop-at.at c.requires.chain c.requires.size c.requires.idle before within in
+    omega (arith, free, ap room_of at, c.loop-at.invariant.capacity)
 
-taken_here : (c : goal.After-take_due) (j : ℕ) → (j ≡ c.loop-slot.slot-index) ⊎ (j ≡ c.loop-slot.slot-index → ⊥)
-    → j < c.loop-slot.slot-index + 1
-    → get_or c.loop-slot.slots c.loop-slot.slot-index c.slot-item.result ≡ slot c.args.slots.now c.loop-slot.slot-index
-    → c.take_due.new.slot ≡ without_due c.args.key (slot c.args.slots.now c.loop-slot.slot-index)
-    → slot (set c.loop-slot.slots c.loop-slot.slot-index c.take_due.new.slot) j ≡ without_due c.args.key (slot c.args.slots.now j)
-taken_here c j (inl same) below at new =
-    let long = c.loop-slot.auto.slots in
-    let within = c.loop-slot-test.true in
-    subst (λ (k : ℕ). slot (set c.loop-slot.slots c.loop-slot.slot-index c.take_due.new.slot) k
-    ≡ without_due c.args.key (slot c.args.slots.now k))
-    (sym same)
-    (get_or-set_same c.loop-slot.slots c.loop-slot.slot-index c.take_due.new.slot no_slot (omega arith) ∙ new)
-taken_here c j (inr apart) below at new =
-    get_or-set_other c.loop-slot.slots c.loop-slot.slot-index j c.take_due.new.slot no_slot apart
-    ∙ c.loop-slot.invariant.taken j (omega arith)
-
-pub loop-slot-preserved : goal.loop-slot-preserved
-loop-slot-preserved c =
-    let i = c.loop-slot.slot-index in
-    let within = c.loop-slot-test.true in
-    let before = c.loop-slot.invariant in
-    let at : get_or c.loop-slot.slots c.loop-slot.slot-index c.slot-item.result ≡ slot c.args.slots.now c.loop-slot.slot-index =
-    any_default c.loop-slot.slots c.loop-slot.slot-index c.slot-item.result no_slot (omega arith)
-    ∙ before.others c.loop-slot.slot-index (omega arith) in
-    let new : c.take_due.new.slot ≡ without_due c.args.key (slot c.args.slots.now c.loop-slot.slot-index) =
-    c.take_due.ensures.slot ∙ ap (without_due c.args.key) at in
-    let events : c.take_due.new.gather.events ≡ c.loop-slot.gather.events ++ due c.args.key (slot c.args.slots.now c.loop-slot.slot-index) =
-    ap (λ (x : EventGather). x.events) c.take_due.ensures.gather ∙ ap (λ (s : Slot). c.loop-slot.gather.events ++ due c.args.key s) at in
+pub loop-at-preserved : goal.loop-at-preserved
+loop-at-preserved c =
+    let before = c.loop-at.invariant.gathered in
+    let within : c.loop-at.at < length c.args.slots.now = omega (arith, c.loop-at-test.true, before.size) in
+    let at : get_or c.loop-at.slots c.loop-at.at c.index-slots-at.result ≡ slot c.args.slots.now c.loop-at.at =
+    any_default c.loop-at.slots c.loop-at.at c.index-slots-at.result no_slot (omega (arith, c.loop-at-test.true))
+    ∙ before.others c.loop-at.at (omega arith) in
     record {
-      taken = λ j below. taken_here c j (cases_eq j c.loop-slot.slot-index) below at new;
-      others = λ j above.
-          get_or-set_other c.loop-slot.slots c.loop-slot.slot-index j c.take_due.new.slot no_slot (λ same. absurd (omega arith))
-          ∙ before.others j (omega arith);
-      events =
-          events ∙ ap (λ es. es ++ due c.args.key (slot c.args.slots.now c.loop-slot.slot-index)) before.events
-          ∙ sym (due_more c.args.key c.args.slots.now c.loop-slot.slot-index within);
-      capacity = ap (λ (x : EventGather). x.capacity) c.take_due.ensures.gather ∙ before.capacity;
-      space =
-          let rooms = rooms_from c.args.slots.now c.loop-slot.slot-index within in
-          let room = ap room_of at in
-          let due_here = ap (λ (s : Slot). length (due c.args.key s)) at in
-          let few = c.take_due.ensures.few in
-          let free = before.space in
-          omega (
-            arith,
-            ap length events,
-            length-append c.loop-slot.gather.events (due c.args.key (slot c.args.slots.now c.loop-slot.slot-index)),
-          );
+      gathered = gathered_more c.args.key c.args.next.now c.args.slots.now c.loop-at.slots c.loop-at.gather.events
+          c.args.gather.now.capacity c.loop-at.at c.requires.chain c.requires.size c.requires.idle before within
+          c.take_due.new.slot c.take_due.new.gather.events
+          (c.take_due.ensures.slot ∙ ap (without_due c.args.key) at)
+          (ap (λ (x : EventGather). x.events) c.take_due.ensures.gather
+          ∙ ap (λ (s : Slot). c.loop-at.gather.events ++ due c.args.key s) at)
+          (omega (arith, c.take_due.ensures.few, ap room_of at, ap (λ (s : Slot). length (due c.args.key s)) at));
+      capacity = ap (λ (x : EventGather). x.capacity) c.take_due.ensures.gather ∙ c.loop-at.invariant.capacity;
     }
 
 pub returns-clause-slots : goal.returns-clause-slots
 returns-clause-slots c =
-    mapped_each (without_due c.args.key) c.args.slots.now c.loop-slot.slots c.loop-slot.auto.slots
-    (λ k within. let to_end = c.loop-slot-test.false in c.loop-slot.invariant.taken k (omega arith))
+    let all = c.loop-at.invariant.gathered in
+    mapped_each (without_due c.args.key) c.args.slots.now c.loop-at.slots all.size
+    (λ k within. all.taken k (omega (arith, within, all.size, c.loop-at-test.false)))
+
+pub returns-clause-gather : goal.returns-clause-gather
+returns-clause-gather c =
+    let all = c.loop-at.invariant.gathered in
+    let make : ℕ → List TimedMessage → EventGather = λ a es. record { capacity = a; events = es } in
+    ap₂ make c.loop-at.invariant.capacity
+    (gathered_all c.args.key c.args.next.now c.args.slots.now c.loop-at.slots c.loop-at.gather.events c.args.gather.now.capacity
+    c.loop-at.at all (omega (arith, all.size, c.loop-at-test.false)))

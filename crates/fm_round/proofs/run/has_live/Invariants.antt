@@ -1,7 +1,9 @@
-use Rattle.std.proofs.Common.{◌≡◌, ℕ, ◌<◌, false}
-use Rattle.fm_round.specs.Slots.{is_running, slot}
+use Rattle.std.proofs.Common.{◌-◌}
+use Rattle.fm_round.proofs.Passing.{IdleTo}
 use Rattle.fm_round.proofs.run.has_live.Given as goal
 
--- the slots in front do not run
-abbrev pub invariant-loop-slot : goal.invariant-loop-slot
-invariant-loop-slot l = (i : ℕ) → i < l.slot-index → is_running (slot l.slots i) ≡ false
+abbrev pub invariant-loop-at : goal.invariant-loop-at
+invariant-loop-at l = IdleTo l.first l.next l.slots l.at
+
+abbrev pub decreases-loop-at : goal.decreases-loop-at
+decreases-loop-at l = l.end - l.at

@@ -1,10 +1,9 @@
-use Rattle.std.proofs.Common.{◌≡◌, ℕ, ◌+◌, ◌<◌, ◌≤◌}
-use Rattle.fm_round.specs.Slots.{Runs, slot}
+use Rattle.std.proofs.Common.{◌-◌}
+use Rattle.fm_round.proofs.Passing.{RanTo}
 use Rattle.fm_round.proofs.run.run_chunk.Given as goal
 
--- the slots in front have run, and those behind are as they were
-abbrev pub invariant-loop-k : goal.invariant-loop-k
-invariant-loop-k g l = record {
-  ran : (j : ℕ) → j < l.k → Runs l.plan (l.first + j) l.limit (slot l.fn.slots j) (slot l.slots j);
-  others : (j : ℕ) → l.k ≤ j → slot l.slots j ≡ slot l.fn.slots j;
-}
+abbrev pub invariant-loop-at : goal.invariant-loop-at
+invariant-loop-at g l = RanTo l.plan l.first l.limit l.next l.fn.slots l.slots l.at
+
+abbrev pub decreases-loop-at : goal.decreases-loop-at
+decreases-loop-at g l = l.end - l.at

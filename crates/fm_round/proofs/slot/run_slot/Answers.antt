@@ -1,4 +1,4 @@
-use Rattle.std.proofs.Common.{Some, false, refl, subst}
+use Rattle.std.proofs.Common.{Some, refl, subst}
 use Rattle.fm_round.specs.Slots.{IsRun}
 use Rattle.fm_round.proofs.Quanta.{ran}
 use Rattle.fm_round.proofs.slot.run_slot.Goals as goal

@@ -1,0 +1,7 @@
+use Rattle.std.proofs.Common.{◌≡◌, ℕ, ◌<◌, ◌≤◌, true}
+use Rattle.fm_round.specs.Watching.{ended_at}
+use Rattle.fm_round.proofs.begin.first_live.Given as goal
+
+-- those in front have ended
+abbrev pub invariant-loop-place : goal.invariant-loop-place
+invariant-loop-place l = (i : ℕ) → l.from ≤ i → i < l.place → ended_at l.processes l.slots i ≡ true
