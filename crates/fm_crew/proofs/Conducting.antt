@@ -38,7 +38,16 @@ use Rattle.fm_board.specs.Calls.{Releases}
 use Rattle.fm_board.specs.Quantum.{IsLimit}
 use Rattle.fm_board.specs.Seats.{IsIdle, Sight}
 use Rattle.fm_board.specs.View.{lines_of, processes, published, released, was_visited}
-use Rattle.fm_crew.specs.Conduct.{BreaksNext, Conducting, HasConducted, IsConductor, MayConduct, Passing, Publishes, Stays, TellsLast, WritesNext}
+use Rattle.fm_crew.specs.Conduct.{BreaksNext, Conducting, HasConducted, IsConductor, LooksAgain, MayConduct, Passing, Publishes, Stays, TellsLast, WritesNext}
+
+-- a publish of the least pair of a new sweep
+pub publishes : (old mid new : View) (paced : Floor) (due : Due) → LooksAgain old mid → due ≡ due_of (least mid.sweep)
+    → new ≡ record (published mid (floor_of (least mid.sweep)) due) { paced = paced } → Publishes old new paced due
+publishes old mid new paced due looked due_is is = record {
+  pair = least mid.sweep;
+  due_is = due_is;
+  view = is ∙ ap (λ (v : View). record (published v (floor_of (least mid.sweep)) due) { paced = paced }) looked;
+}
 
 -- ---- a release of nothing
 
@@ -260,7 +269,7 @@ module _ {K : Type 0} (content : K → Option (List ℕ)) (sure : K → Option �
               };
               running = ap (λ (x : View). x.halted) p.view
                   ∙ (ap (λ (x : View). x.halted) w.view ∙ (stays.halted ∙ c.running));
-              done = λ is. ap (λ (x : View). x.published) p.view ∙ all_done (least t.sweep) (sym p.due_is ∙ is);
+              done = λ is. ap (λ (x : View). x.published) p.view ∙ all_done p.pair (sym p.due_is ∙ is);
               many = sym (ap (λ (x : View). x.released) p.view ∙ (many ∙ (sym (ap (λ k. k + n) c.many ∙ ap (λ k. v.released + k) w.count))));
               within = rw (ap (λ (x : View). lines_of x) p.view, lines_now, ap (λ (x : View). x.released) p.view, many) inside;
               writes = rw (ap (λ (x : View). lines_of x) p.view, lines_now, ap (λ (x : View). x.released) p.view, many) written;

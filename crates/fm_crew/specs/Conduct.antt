@@ -81,10 +81,15 @@ pub record HasConducted (t : TableId) (a : About) (s : Sight) : Type 0 where
   pub published : s.mind.view.published ≡ Done
   pub released : s.mind.view.released ≡ length (piece (plan_lines a.plan))
 
--- a publish of the sweep's least pair, and a pace
+-- looks alone: another sweep, and what they visit
+abbrev pub LooksAgain : View → View → Type 0
+LooksAgain old new = new ≡ record old { sweep = new.sweep; visited = new.visited }
+
+-- a publish of the least pair of a sweep, and a pace
 pub record Publishes (old new : View) (paced : Floor) (due : Due) : Type 0 where
-  pub due_is : due ≡ due_of (least old.sweep)
-  pub view : new ≡ record (published old (floor_of (least old.sweep)) due) { paced = paced }
+  pub pair : Option (ℕ × ℕ)
+  pub due_is : due ≡ due_of pair
+  pub view : new ≡ record (published old (floor_of pair) due) { paced = paced }
 
 -- a conductor's seat that holds nothing
 pub record IsConductor (t : TableId) (a : About) (s : Sight) : Type 0 where

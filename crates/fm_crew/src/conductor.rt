@@ -10,7 +10,7 @@ ghost use Rattle.fm_program.specs.Process.{plan_lines};
 ghost use Rattle.fm_smf.specs.Track.{events_bytes};
 ghost use Rattle.fm_smf.specs.Writing.{IsBroken, IsFinished, Writes, just_begun};
 ghost use Rattle.fm_board.specs.View.{processes};
-ghost use Rattle.fm_crew.specs.Conduct.{HasConducted, IsConductor, MayConduct, Publishes};
+ghost use Rattle.fm_crew.specs.Conduct.{HasConducted, IsConductor, LooksAgain, MayConduct, Publishes};
 
 use crate::Calls;
 use crate::limits::{has_all_due, limit_of, next_due, next_floor};
@@ -130,15 +130,29 @@ fn passes<R: Wait, B: Calls, G: Gate, K: Sink>(
     unreachable!()
 }
 
-// Publishes the floor of the sweep, and paces. Says the paced floor and what is due.
+// Looks at all processes again, publishes the floor of that sweep, and paces. Says the paced floor
+// and what is due.
 fn publish<B: Calls>(board: &B, seat: &mut BoardSeat) -> (Floor, Due)
     requires conductor { IsConductor (B.table board.now) (B.about board.now) seat.old }
-    requires swept { length seat.old.mind.view.sweep ≡ processes seat.old.mind.view }
     requires settled { seat.old.mind.view.due ≡ Nothing }
     ensures conductor { IsConductor (B.table board.now) (B.about board.now) seat.new }
     ensures publishes { Publishes seat.old.mind.view seat.new.mind.view result.0 result.1 }
 {
+    look_again(board, seat);
     let least = seat.sweep().least;
     board.publish(seat, next_floor(least));
     (board.pace(seat), next_due(least))
+}
+
+// Looks at all processes once more, so that what workers computed while the conductor wrote is due
+// in the next pass. Nothing is held up by it: each look is one load.
+fn look_again<B: Calls>(board: &B, seat: &mut BoardSeat)
+    requires conductor { IsConductor (B.table board.now) (B.about board.now) seat.old }
+    ensures conductor { IsConductor (B.table board.now) (B.about board.now) seat.new }
+    ensures looked { LooksAgain seat.old.mind.view seat.new.mind.view }
+    ensures swept { length seat.new.mind.view.sweep ≡ processes seat.old.mind.view }
+{
+    for process in 0..board.plan().processes() {
+        board.look(seat, process);
+    }
 }

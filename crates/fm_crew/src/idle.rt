@@ -9,6 +9,9 @@ use std::time::Duration;
 /// How many turns in a row are tried again at once.
 const SPINS: u32 = 8;
 
+/// The same for the conductor, who waits for a time slice to end and not for work.
+pub const LONG_SPINS: u32 = 64;
+
 /// How many more of them let another thread run first.
 const YIELDS: u32 = 4;
 
@@ -49,7 +52,7 @@ impl Idle {
             self.turns = 0;
             self.wait = FIRST_WAIT;
         } else if self.turns < SPINS + YIELDS {
-            self.yield_soon();
+            self.yield_soon(SPINS);
         } else {
             self.parker
                 .park_timeout(rt, Duration::from_micros(self.wait));
@@ -58,11 +61,11 @@ impl Idle {
     }
 
     /// After a turn that found nothing, of one who does not wait for long: the next one at once,
-    /// and after some of them a yield.
-    pub fn yield_soon(&mut self)
+    /// and after so many of them a yield.
+    pub fn yield_soon(&mut self, spins: u32)
         ensures { self.old.turns ≤ self.new.turns }
     {
-        if self.turns < SPINS {
+        if self.turns < spins {
             spin_loop();
         } else {
             yield_now();

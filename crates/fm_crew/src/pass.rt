@@ -6,7 +6,7 @@ ghost use Rattle.fm_crew.specs.Conduct.{Passing, Stays, TellsEnd, TellsLast};
 
 use crate::Calls;
 use crate::advance::advance;
-use crate::idle::Idle;
+use crate::idle::{Idle, LONG_SPINS};
 use crate::limits::has_due;
 use crate::serve::collect;
 use crate::starts::start;
@@ -69,7 +69,7 @@ fn visit<R: Wait, B: Calls, G: Gate>(
         if let Some(clock) = attend(board, gate, due, limit, seat, gather, process) {
             return clock;
         }
-        idle.yield_soon();
+        idle.yield_soon(LONG_SPINS);
     }
     unreachable!()
 }

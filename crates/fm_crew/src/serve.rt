@@ -21,8 +21,11 @@ use fm_edge::Gate;
 /// a worker's quantum costs more than it saves.
 const SMALL_ROOM: u32 = 4;
 
-/// Claims a process, takes what is due of it, and gives it back. Where it is the one that holds the
-/// floor back, it is run up to the limit before. Says whether it was to be had.
+/// So many events taken at once show that it pays to leave the next ones to a worker.
+const LARGE_TAKE: u8 = 8;
+
+/// Claims a process, takes what is due of it, and gives it back. Before that it is run, where no
+/// worker can be relied on for it. Says whether it was to be had.
 pub fn collect<B: Calls, G: Gate>(
     board: &B,
     gate: &G,
@@ -84,20 +87,21 @@ fn serve<B: Calls, G: Gate>(
         };
         board.give(seat, berth, work);
     } else {
-        let share = share_of(due, limit, board.room(), &berth);
+        let share = share_of(due, limit, board.room(), taken, &berth);
         advance(board, gate, share, seat, berth, taken);
     }
 }
 
-// The last tick to which the conductor runs a process after its take: 0, at which nothing new is
-// computed, where something of it waits. Else the limit, where the process holds the floor back or
-// its outbox is small, and the floor's tick where it does not.
-fn share_of(due: Due, limit: u64, room: u32, berth: &Berth) -> u64
+// The last tick to which the conductor runs a process after a take of so many events: 0, at which
+// nothing new is computed, where something of it still waits, or so much was taken that workers can
+// be relied on; where none comes, the next visit takes nothing. Else the limit, where the process
+// holds the floor back or its outbox is small, and the floor's tick where it does not.
+fn share_of(due: Due, limit: u64, room: u32, taken: u8, berth: &Berth) -> u64
     ensures { result ≤ limit }
 {
     match due {
         Due::Pair { time, process } => {
-            if berth.outbox.len() > 0 {
+            if berth.outbox.len() > 0 || taken >= LARGE_TAKE {
                 0
             } else if process == berth.process || room <= SMALL_ROOM {
                 limit
