@@ -259,6 +259,17 @@ def deep_branches(branches, rounds):
     return b"formula 1;" + LONG_PARTS + b"par{" + b"".join(b"branch{" + inner + b"}" for _ in range(branches)) + b"}"
 
 
+def sparse_branches(branches, rounds):
+    """The same where each round draws whether it is a note or, in fifteen of sixteen, a rest: much to compute, little
+    to write."""
+    note = b"note key (36 + (pick(60) * 7 + n0 % 13 * 5) / 9) ticks (40 + n0 % 5) max 44;"
+    rest = b"rest ticks (40 + (pick(60) * 7 + n0 % 13 * 5) % 5) max 44;"
+    inner = b"repeat %d{" % rounds + b"if less(pick(16), 1){" + note + b"}else{" + rest + b"}}"
+    for _ in range(8):
+        inner = b"warp a{" + inner + b"}"
+    return b"formula 1;" + LONG_PARTS + b"par{" + b"".join(b"branch{" + inner + b"}" for _ in range(branches)) + b"}"
+
+
 def steps_before_forks(count):
     """About so many steps of one process, before which 4,000 others wait."""
     start = b"par{branch{repeat %d{repeat 1000000{rest ticks 0;}}}}" % (count // 2_000_000)
