@@ -309,8 +309,8 @@ fn lines_of_plan(alloc: Global, plan: &Plan) -> Result<String, AllocError> {
     Ok(lines)
 }
 
-fn lines_of(alloc: Global, text: &str) -> Result<String, RunFault> {
-    let mut source = SureSource::new(text.as_bytes().to_vec(alloc)?);
+fn lines_of(alloc: Global, text: &[u8]) -> Result<String, RunFault> {
+    let mut source = SureSource::new(text.to_vec(alloc)?);
     let plan = read_score(alloc, None, &mut source)?;
     Ok(lines_of_plan(alloc, &plan)?)
 }
@@ -319,7 +319,11 @@ fn lines_of(alloc: Global, text: &str) -> Result<String, RunFault> {
 fn processes_alone_have_these_lines(rt: HostRuntime) -> Result<(), Fail> {
     let alloc = rt.alloc();
     for (text, lines) in SCORES {
-        assert_eq!(rt; lines_of(alloc, text)?.as_str(), *lines, "at {text}");
+        assert_eq!(rt;
+            lines_of(alloc, text.as_bytes())?.as_str(),
+            *lines,
+            "at {text}"
+        );
     }
     let lines = lines_of(alloc, PIECE)?;
     assert_eq!(rt; (lines.len(), sum_of(lines.as_bytes())), LINES_OF_PIECE);

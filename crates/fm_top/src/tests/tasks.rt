@@ -1,10 +1,10 @@
-//! The later options: what each makes of an input, and which inputs it refuses.
+//! Runs that list, split, locate and write excerpts, and what each leaves.
 
-use super::{QUARTER, check_left, file_with, repeated, run_on};
-use std::test::Fail;
+use super::runs::{Left, NO_PROCESS, READ, Row, SKIP, SKIP_REFUSED, UNTOUCHED, WRITE};
+use super::{QUARTER_FILE, SOUND};
 
 /// The listing of a quarter note's file.
-const LISTING: &str = "format 0 tracks 1 division 480
+const LISTING: &[u8] = b"format 0 tracks 1 division 480
 0 0 FF 51 03 07 A1 20
 0 0 90 3C 40
 0 432 80 3C 40
@@ -12,7 +12,7 @@ const LISTING: &str = "format 0 tracks 1 division 480
 ";
 
 /// Two channels.
-const TWO: &str = "formula 1; channel 0 { note c4 1/4; } channel 1 { note e4 1/4; }";
+const TWO: &[u8] = b"formula 1; channel 0 { note c4 1/4; } channel 1 { note e4 1/4; }";
 
 /// Its file of format 1: the tempo, and a track for each channel.
 const TWO_PARTS: &[u8] = &[
@@ -24,7 +24,7 @@ const TWO_PARTS: &[u8] = &[
 ];
 
 /// The listing of that.
-const TWO_LISTED: &str = "format 1 tracks 3 division 480
+const TWO_LISTED: &[u8] = b"format 1 tracks 3 division 480
 0 0 FF 51 03 07 A1 20
 0 960 FF 2F 00
 1 0 90 3C 40
@@ -41,160 +41,215 @@ const NO_PARTS: &[u8] = &[
     0, 0xFF, 0x51, 3, 7, 0xA1, 0x20, 0, 0xFF, 0x2F, 0,
 ];
 
-/// Bytes that are changed in a quarter note's file, where it is cut, and what is said of it.
-type Spoilt = (&'static [(usize, u8)], usize, &'static str);
-
-const SPOILT: &[Spoilt] = &[
-    (&[], 41, "formula: file refused: byte 41 fault 23\n"),
-    (&[(21, 0)], 22, "formula: file refused: byte 22 fault 32\n"),
-    (&[(9, 2)], 42, "formula: file refused: byte 8 fault 25\n"),
-    (&[], 0, "formula: file refused: byte 0 fault 22\n"),
-];
-
-#[test]
-fn a_file_is_listed(rt: HostRuntime) -> Result<(), Fail> {
-    let alloc = rt.alloc();
-    let file = file_with(alloc, QUARTER, 4)?;
-    for words in [
-        "a.mid b.txt --list",
-        "a.mid --list b.txt --generate 0 --parts",
-    ] {
-        let ran = run_on(&rt, alloc, words, &file, (&[], &[], &[]))?;
-        check_left(&rt, &ran, (0, b"", LISTING.as_bytes()), words);
-    }
-    let ran = run_on(&rt, alloc, "a.mid b.txt --list", TWO_PARTS, (&[], &[], &[]))?;
-    check_left(&rt, &ran, (0, b"", TWO_LISTED.as_bytes()), "three tracks");
-    Ok(())
-}
-
-#[test]
-fn files_that_are_refused(rt: HostRuntime) -> Result<(), Fail> {
-    let alloc = rt.alloc();
-    let words = "a.mid b.txt --list";
-    for (changes, length, said) in SPOILT {
-        let mut file = file_with(alloc, QUARTER, 4)?;
-        for (place, byte) in *changes {
-            if let Some(old) = file.get_mut(*place) {
-                *old = *byte;
-            }
-        }
-        let bytes = file.get(..*length).unwrap_or(&[]);
-        let ran = run_on(&rt, alloc, words, bytes, (&[], &[], &[]))?;
-        check_left(&rt, &ran, (3, said.as_bytes(), b""), said);
-    }
-    let ran = run_on(&rt, alloc, words, b"", (&[1], &[], &[]))?;
-    check_left(
-        &rt,
-        &ran,
-        (2, b"formula: read fault\n", b""),
-        "a read that fails",
-    );
-    Ok(())
-}
-
-#[test]
-fn a_track_for_each_channel(rt: HostRuntime) -> Result<(), Fail> {
-    let alloc = rt.alloc();
-    for words in ["a.txt b.mid --parts", "a.txt b.mid --parts --workers 0"] {
-        let ran = run_on(&rt, alloc, words, TWO.as_bytes(), (&[], &[], &[]))?;
-        check_left(&rt, &ran, (0, b"", TWO_PARTS), words);
-        let ran = run_on(&rt, alloc, words, b"formula 1;", (&[], &[], &[]))?;
-        check_left(&rt, &ran, (0, b"", NO_PARTS), words);
-        let ran = run_on(&rt, alloc, words, b"formula 1; skip;", (&[], &[], &[]))?;
-        let said = b"formula: score refused: 1:12 fault 10\n";
-        check_left(&rt, &ran, (3, said, b""), words);
-    }
-    Ok(())
-}
-
-// A call that fails leaves a front of a listing, or of parts.
-#[test]
-fn writes_that_fail_leave_a_front(rt: HostRuntime) -> Result<(), Fail> {
-    let alloc = rt.alloc();
-    let said = b"formula: write fault\n";
-    let file = file_with(alloc, QUARTER, 4)?;
-    for count in [0u32, 1, 40] {
-        let calls = [(1, count)];
-        let ran = run_on(&rt, alloc, "a.mid b.txt --list", &file, (&[], &calls, &[]))?;
-        let front = LISTING.as_bytes().get(..count as usize).unwrap_or(&[]);
-        check_left(&rt, &ran, (4, said, front), "a listing");
-        let ran = run_on(
-            &rt,
-            alloc,
-            "a.txt b.mid --parts",
-            TWO.as_bytes(),
-            (&[], &calls, &[]),
-        )?;
-        let front = TWO_PARTS.get(..count as usize).unwrap_or(&[]);
-        check_left(&rt, &ran, (4, said, front), "parts");
-    }
-    Ok(())
-}
-
 /// A branch within one level, which takes twice as many ticks as the file.
-const HALF: &str = "formula 1; shape s = flat ticks 1000 by 500; warp s { rest ticks 100; \
+const HALF: &[u8] = b"formula 1; shape s = flat ticks 1000 by 500; warp s { rest ticks 100; \
     par { branch { note c4 1/4; } } }";
 
-/// Words, and the status and the line of a tick that is located in that score.
-type Located = (&'static str, u8, &'static str);
-
-const LOCATED: &[Located] = &[
-    (
-        "--locate 60 --process 1",
-        0,
-        "process 1 levels 1 start 50 positions 120\n",
-    ),
-    ("--locate 60", 0, "process 0 levels 0 start 0 positions\n"),
-    (
-        "--process 2 --locate 0 --parts",
-        0,
-        "process 2 levels 1 start 290 positions 0\n",
-    ),
-    ("--locate 60 --process 3", 7, "formula: no such process\n"),
-];
-
-#[test]
-fn ticks_are_located(rt: HostRuntime) -> Result<(), Fail> {
-    let alloc = rt.alloc();
-    for (options, status, said) in LOCATED {
-        let words = repeated(alloc, ("a.txt b.mid ", ""), options, 1)?;
-        let ran = run_on(&rt, alloc, &words, HALF.as_bytes(), (&[], &[], &[]))?;
-        check_left(&rt, &ran, (*status, said.as_bytes(), b""), options);
-    }
-    Ok(())
-}
+/// As many processes as there can be.
+const MANY_PROCESSES: &[u8] = b"formula 1; repeat 1365 { par { branch { } branch { } } }";
 
 /// A program and two notes.
-const PAIR: &str = "formula 1; program 5; note c4 1/4; note d4 1/4;";
+const PAIR: &[u8] = b"formula 1; program 5; note c4 1/4; note d4 1/4;";
 
-/// Words, and the track behind the tempo of an excerpt of that score.
-type Part = (&'static str, &'static [u8]);
-
-const PARTS: &[Part] = &[
+/// Runs that list, split, locate and write excerpts.
+pub const TASKS: &[Row] = &[
     (
-        "--from 480",
-        &[
+        "a.mid b.txt --list",
+        QUARTER_FILE,
+        SOUND,
+        0,
+        "",
+        Left::Bytes(LISTING),
+    ),
+    (
+        "a.mid --list b.txt --generate 0 --parts",
+        QUARTER_FILE,
+        SOUND,
+        0,
+        "",
+        Left::Bytes(LISTING),
+    ),
+    (
+        "a.mid b.txt --list",
+        TWO_PARTS,
+        SOUND,
+        0,
+        "",
+        Left::Bytes(TWO_LISTED),
+    ),
+    (
+        "a.mid b.txt --list",
+        b"",
+        (&[1], &[], &[]),
+        2,
+        READ,
+        UNTOUCHED,
+    ),
+    (
+        "a.mid b.txt --list",
+        QUARTER_FILE,
+        (&[], &[(1, 0)], &[]),
+        4,
+        WRITE,
+        UNTOUCHED,
+    ),
+    (
+        "a.mid b.txt --list",
+        QUARTER_FILE,
+        (&[], &[(1, 40)], &[]),
+        4,
+        WRITE,
+        Left::Front(LISTING, 40),
+    ),
+    (
+        "a.txt b.mid --parts",
+        TWO,
+        SOUND,
+        0,
+        "",
+        Left::Bytes(TWO_PARTS),
+    ),
+    (
+        "a.txt b.mid --parts",
+        b"formula 1;",
+        SOUND,
+        0,
+        "",
+        Left::Bytes(NO_PARTS),
+    ),
+    (
+        "a.txt b.mid --parts",
+        SKIP,
+        SOUND,
+        3,
+        SKIP_REFUSED,
+        UNTOUCHED,
+    ),
+    (
+        "a.txt b.mid --parts --workers 0",
+        TWO,
+        SOUND,
+        0,
+        "",
+        Left::Bytes(TWO_PARTS),
+    ),
+    (
+        "a.txt b.mid --parts --workers 0",
+        b"formula 1;",
+        SOUND,
+        0,
+        "",
+        Left::Bytes(NO_PARTS),
+    ),
+    (
+        "a.txt b.mid --parts --workers 0",
+        SKIP,
+        SOUND,
+        3,
+        SKIP_REFUSED,
+        UNTOUCHED,
+    ),
+    (
+        "a.txt b.mid --parts",
+        TWO,
+        (&[], &[(1, 0)], &[]),
+        4,
+        WRITE,
+        UNTOUCHED,
+    ),
+    (
+        "a.txt b.mid --parts",
+        TWO,
+        (&[], &[(1, 40)], &[]),
+        4,
+        WRITE,
+        Left::Front(TWO_PARTS, 40),
+    ),
+    // a tick is located
+    (
+        "a.txt b.mid --locate 60 --process 1",
+        HALF,
+        SOUND,
+        0,
+        "process 1 levels 1 start 50 positions 120\n",
+        UNTOUCHED,
+    ),
+    (
+        "a.txt b.mid --locate 60",
+        HALF,
+        SOUND,
+        0,
+        "process 0 levels 0 start 0 positions\n",
+        UNTOUCHED,
+    ),
+    (
+        "a.txt b.mid --process 2 --locate 0 --parts",
+        HALF,
+        SOUND,
+        0,
+        "process 2 levels 1 start 290 positions 0\n",
+        UNTOUCHED,
+    ),
+    (
+        "a.txt b.mid --locate 60 --process 3",
+        HALF,
+        SOUND,
+        7,
+        NO_PROCESS,
+        UNTOUCHED,
+    ),
+    // as many processes as a score of version 1 has
+    (
+        "a.txt b.mid --locate 0 --process 4095",
+        MANY_PROCESSES,
+        SOUND,
+        0,
+        "process 4095 levels 0 start 0 positions\n",
+        UNTOUCHED,
+    ),
+    (
+        "a.txt b.mid --locate 0 --process 4096",
+        MANY_PROCESSES,
+        SOUND,
+        7,
+        NO_PROCESS,
+        UNTOUCHED,
+    ),
+    // excerpts
+    (
+        "a.txt b.mid --from 480",
+        PAIR,
+        SOUND,
+        0,
+        "",
+        Left::File(&[
             0, 0xC0, 5, 0, 0x90, 0x3E, 0x40, 0x83, 0x30, 0x80, 0x3E, 0x40, 0x30, 0xFF, 0x2F, 0,
-        ],
+        ]),
     ),
     (
-        "--from 100 --to 600",
-        &[
+        "a.txt b.mid --from 100 --to 600",
+        PAIR,
+        SOUND,
+        0,
+        "",
+        Left::File(&[
             0, 0xC0, 5, 0x82, 0x7C, 0x90, 0x3E, 0x40, 0x78, 0x80, 0x3E, 0x40, 0, 0xFF, 0x2F, 0,
-        ],
+        ]),
     ),
-    ("--from 5000", &[0, 0xC0, 5, 0, 0xFF, 0x2F, 0]),
-    ("--to 0", &[0, 0xFF, 0x2F, 0]),
+    (
+        "a.txt b.mid --from 5000",
+        PAIR,
+        SOUND,
+        0,
+        "",
+        Left::File(&[0, 0xC0, 5, 0, 0xFF, 0x2F, 0]),
+    ),
+    (
+        "a.txt b.mid --to 0",
+        PAIR,
+        SOUND,
+        0,
+        "",
+        Left::File(&[0, 0xFF, 0x2F, 0]),
+    ),
 ];
-
-#[test]
-fn excerpts_of_a_score(rt: HostRuntime) -> Result<(), Fail> {
-    let alloc = rt.alloc();
-    for (options, track) in PARTS {
-        let words = repeated(alloc, ("a.txt b.mid ", ""), options, 1)?;
-        let ran = run_on(&rt, alloc, &words, PAIR.as_bytes(), (&[], &[], &[]))?;
-        let file = file_with(alloc, track, 4)?;
-        check_left(&rt, &ran, (0, b"", file.as_slice()), options);
-    }
-    Ok(())
-}
