@@ -1,3 +1,5 @@
+ghost use Rattle.std.specs.Prelude.{◌≡◌, [], IfOk};
+
 mod breaks;
 mod damaged;
 mod lines;
@@ -86,7 +88,9 @@ fn file_with(alloc: Global, tail: &[u8], patched: usize) -> Result<Vec<u8>, Allo
 }
 
 // A sink or a console, of which these calls fail.
-fn memory_of(alloc: Global, failing: &[(u64, u32)]) -> Result<MemorySink, AllocError> {
+fn memory_of(alloc: Global, failing: &[(u64, u32)]) -> Result<MemorySink, AllocError>
+    ensures { IfOk result (λ s. s.content ≡ []) }
+{
     MemorySink::new(alloc, CAPACITY, failing.to_vec(alloc)?)
 }
 
