@@ -1,7 +1,7 @@
 use Rattle.std.proofs.Common.{◌≡◌, ◌*◌, ◌+◌, rules, ap, ◌∙◌, map, take, length, arith, Vec, Global}
 use Rattle.std.proofs.lemmas.List.{length-map, take_all}
 use Rattle.fm_expansion.specs.Outline as plain
-use Rattle.fm_expansion.specs.Outline.{passage_in, source_of, chord_in, parts_in, rounds_of}
+use Rattle.fm_expansion.specs.Outline.{passage_in, source_of, chord_in, parts_in}
 use Rattle.fm_meaning.specs.Bounds.{with_more, bounds_in}
 use Rattle.fm_outline.specs.declared.step.Step.{Step, the_lemmas}
 use Rattle.fm_outline.specs.View.{tables_view, step_view, block_view, lasting_view, quality_view, arms_of_blocks, phrase_at}
@@ -21,14 +21,6 @@ weigh_step-returns-in-Note t c = λ n look is knows.
     ∙ span_saturated c.most_ticks.result _ (2 * c.pitches.result) (2 * c.pitches.result + 1)
     (c.most_ticks.ensures n tables is))
 
-pub weigh_step-returns-in-Rest : goal.weigh_step-returns-in-Rest
-weigh_step-returns-in-Rest t c = λ n look is knows.
-    let tables = tables_view c.args.tables.now in
-    let seen : (step_view look c.args.step.now).what ≡ plain.rest (lasting_view c.in-Rest.lasting)
-    = search (rules, the_lemmas) in
-    rw seen
-    (c.single.ensures ∙ span_saturated c.most_ticks-in-Rest.result _ 0 1 (c.most_ticks-in-Rest.ensures n tables is))
-
 pub weigh_step-returns-in-Choice : goal.weigh_step-returns-in-Choice
 weigh_step-returns-in-Choice t c = λ n look is knows.
     let seen : (step_view look c.args.step.now).what ≡ plain.choice c.in-Choice.expr
@@ -36,14 +28,6 @@ weigh_step-returns-in-Choice t c = λ n look is knows.
     rw (seen, ← c.deref.ensures.value, ← c.deref-in-Choice.ensures.value)
     (c.either.ensures _ _ _ _ (c.weigh_steps.ensures n look is knows)
     (c.weigh_steps-in-Choice.ensures n look is knows))
-
-pub weigh_step-returns-in-Loop : goal.weigh_step-returns-in-Loop
-weigh_step-returns-in-Loop t c = λ n look is knows.
-    let tables = tables_view c.args.tables.now in
-    let seen : (step_view look c.args.step.now).what ≡ plain.loop c.in-Loop.count (block_view look c.in-Loop.body.items)
-    = search (rules, the_lemmas) in
-    rw (seen, ← c.deref-in-Loop.ensures.value, ← c.most_rounds.ensures tables)
-    (c.repeated.ensures _ _ (c.weigh_steps-in-Loop.ensures n look is knows))
 
 pub weigh_step-returns-in-Phrase : goal.weigh_step-returns-in-Phrase
 weigh_step-returns-in-Phrase t c = λ n look is knows.

@@ -2,58 +2,13 @@ use Rattle.std.proofs.Common.{◌≡◌, ◌∙◌, ◌+◌, drop, sym, ap, ap�
 use Rattle.fm_expansion.specs.Outline as plain
 use Rattle.fm_expansion.specs.Outline.{play_in, passage_in}
 use Rattle.fm_outline.specs.declared.step.Step.{Step, the_lemmas}
-use Rattle.fm_outline.specs.View.{tables_view, step_view, block_view, quality_view, arms_of_blocks, phrase_at}
+use Rattle.fm_outline.specs.View.{tables_view, step_view, block_view, arms_of_blocks}
 use Rattle.fm_places.specs.Needs.{both, needs_of, needs_in, needs_among}
 use Rattle.fm_places.specs.Found.{fork_view}
 use Rattle.fm_places.specs.Statements.{inner_needs, outside}
 use Rattle.fm_places.proofs.BothLemmas.{nothing_both}
 use Rattle.fm_places.proofs.LoopLemmas.{map_twice, needs_split, step_passed, branch_passed}
 use Rattle.fm_places.proofs.statement.+needs.Goals as goal
-
-pub needs_inside-returns-in-Choice : goal.needs_inside-returns-in-Choice
-needs_inside-returns-in-Choice t c = λ look knows.
-    let seen : (step_view look c.args.step.now).what ≡ plain.choice c.in-Choice.expr
-    (block_view look c.in-Choice.yes.items) (block_view look c.in-Choice.no.items) = search (rules, the_lemmas) in
-    rw (seen, ← c.deref.ensures.value, ← c.deref-in-Choice.ensures.value)
-    (c.both.ensures ∙ ap₂ both (c.needs_of_steps.ensures look knows) (c.needs_of_steps-in-Choice.ensures look knows))
-
-pub needs_inside-returns-in-Phrase : goal.needs_inside-returns-in-Phrase
-needs_inside-returns-in-Phrase t c = λ look knows.
-    let seen : (step_view look c.args.step.now).what ≡ plain.phrase (phrase_at look c.in-Phrase.number)
-    = search (rules, the_lemmas) in
-    rw seen (c.needs_of_phrase.ensures (tables_view c.args.tables.now) look knows)
-
-pub needs_inside-returns-in-Loop : goal.needs_inside-returns-in-Loop
-needs_inside-returns-in-Loop t c = λ look knows.
-    let seen : (step_view look c.args.step.now).what ≡ plain.loop c.in-Loop.count (block_view look c.in-Loop.body.items)
-    = search (rules, the_lemmas) in
-    rw (seen, ← c.deref-in-Loop.ensures.value) (c.needs_of_steps-in-Loop.ensures look knows)
-
-pub needs_inside-returns-in-Warp : goal.needs_inside-returns-in-Warp
-needs_inside-returns-in-Warp t c = λ look knows.
-    let seen : (step_view look c.args.step.now).what ≡ plain.warp c.in-Warp.number (block_view look c.in-Warp.body.items)
-    = search (rules, the_lemmas) in
-    rw (seen, ← c.deref-in-Warp.ensures.value) (c.needs_of_steps-in-Warp.ensures look knows)
-
-pub needs_inside-returns-in-Channel : goal.needs_inside-returns-in-Channel
-needs_inside-returns-in-Channel t c = λ look knows.
-    let seen : (step_view look c.args.step.now).what ≡ plain.channel c.in-Channel.number (block_view look c.in-Channel.body.items)
-    = search (rules, the_lemmas) in
-    rw (seen, ← c.deref-in-Channel.ensures.value) (c.needs_of_steps-in-Channel.ensures look knows)
-
-pub needs_inside-returns-in-Steady : goal.needs_inside-returns-in-Steady
-needs_inside-returns-in-Steady t c = λ look knows.
-    let seen : (step_view look c.args.step.now).what ≡ plain.steady (quality_view c.in-Steady.quality) c.in-Steady.entry
-    (block_view look c.in-Steady.body.items)
-    = search (rules, the_lemmas) in
-    rw (seen, ← c.deref-in-Steady.ensures.value) (c.needs_of_steps-in-Steady.ensures look knows)
-
-pub needs_inside-returns-in-Under : goal.needs_inside-returns-in-Under
-needs_inside-returns-in-Under t c = λ look knows.
-    let seen : (step_view look c.args.step.now).what ≡ plain.under (quality_view c.in-Under.quality) c.in-Under.list
-    (block_view look c.in-Under.body.items)
-    = search (rules, the_lemmas) in
-    rw (seen, ← c.deref-in-Under.ensures.value) (c.needs_of_steps-in-Under.ensures look knows)
 
 pub needs_inside-loop-branch-init : goal.needs_inside-loop-branch-init
 needs_inside-loop-branch-init t c = λ look knows.

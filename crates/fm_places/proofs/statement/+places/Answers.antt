@@ -5,7 +5,7 @@ use Rattle.fm_expansion.specs.Outline as plain
 use Rattle.fm_expansion.specs.Outline.{play_in, passage_in}
 use Rattle.fm_fault.specs.Found.{found, numbered}
 use Rattle.fm_outline.specs.declared.step.Step.{Step, the_lemmas}
-use Rattle.fm_outline.specs.View.{tables_view, step_view, block_view, quality_view, arms_of_blocks}
+use Rattle.fm_outline.specs.View.{tables_view, step_view, block_view, arms_of_blocks}
 use Rattle.fm_places.specs.Found.{depths_view}
 use Rattle.fm_places.specs.Statements.{inner_places, passage_places}
 use Rattle.fm_places.proofs.LoopLemmas.{map_twice}
@@ -27,38 +27,6 @@ check_inside-returns-in_ok-check_steps-in-Choice t c = λ look knows.
     (block_view look c.in-Choice.yes.items) (block_view look c.in-Choice.no.items) = search (rules, the_lemmas) in
     rw (seen, ← c.deref.ensures.value, ← c.deref-in-Choice.ensures.value)
     (c.check_steps-in-Choice.ensures look knows ∙ first_of_second _ _ (c.in_ok-check_steps-in-Choice.ensures look knows))
-
-pub check_inside-returns-in-Loop : goal.check_inside-returns-in-Loop
-check_inside-returns-in-Loop t c = λ look knows.
-    let seen : (step_view look c.args.step.now).what ≡ plain.loop c.in-Loop.count (block_view look c.in-Loop.body.items)
-    = search (rules, the_lemmas) in
-    rw (seen, ← c.deref-in-Loop.ensures.value) (c.check_steps-in-Loop.ensures look knows)
-
-pub check_inside-returns-in-Warp : goal.check_inside-returns-in-Warp
-check_inside-returns-in-Warp t c = λ look knows.
-    let seen : (step_view look c.args.step.now).what ≡ plain.warp c.in-Warp.number (block_view look c.in-Warp.body.items)
-    = search (rules, the_lemmas) in
-    rw (seen, ← c.deref-in-Warp.ensures.value) (c.check_steps-in-Warp.ensures look knows)
-
-pub check_inside-returns-in-Channel : goal.check_inside-returns-in-Channel
-check_inside-returns-in-Channel t c = λ look knows.
-    let seen : (step_view look c.args.step.now).what ≡ plain.channel c.in-Channel.number (block_view look c.in-Channel.body.items)
-    = search (rules, the_lemmas) in
-    rw (seen, ← c.deref-in-Channel.ensures.value) (c.check_steps-in-Channel.ensures look knows)
-
-pub check_inside-returns-in-Steady : goal.check_inside-returns-in-Steady
-check_inside-returns-in-Steady t c = λ look knows.
-    let seen : (step_view look c.args.step.now).what ≡ plain.steady (quality_view c.in-Steady.quality) c.in-Steady.entry
-    (block_view look c.in-Steady.body.items)
-    = search (rules, the_lemmas) in
-    rw (seen, ← c.deref-in-Steady.ensures.value) (c.check_steps-in-Steady.ensures look knows)
-
-pub check_inside-returns-in-Under : goal.check_inside-returns-in-Under
-check_inside-returns-in-Under t c = λ look knows.
-    let seen : (step_view look c.args.step.now).what ≡ plain.under (quality_view c.in-Under.quality) c.in-Under.list
-    (block_view look c.in-Under.body.items)
-    = search (rules, the_lemmas) in
-    rw (seen, ← c.deref-in-Under.ensures.value) (c.check_steps-in-Under.ensures look knows)
 
 pub check_inside-loop-branch-init : goal.check_inside-loop-branch-init
 check_inside-loop-branch-init t c = λ look knows.
