@@ -1,4 +1,4 @@
--- A record has one verdict: two walks along the same bytes go the same way and stop at the same place.
+-- A record has one verdict: two walks along the same bytes go the same way and stop at the same position.
 use Rattle.std.proofs.Common.{◌≡◌, ℕ, ◌<◌, List, [], ◌∷◌, ◌++◌, length, Option, Some, None, refl, sym, ◌∙◌, ap, subst, arith, append_assoc}
 use Rattle.std.proofs.lemmas.List.{append_cancel_left}
 use Rattle.fm_core.specs.Effects.{Legal, after, run}

@@ -14,13 +14,13 @@ use Rattle.fm_audit.specs.Verdict.{IsBadAt, IsRefusedAt, IsRun, IsUnfinished, Le
 use Rattle.fm_record.proofs.ReadingLemmas.{first_size}
 use Rattle.fm_record.proofs.StepLemmas.{bytes_more, fields_more}
 
--- the bytes before this place are so many legal steps, which lead to this state
-pub record Reaches (g : Setting) (begin : State) (bytes : List ℕ) (place count : ℕ) (now : State) : Type 0 where
+-- the bytes before this position are so many legal steps, which lead to this state
+pub record Reaches (g : Setting) (begin : State) (bytes : List ℕ) (position count : ℕ) (now : State) : Type 0 where
   pub steps : List Step
   pub rest : List ℕ
   pub leads : Leads g begin bytes steps rest
-  pub left : drop place bytes ≡ rest
-  pub here : place ≡ length (steps_bytes steps)
+  pub left : drop position bytes ≡ rest
+  pub here : position ≡ length (steps_bytes steps)
   pub counted : count ≡ length steps
   pub ran : run g begin steps ≡ now
 
@@ -43,7 +43,7 @@ pub answer_refused : (o : Option Reason) (why : Reason) → Refused why ≡ answ
 answer_refused None why e = absurd cc
 answer_refused (Some other) why e = cc
 
--- the bytes from the place on are the step that they begin with and the rest
+-- the bytes from the position on are the step that they begin with and the rest
 first_split : (bs : List ℕ) (s : Step) (n : ℕ) → IsFirst bs s n → bs ≡ step_bytes s ++ drop n bs
 first_split bs s n first = sym (take-append-drop n bs) ∙ ap (λ (front : List ℕ). front ++ drop n bs) first.same
 
@@ -59,16 +59,16 @@ reaches_none g h bytes = record {
   ran = refl;
 }
 
-module _ (g : Setting) (h : State) (bytes : List ℕ) (place count : ℕ) (now : State) (r : Reaches g h bytes place count now) where
+module _ (g : Setting) (h : State) (bytes : List ℕ) (position count : ℕ) (now : State) (r : Reaches g h bytes position count now) where
   -- one step more is taken
-  pub reaches_more : (s : Step) (n : ℕ) → IsFirst (drop place bytes) s n → Allowed g now s
-      → Reaches g h bytes (place + n) (count + 1) (after g now s)
+  pub reaches_more : (s : Step) (n : ℕ) → IsFirst (drop position bytes) s n → Allowed g now s
+      → Reaches g h bytes (position + n) (count + 1) (after g now s)
   reaches_more s n first allowed =
       let ss = r.steps in
-      let rest = drop n (drop place bytes) in
+      let rest = drop n (drop position bytes) in
       let here = r.here in
       let counted = r.counted in
-      let size = (first_size (drop place bytes) s n first).0 in
+      let size = (first_size (drop position bytes) s n first).0 in
       let more : steps_bytes (ss ++ s ∷ []) ≡ steps_bytes ss ++ step_bytes s = bytes_more ss s in
       record {
         steps = ss ++ s ∷ [];
@@ -77,39 +77,39 @@ module _ (g : Setting) (h : State) (bytes : List ℕ) (place count : ℕ) (now :
           fits = fields_more ss s r.leads.fits first.fits;
           same =
               r.leads.same
-              ∙ ap (λ (bs : List ℕ). steps_bytes ss ++ bs) (sym r.left ∙ first_split (drop place bytes) s n first)
+              ∙ ap (λ (bs : List ℕ). steps_bytes ss ++ bs) (sym r.left ∙ first_split (drop position bytes) s n first)
               ∙ sym (append_assoc (steps_bytes ss) (step_bytes s) rest)
               ∙ ap (λ (bs : List ℕ). bs ++ rest) (sym more);
           legal = legal_more g h ss s r.leads.legal (subst (λ (k : State). Allowed g k s) (sym r.ran) allowed);
         };
-        left = sym (drop-drop n place bytes);
+        left = sym (drop-drop n position bytes);
         here = omega (arith, here, size, ap length more, length-append (steps_bytes ss) (step_bytes s));
         counted = omega (arith, counted, length-append ss (s ∷ []));
         ran = run_more g h ss s ∙ ap (λ (k : State). after g k s) r.ran;
       }
 
   -- no step begins here
-  pub reaches_bad : place < length bytes → (Begins (drop place bytes) → ⊥) → IsBadAt g h bytes place
+  pub reaches_bad : position < length bytes → (Begins (drop position bytes) → ⊥) → IsBadAt g h bytes position
   reaches_bad below bad = record {
     steps = r.steps;
     rest = r.rest;
     leads = r.leads;
     here = r.here;
-    some = subst (λ (bs : List ℕ). 0 < length bs) r.left (omega (arith, length-drop place bytes));
+    some = subst (λ (bs : List ℕ). 0 < length bs) r.left (omega (arith, length-drop position bytes));
     bad = subst (λ (bs : List ℕ). Begins bs → ⊥) r.left bad;
   }
 
   -- the step that begins here is refused
-  pub reaches_refused : (s : Step) (n : ℕ) (why : Reason) → IsFirst (drop place bytes) s n → reason g now s ≡ Some why
+  pub reaches_refused : (s : Step) (n : ℕ) (why : Reason) → IsFirst (drop position bytes) s n → reason g now s ≡ Some why
       → IsRefusedAt g h bytes count why
   reaches_refused s n why first refused = record {
     steps = r.steps;
     step = s;
-    rest = drop n (drop place bytes);
+    rest = drop n (drop position bytes);
     leads = record {
       fits = r.leads.fits;
       same =
-          r.leads.same ∙ ap (λ (bs : List ℕ). steps_bytes r.steps ++ bs) (sym r.left ∙ first_split (drop place bytes) s n first);
+          r.leads.same ∙ ap (λ (bs : List ℕ). steps_bytes r.steps ++ bs) (sym r.left ∙ first_split (drop position bytes) s n first);
       legal = r.leads.legal;
     };
     fits = first.fits;
@@ -117,19 +117,19 @@ module _ (g : Setting) (h : State) (bytes : List ℕ) (place count : ℕ) (now :
     refused = subst (λ (k : State). reason g k s ≡ Some why) (sym r.ran) refused;
   }
 
-  at_end : length bytes ≤ place → Leads g h bytes r.steps []
+  at_end : length bytes ≤ position → Leads g h bytes r.steps []
   at_end over =
-      subst (λ (bs : List ℕ). Leads g h bytes r.steps bs) (sym r.left ∙ drop_all place bytes over) r.leads
+      subst (λ (bs : List ℕ). Leads g h bytes r.steps bs) (sym r.left ∙ drop_all position bytes over) r.leads
 
   -- all steps were taken
-  pub reaches_end : length bytes ≤ place → Finished g now → IsRun g h bytes
+  pub reaches_end : length bytes ≤ position → Finished g now → IsRun g h bytes
   reaches_end over done = record {
     steps = r.steps;
     leads = at_end over;
     finished = subst (Finished g) (sym r.ran) done;
   }
 
-  pub reaches_short : length bytes ≤ place → (Finished g now → ⊥) → IsUnfinished g h bytes count
+  pub reaches_short : length bytes ≤ position → (Finished g now → ⊥) → IsUnfinished g h bytes count
   reaches_short over short = record {
     steps = r.steps;
     leads = at_end over;

@@ -23,12 +23,12 @@ pub record IsRun (g : Setting) (h : State) (bytes : List ℕ) : Type 0 where
   pub leads : Leads g h bytes steps []
   pub finished : Finished g (run g h steps)
 
--- behind steps that are allowed no step begins at this place
-pub record IsBadAt (g : Setting) (h : State) (bytes : List ℕ) (place : ℕ) : Type 0 where
+-- behind steps that are allowed no step begins at this position
+pub record IsBadAt (g : Setting) (h : State) (bytes : List ℕ) (position : ℕ) : Type 0 where
   pub steps : List Step
   pub rest : List ℕ
   pub leads : Leads g h bytes steps rest
-  pub here : place ≡ length (steps_bytes steps)
+  pub here : position ≡ length (steps_bytes steps)
   pub some : 0 < length rest
   pub bad : Begins rest → ⊥
 
@@ -51,7 +51,7 @@ pub record IsUnfinished (g : Setting) (h : State) (bytes : List ℕ) (count : �
 
 -- what a fault says of the bytes; those of the sink and of memory are never said of bytes
 abbrev pub Faulty : Setting → State → List ℕ → AuditFault → Type 0
-Faulty g h bytes (BadStep place) = IsBadAt g h bytes place
+Faulty g h bytes (BadStep position) = IsBadAt g h bytes position
 Faulty g h bytes (Refused number why) = IsRefusedAt g h bytes number why
 Faulty g h bytes (Unfinished count) = IsUnfinished g h bytes count
 Faulty g h bytes Sink = ⊥

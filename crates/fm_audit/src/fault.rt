@@ -6,9 +6,9 @@ use thiserror::Error;
 /// Why a record is not accepted.
 #[derive(Clone, Copy, Debug, PartialEq, Eq, Drop, Error)]
 pub enum AuditFault {
-    /// No step begins at this place of the steps, in bytes from 0. All before it were taken.
-    #[error("no step begins at byte {place} of the steps")]
-    BadStep { place: u32 },
+    /// No step begins at this position of the steps, in bytes from 0. All before it were taken.
+    #[error("no step begins at byte {position} of the steps")]
+    BadStep { position: u32 },
     /// The step of this number, counted from 0, is refused for this reason.
     #[error("step {step} is refused: {reason:?}")]
     Refused { step: u32, reason: Reason },

@@ -16,13 +16,13 @@ pub(crate) fn replay(hall: &mut Hall, bytes: &[u8]) -> Result<(), AuditFault>
     ensures same { hall.new.setting ≡ hall.old.setting }
     ensures finished { OnOk result (Finished hall.new.setting hall.new.state) }
 {
-    let mut place = 0;
+    let mut position = 0;
     let mut count = 0;
-    while place < bytes.len() {
-        match read_step(&bytes[place..]) {
+    while position < bytes.len() {
+        match read_step(&bytes[position..]) {
             None => {
                 return Err(AuditFault::BadStep {
-                    place: place as u32,
+                    position: position as u32,
                 });
             }
             Some((step, size)) => {
@@ -34,7 +34,7 @@ pub(crate) fn replay(hall: &mut Hall, bytes: &[u8]) -> Result<(), AuditFault>
                         });
                     }
                     Taken::Taken => {
-                        place += size;
+                        position += size;
                         count += 1;
                     }
                 }

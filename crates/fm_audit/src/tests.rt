@@ -185,7 +185,7 @@ fn a_run_without_notes_gives_its_file_or_its_first_fault(rt: HostRuntime) -> Res
         silence(alloc)?,
         (&SILENT, &longer),
         None,
-        (Err(AuditFault::BadStep { place: 22 }), &[]),
+        (Err(AuditFault::BadStep { position: 22 }), &[]),
     )
 }
 
@@ -211,7 +211,7 @@ fn a_run_with_a_note_gives_its_file_or_its_first_fault(rt: HostRuntime) -> Resul
         note(alloc)?,
         (&NOTE, &NOTE_RUN[..49]),
         None,
-        (Err(AuditFault::BadStep { place: 45 }), &[]),
+        (Err(AuditFault::BadStep { position: 45 }), &[]),
     )?;
     let mut miscounted = NOTE_RUN[..49].to_vec(alloc)?;
     miscounted.push(1)?;

@@ -123,7 +123,7 @@ pub record IsUnmade (h : State) (k : ℕ) : Type 0 where
   pub desk : desk h k ≡ no_desk
   pub free : (p : ℕ) → p < length h.cells → held_by k (cell h p) ≡ false
 
--- each view is of the seat at its place, and seat 0 counts them
+-- each view is of the seat with its number, and seat 0 counts them
 pub record Seated (a : About) (views : List Mind) (h : State) : Type 0 where
   pub viewed : (k : ℕ) (m : Mind) → get_elem? views k ≡ some m → IsSeat a h k m
   pub unmade : (k : ℕ) → length views ≤ k → k < length h.desks → IsUnmade h k

@@ -23,7 +23,7 @@ use crate::stall::Stall;
 use crate::sweep::{enter, sight_of};
 use crate::view::Mind;
 use crate::words::{
-    floor_of_word, held_tag, home_tag, is_at_end, place_of, seen_of, word_of, word_of_floor,
+    floor_of_word, held_tag, home_tag, index_of, is_at_end, seen_of, word_of, word_of_floor,
 };
 use atomic_table::Table;
 use fm_buffer::Gather;
@@ -75,7 +75,7 @@ impl Board {
     {
         let found = seat
             .token
-            .load::<LookPlay>(&self.table.shared, place_of(process));
+            .load::<LookPlay>(&self.table.shared, index_of(process));
         let seen = seen_of(found);
         let look = sight_of(&self.about.plan, seat.looks.as_slice(), process, &seen);
         enter(&mut seat.looks, process, look);
@@ -105,7 +105,7 @@ impl Board {
         let shared = &self.table.shared;
         let found = seat
             .token
-            .compare_exchange::<ClaimPlay>(shared, place_of(process), old, new);
+            .compare_exchange::<ClaimPlay>(shared, index_of(process), old, new);
         if found != old {
             return Claim::Busy {
                 found: seen_of(found),
@@ -153,7 +153,7 @@ impl Board {
             None => {}
             Some(_) => unreachable!(),
         }
-        seat.token.store::<GivePlay>(shared, place_of(process), new);
+        seat.token.store::<GivePlay>(shared, index_of(process), new);
     }
 
     /// Makes the least clock of seat 0's sweep the floor, and all up to that pair due: one store.

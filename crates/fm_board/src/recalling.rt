@@ -12,7 +12,7 @@ use crate::claim::Recalled;
 use crate::plays::{ReadPlay, RecallPlay};
 use crate::seat::BoardSeat;
 use crate::seen::Seen;
-use crate::words::{is_at_end, place_of, seen_of};
+use crate::words::{index_of, is_at_end, seen_of};
 use fm_nest::MAX_LEVELS;
 use fm_strand::Place;
 
@@ -49,7 +49,7 @@ impl Board {
     {
         let found = seat
             .token
-            .load::<RecallPlay>(&self.table.shared, place_of(process));
+            .load::<RecallPlay>(&self.table.shared, index_of(process));
         seen_of(found)
     }
 

@@ -13,7 +13,7 @@ use fm_board::{BoardSeat, Claim, Seen};
 use fm_core::Tag;
 use fm_edge::Gate;
 
-/// Runs each process that the seat gets, up to the limit: first those from a place of its own on,
+/// Runs each process that the seat gets, up to the limit: first those from one of its own on,
 /// then those in front of it. Says whether it got any.
 pub fn scan<B: Calls, G: Gate>(board: &B, gate: &G, limit: u64, seat: &mut BoardSeat) -> bool
     requires idle { IsIdle (B.table board.now) (B.about board.now) seat.old }
@@ -22,21 +22,21 @@ pub fn scan<B: Calls, G: Gate>(board: &B, gate: &G, limit: u64, seat: &mut Board
     ensures { Scanned (B.table board.now) (B.about board.now) seat.old seat.new 0 }
 {
     let processes = board.plan().processes();
-    let place = place_of(seat.number(), processes);
-    let behind = sweep(board, gate, limit, seat, place, processes);
-    let before = sweep(board, gate, limit, seat, 0, place);
+    let first = first_of(seat.number(), processes);
+    let behind = sweep(board, gate, limit, seat, first, processes);
+    let before = sweep(board, gate, limit, seat, 0, first);
     behind || before
 }
 
 // The process at which the scan of the seat of this number begins. The first one begins at 0, the
 // next one half way, then come the quarters, and so on: so they seldom meet, however many they are.
-fn place_of(number: u32, processes: u32) -> u32
+fn first_of(number: u32, processes: u32) -> u32
     ensures { result ≤ processes }
 {
     let share = u64::from(number.wrapping_sub(1).reverse_bits());
-    let place = u64::from(processes) * share / (1 << 32);
-    if place < u64::from(processes) {
-        place as u32
+    let first = u64::from(processes) * share / (1 << 32);
+    if first < u64::from(processes) {
+        first as u32
     } else {
         0
     }

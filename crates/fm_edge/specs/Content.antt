@@ -14,15 +14,15 @@ AppendsFront None new piece = new ≡ None
 AppendsFront (Some c) new piece =
     (front : List ℕ) × (back : List ℕ) × (front ++ back ≡ piece) × (new ≡ Some (c ++ front))
 
--- these bytes stand at this place, and all else as before
+-- these bytes stand at this position, and all else as before
 abbrev pub overwritten : List ℕ → ℕ → List ℕ → List ℕ
 overwritten bytes at piece = take at bytes ++ piece ++ drop (at + length piece) bytes
 
--- the four bytes were written over those at this place
+-- the four bytes were written over those at this position
 abbrev pub Overwrites : Option (List ℕ) → Option (List ℕ) → ℕ → List ℕ → Type 0
 Overwrites old new at piece = new ≡ option_map (λ c. overwritten c at piece) old
 
--- the first k of the four bytes were written over those at this place
+-- the first k of the four bytes were written over those at this position
 abbrev pub OverwritesFront : Option (List ℕ) → Option (List ℕ) → ℕ → List ℕ → Type 0
 OverwritesFront None new at piece = new ≡ None
 OverwritesFront (Some c) new at piece = (k : ℕ) × (k ≤ 4) × (new ≡ Some (overwritten c at (take k piece)))

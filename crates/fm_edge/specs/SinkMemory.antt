@@ -64,7 +64,7 @@ after_put s piece = after_call s (s.content ++ take (appended s (length piece)) 
 abbrev pub patch_fails : SinkMemory → Bool
 patch_fails s = is_some (next_listed s)
 
--- after the next call, which writes these four bytes at this place
+-- after the next call, which writes these four bytes at this position
 abbrev pub after_patch : SinkMemory → ℕ → List ℕ → SinkMemory
 after_patch s at bytes =
     after_call s (overwritten s.content at (take (unwrap_or (next_listed s) 4) bytes)) (patch_fails s)

@@ -71,7 +71,7 @@ fn append_within(bytes: &mut Vec<u8>, capacity: usize, piece: &[u8]) -> usize
     count
 }
 
-// Writes a piece over the bytes at this place.
+// Writes a piece over the bytes at this position.
 fn write_over(bytes: &mut Vec<u8>, at: usize, piece: &[u8])
     requires { at + length piece.now ≤ vec_len bytes.old }
     ensures items { bytes.new.items ≡ overwritten bytes.old.items at piece.now }

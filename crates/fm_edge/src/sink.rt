@@ -20,7 +20,7 @@ pub trait Sink {
         ensures ok { OnOk result (Puts content sure faults self.old self.new piece.now) }
         ensures err { OnErr result (Breaks content sure faults self.old self.new piece.now) };
 
-    /// Writes four bytes over those at this place. After an `Err` the first few are written.
+    /// Writes four bytes over those at this position. After an `Err` the first few are written.
     fn patch(&mut self, at: u64, bytes: &[u8; 4]) -> Result<(), Failed>
         requires within { IfSome (content self.old) (λ c. at + 4 ≤ length c) }
         ensures ok { OnOk result (Patches content sure faults self.old self.new at bytes.now) }

@@ -7,15 +7,15 @@ use std::marker::Model;
 #[derive(Drop)]
 pub struct Unread {
     bytes: Vec<u8>,
-    place: usize,
+    read: usize,
 }
 
 impl Model for Unread {
     ghost Value = { List ℕ };
 
-    ghost view = { λ u. drop u.place u.bytes.items };
+    ghost view = { λ u. drop u.read u.bytes.items };
 
-    ghost invariant = { λ u. u.place ≤ vec_len u.bytes };
+    ghost invariant = { λ u. u.read ≤ vec_len u.bytes };
 }
 
 impl Unread {
@@ -23,7 +23,7 @@ impl Unread {
     pub fn new(bytes: Vec<u8>) -> Self
         ensures { result ≡ bytes.items }
     {
-        Unread { bytes, place: 0 }
+        Unread { bytes, read: 0 }
     }
 
     /// Moves bytes into the slice, at most so many, and says how many.
@@ -31,9 +31,9 @@ impl Unread {
         ensures count { result ≡ min (min (length into.old) most) (length self.old) }
         ensures bytes { self.old ≡ take result into.new ++ self.new }
     {
-        let count = into.len().min(most).min(self.bytes.len() - self.place);
-        into[..count].copy_from_slice(&self.bytes[self.place..self.place + count]);
-        self.place += count;
+        let count = into.len().min(most).min(self.bytes.len() - self.read);
+        into[..count].copy_from_slice(&self.bytes[self.read..self.read + count]);
+        self.read += count;
         count
     }
 }

@@ -9,10 +9,10 @@ use Rattle.fm_msg.specs.declared.msg.Msg.TheVariants.{On, Off}
 use Rattle.fm_msg.specs.declared.msg.TheConstants.{CHANNELS, DATA_VALUES}
 use Rattle.fm_excerpt.specs.Excerpt.{is_on, is_off, sounding, keeps, closing}
 use Rattle.fm_excerpt.specs.Table.{Sounds, endings_below, endings_of}
-use Rattle.fm_excerpt.specs.declared.counts.TheConstants.{PLACES}
+use Rattle.fm_excerpt.specs.declared.counts.TheConstants.{ALL_KEYS}
 use Rattle.fm_excerpt.proofs.Below.{below_none, below_more, below_same, below_rows}
 
--- two places are one exactly where channel and key are
+-- two indices are one exactly where channel and key are
 one_place : (c k channel key : ℕ) → k < 128 → key < 128 →
     nat_eq (channel * 128 + key) (c * 128 + k) ≡ (nat_eq channel c && nat_eq key k)
 one_place c k channel key a b = grind (arith, nat_tests)
@@ -27,8 +27,8 @@ count_more p ms m =
     )
 
 -- nothing sounds
-pub sounds_none : Sounds (replicate PLACES 0) []
-sounds_none = λ c k lt lk. omega (arith, get_or-replicate {A = ℕ} PLACES (c * DATA_VALUES + k) 0 0 (omega arith))
+pub sounds_none : Sounds (replicate ALL_KEYS 0) []
+sounds_none = λ c k lt lk. omega (arith, get_or-replicate {A = ℕ} ALL_KEYS (c * DATA_VALUES + k) 0 0 (omega arith))
 
 -- a message that neither begins nor ends a note
 pub sounds_other : (xs : List ℕ) (kept : List Msg) (m : Msg) → ((c k : ℕ) → is_on c k m ≡ false) → ((c k : ℕ) → is_off c k m ≡ false) →
@@ -40,19 +40,19 @@ sounds_other xs kept m on off had = λ c k lt lk.
     omega (arith, count_more (is_off c k) kept m ∙ ap (λ b. count_by (is_off c k) kept + cond {A = ℕ} b 1 0) (off c k)) in
     omega (arith, no_on, no_off, had c k lt lk)
 
--- a count in its place, and every other one as it was
+-- a count at its index, and every other one as it was
 count_set : (xs : List ℕ) (channel key c k v : ℕ) (b : Bool) → channel * 128 + key < length xs → key < 128 → k < 128 →
     (nat_eq channel c && nat_eq key k) ≡ b →
     get_or (set xs (channel * 128 + key) v) (c * 128 + k) 0 ≡ cond b v (get_or xs (c * 128 + k) 0)
 count_set xs channel key c k v true there low small is =
     let at : nat_eq (channel * 128 + key) (c * 128 + k) ≡ true = one_place c k channel key small low ∙ is in
-    let place : channel * 128 + key ≡ c * 128 + k = grind (arith, nat_tests) in
-    ap (λ n. get_or (set xs (channel * 128 + key) v) n 0) (sym place) ∙ get_or-set_same xs (channel * 128 + key) v 0 there
+    let index : channel * 128 + key ≡ c * 128 + k = grind (arith, nat_tests) in
+    ap (λ n. get_or (set xs (channel * 128 + key) v) n 0) (sym index) ∙ get_or-set_same xs (channel * 128 + key) v 0 there
 count_set xs channel key c k v false there low small is =
     let at : nat_eq (channel * 128 + key) (c * 128 + k) ≡ false = one_place c k channel key small low ∙ is in
     get_or-set_other xs (channel * 128 + key) (c * 128 + k) v 0 (λ same. absurd (grind (arith, nat_tests)))
 
--- the count of a place that is another's too
+-- the count of an index that is another's too
 count_at : (xs : List ℕ) (channel key c k : ℕ) → key < 128 → k < 128 → (nat_eq channel c && nat_eq key k) ≡ true →
     get_or xs (channel * 128 + key) 0 ≡ get_or xs (c * 128 + k) 0
 count_at xs channel key c k low small is =
@@ -123,17 +123,17 @@ pub sounding_is : (xs : List ℕ) (kept : List Msg) (c k : ℕ) → c < CHANNELS
 sounding_is xs kept c k lt lk had = omega (arith, had c k lt lk)
 
 -- a note-on is kept
-pub kept_on : (xs : List ℕ) (kept : List Msg) (m : Msg) (channel key velocity place : ℕ) → m ≡ On channel key velocity →
-    place ≡ channel * DATA_VALUES + key → channel < CHANNELS → key < DATA_VALUES → length xs ≡ PLACES → Sounds xs kept →
-    Sounds (set xs place (get_or xs place 0 + 1)) (cond (keeps kept m) (kept ++ m ∷ []) kept)
-kept_on xs kept m channel key velocity place is at there low long had =
+pub kept_on : (xs : List ℕ) (kept : List Msg) (m : Msg) (channel key velocity index : ℕ) → m ≡ On channel key velocity →
+    index ≡ channel * DATA_VALUES + key → channel < CHANNELS → key < DATA_VALUES → length xs ≡ ALL_KEYS → Sounds xs kept →
+    Sounds (set xs index (get_or xs index 0 + 1)) (cond (keeps kept m) (kept ++ m ∷ []) kept)
+kept_on xs kept m channel key velocity index is at there low long had =
     rw (is, at) (sounds_on xs kept channel key velocity (omega arith) low had)
 
 -- a note-off of a note that sounds is kept
-pub kept_off : (xs : List ℕ) (kept : List Msg) (m : Msg) (channel key place : ℕ) → m ≡ Off channel key →
-    place ≡ channel * DATA_VALUES + key → channel < CHANNELS → key < DATA_VALUES → length xs ≡ PLACES → 0 < get_or xs place 0 →
-    Sounds xs kept → Sounds (set xs place (get_or xs place 0 - 1)) (cond (keeps kept m) (kept ++ m ∷ []) kept)
-kept_off xs kept m channel key place is at there low long some had =
+pub kept_off : (xs : List ℕ) (kept : List Msg) (m : Msg) (channel key index : ℕ) → m ≡ Off channel key →
+    index ≡ channel * DATA_VALUES + key → channel < CHANNELS → key < DATA_VALUES → length xs ≡ ALL_KEYS → 0 < get_or xs index 0 →
+    Sounds xs kept → Sounds (set xs index (get_or xs index 0 - 1)) (cond (keeps kept m) (kept ++ m ∷ []) kept)
+kept_off xs kept m channel key index is at there low long some had =
     let sounds : 0 < sounding channel key kept =
     omega (arith, sounding_is xs kept channel key there low had, ap (λ n. get_or xs n 0) at) in
     let keep : nat_lt 0 (sounding channel key kept) ≡ true = grind (arith, nat_tests) in
@@ -157,7 +157,7 @@ ends_more n xs =
 ends_zero : (xs : List ℕ) → length (endings_below 0 xs) ≡ 0
 ends_zero xs = ap length (below_none (λ i. replicate (get_or xs i 0) (Off (i / DATA_VALUES) (i % DATA_VALUES))))
 
--- before a place that is set, as many as before
+-- before an index that is set, as many as before
 ends_before : (n : ℕ) (xs : List ℕ) (i w : ℕ) → n ≤ i → length (endings_below n (set xs i w)) ≡ length (endings_below n xs)
 ends_before zero xs i w le = ends_zero (set xs i w) ∙ sym (ends_zero xs)
 ends_before (suc n) xs i w le =
@@ -196,22 +196,22 @@ ends_set (suc j) xs i w there =
     )
 
 -- a count that is set changes how many are left
-pub ends_changed : (xs : List ℕ) (i w : ℕ) → i < PLACES → length xs ≡ PLACES →
+pub ends_changed : (xs : List ℕ) (i w : ℕ) → i < ALL_KEYS → length xs ≡ ALL_KEYS →
     length (endings_of (set xs i w)) + get_or xs i 0 ≡ length (endings_of xs) + w
 ends_changed xs i w there long =
     omega (
       arith,
-      ap (λ n. length (endings_below n (set xs i w))) {x = i + 1 + (PLACES - (i + 1))} {y = PLACES} (omega arith),
-      ap (λ n. length (endings_below n xs)) {x = i + 1 + (PLACES - (i + 1))} {y = PLACES} (omega arith),
-      ends_set (PLACES - (i + 1)) xs i w (omega arith),
+      ap (λ n. length (endings_below n (set xs i w))) {x = i + 1 + (ALL_KEYS - (i + 1))} {y = ALL_KEYS} (omega arith),
+      ap (λ n. length (endings_below n xs)) {x = i + 1 + (ALL_KEYS - (i + 1))} {y = ALL_KEYS} (omega arith),
+      ends_set (ALL_KEYS - (i + 1)) xs i w (omega arith),
     )
 
 -- where nothing sounds, none are left
-pub ends_none : (n : ℕ) → n ≤ PLACES → length (endings_below n (replicate PLACES 0)) ≡ 0
-ends_none zero le = ends_zero (replicate PLACES 0)
+pub ends_none : (n : ℕ) → n ≤ ALL_KEYS → length (endings_below n (replicate ALL_KEYS 0)) ≡ 0
+ends_none zero le = ends_zero (replicate ALL_KEYS 0)
 ends_none (suc n) le =
-    ap (λ k. length (endings_below k (replicate PLACES 0))) {x = suc n} {y = n + 1} (omega arith)
-    ∙ omega (arith, ends_more n (replicate PLACES 0), ends_none n (omega arith), get_or-replicate {A = ℕ} PLACES n 0 0 (omega arith))
+    ap (λ k. length (endings_below k (replicate ALL_KEYS 0))) {x = suc n} {y = n + 1} (omega arith)
+    ∙ omega (arith, ends_more n (replicate ALL_KEYS 0), ends_none n (omega arith), get_or-replicate {A = ℕ} ALL_KEYS n 0 0 (omega arith))
 
 -- those that are left, by channel and key
 pub endings_are : (xs : List ℕ) (kept : List Msg) → Sounds xs kept → endings_of xs ≡ closing kept

@@ -13,15 +13,15 @@ use Rattle.fm_smf.proofs.Writing.{writes_none}
 use Rattle.fm_excerpt.specs.Excerpt.{below, at_tick, as_event}
 use Rattle.fm_excerpt.specs.Table.{messages_of, endings_below, endings_of}
 use Rattle.fm_excerpt.specs.declared.state.TheConstants.{SLOTS}
-use Rattle.fm_excerpt.specs.declared.counts.TheConstants.{PLACES}
+use Rattle.fm_excerpt.specs.declared.counts.TheConstants.{ALL_KEYS}
 use Rattle.fm_excerpt.proofs.Below.{Left, below_left, below_more, below_none}
 use Rattle.fm_excerpt.proofs.OutputLemmas.{tick_more, replicate_more, wrote_parts, parts_broke}
 
--- the messages of the first places
+-- the messages of the first indices
 abbrev pub first_messages : ℕ → List (Option Msg) → List Msg
 first_messages i slots = flat_map (λ j. option_to_list (get_or slots j None)) (below i)
 
--- one place more, with a message
+-- one index more, with a message
 message_there : (i : ℕ) (slots : List (Option Msg)) (m : Msg) → get_or slots i None ≡ Some m →
     map as_event (at_tick 0 (first_messages (i + 1) slots))
     ≡ map as_event (at_tick 0 (first_messages i slots)) ++ as_event (0, m) ∷ []
@@ -36,7 +36,7 @@ no_message i slots is =
     below_more (λ j. option_to_list (get_or slots j None)) i ∙ ap (λ o. first_messages i slots ++ option_to_list o) is
     ∙ append-nil (first_messages i slots)
 
--- one place's note-offs more
+-- the note-offs of one index more
 offs_more : (i t : ℕ) (xs : List ℕ) →
     map as_event (at_tick t (endings_below (i + 1) xs))
     ≡ map as_event (at_tick t (endings_below i xs))
@@ -55,15 +55,15 @@ offs_long i xs =
       length-replicate (get_or xs i 0) (Off (i / DATA_VALUES) (i % DATA_VALUES)),
     )
 
--- those of the first places are among all
-pub offs_few : (i : ℕ) (xs : List ℕ) → i < PLACES → length (endings_below i xs) + get_or xs i 0 ≤ length (endings_of xs)
+-- those of the first indices are among all
+pub offs_few : (i : ℕ) (xs : List ℕ) → i < ALL_KEYS → length (endings_below i xs) + get_or xs i 0 ≤ length (endings_of xs)
 offs_few i xs less =
-    let left : Left (λ j. replicate (get_or xs j 0) (Off (j / DATA_VALUES) (j % DATA_VALUES))) (i + 1) PLACES =
-    below_left _ (i + 1) PLACES (omega arith) in
+    let left : Left (λ j. replicate (get_or xs j 0) (Off (j / DATA_VALUES) (j % DATA_VALUES))) (i + 1) ALL_KEYS =
+    below_left _ (i + 1) ALL_KEYS (omega arith) in
     omega (arith, offs_long i xs, ap length left.all, length-append (endings_below (i + 1) xs) left.more)
 
 module _ {K : Type 0} (content : K → Option (List ℕ)) (sure : K → Option ℕ) (faults : K → ℕ) where
-  -- the messages of the first places were put
+  -- the messages of the first indices were put
   pub record Stating (start at : K) (slots : List (Option Msg)) (i : ℕ) (u v : Written) (count : ℕ) : Type 0 where
     pub writes : Writes content sure faults start at (map as_event (at_tick 0 (first_messages i slots))) u v
     pub few : count ≤ i
@@ -108,7 +108,7 @@ module _ {K : Type 0} (content : K → Option (List ℕ)) (sure : K → Option �
       ∙ sym (tick_more 0 (first_messages (i + 1) slots) left.more) ∙ ap (λ z. map as_event (at_tick 0 z)) left.all in
       parts_broke content sure faults a b d _ _ _ _ u v all had.writes broke
 
-  -- the note-offs of the first places were put
+  -- the note-offs of the first indices were put
   pub record Ending (start at : K) (xs : List ℕ) (t i : ℕ) (u v : Written) (before count : ℕ) : Type 0 where
     pub writes : Writes content sure faults start at (map as_event (at_tick t (endings_below i xs))) u v
     pub few : count ≡ before + length (endings_below i xs)
@@ -133,13 +133,13 @@ module _ {K : Type 0} (content : K → Option (List ℕ)) (sure : K → Option �
     last = later;
   }
 
-  pub ending_broke : (a b d : K) (xs : List ℕ) (t i : ℕ) (u v : Written) (before count : ℕ) → i < PLACES →
+  pub ending_broke : (a b d : K) (xs : List ℕ) (t i : ℕ) (u v : Written) (before count : ℕ) → i < ALL_KEYS →
       Breaks content sure faults b d
       (events_bytes v.state (map as_event (at_tick t (replicate (get_or xs i 0) (Off (i / DATA_VALUES) (i % DATA_VALUES)))))) →
       Ending a b xs t i u v before count → Breaks content sure faults a d (events_bytes u.state (map as_event (at_tick t (endings_of xs))))
   ending_broke a b d xs t i u v before count less broke had =
-      let left : Left (λ j. replicate (get_or xs j 0) (Off (j / DATA_VALUES) (j % DATA_VALUES))) (i + 1) PLACES =
-      below_left _ (i + 1) PLACES (omega arith) in
+      let left : Left (λ j. replicate (get_or xs j 0) (Off (j / DATA_VALUES) (j % DATA_VALUES))) (i + 1) ALL_KEYS =
+      below_left _ (i + 1) ALL_KEYS (omega arith) in
       let all : (map as_event (at_tick t (endings_below i xs))
       ++ map as_event (at_tick t (replicate (get_or xs i 0) (Off (i / DATA_VALUES) (i % DATA_VALUES)))))
       ++ map as_event (at_tick t left.more)

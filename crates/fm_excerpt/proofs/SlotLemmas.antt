@@ -25,7 +25,7 @@ last_map f h g (m ∷ ms) same fits =
     ap (λ z. or_else z (f m)) (last_map f h g ms same fits.1) ∙ ap (or_else (option_map g (last_value h ms))) (same m fits.0)
     ∙ map_or g (last_value h ms) (h m)
 
--- a message in a place that is not asked for
+-- a message in a slot that is not asked for
 elsewhere : (i j : ℕ) (m : Msg) → nat_eq i j ≡ false → cond (nat_eq i j) (Some m) None ≡ None
 elsewhere i j m is = ap (λ t. cond t (Some m) None) is
 
@@ -82,18 +82,18 @@ bend_slot c (Bend channel bend) fits =
     by_test true is = ap (λ n. Some (Bend n bend)) {x = channel} {y = c} (grind (arith, nat_tests))
     by_test false is = refl
 
--- the places of one channel
+-- the slots of one channel
 channel_slots : (slots : List (Option Msg)) (ms : List Msg) (c : ℕ) → c < CHANNELS → EachFits ms → Holds slots ms →
     flat_map (λ s. option_to_list (get_or slots (c * 130 + s) None)) (below 130) ≡ channel_state c ms
 unfolding channel_state
 channel_slots slots ms c lt fits holds =
-    below_add place 1 129 ∙ ap (λ z. z ++ flat_map (λ k. place (1 + k)) (below 129)) (below_more place 0 ∙ ap (λ z. z ++ place 0)
-    (below_none place))
-    ∙ ap (λ z. place 0 ++ z) (below_more (λ k. place (1 + k)) 128)
-    ∙ ap (λ z. z ++ (flat_map (λ k. place (1 + k)) (below 128) ++ place (1 + 128)))
+    below_add held 1 129 ∙ ap (λ z. z ++ flat_map (λ k. held (1 + k)) (below 129)) (below_more held 0 ∙ ap (λ z. z ++ held 0)
+    (below_none held))
+    ∙ ap (λ z. held 0 ++ z) (below_more (λ k. held (1 + k)) 128)
+    ∙ ap (λ z. z ++ (flat_map (λ k. held (1 + k)) (below 128) ++ held (1 + 128)))
     (ap option_to_list (holds (c * 130 + 0) (omega arith) ∙ last_map _ (program_of c) (Program c) ms (program_slot c) fits))
-    ∙ ap (λ z. option_to_list (option_map (Program c) (last_value (program_of c) ms)) ++ (z ++ place (1 + 128)))
-    (below_same (λ k. place (1 + k)) (λ k. option_to_list (option_map (Control c k) (last_value (control_of c k) ms))) 128
+    ∙ ap (λ z. option_to_list (option_map (Program c) (last_value (program_of c) ms)) ++ (z ++ held (1 + 128)))
+    (below_same (λ k. held (1 + k)) (λ k. option_to_list (option_map (Control c k) (last_value (control_of c k) ms))) 128
     (λ k small. ap option_to_list (holds (c * 130 + (1 + k)) (omega arith)
     ∙ last_map _ (control_of c k) (Control c k) ms (control_slot c k small) fits)))
     ∙ ap (λ z. option_to_list (option_map (Program c) (last_value (program_of c) ms))
@@ -103,8 +103,8 @@ channel_slots slots ms c lt fits holds =
     (flat_map (λ k. option_to_list (option_map (Control c k) (last_value (control_of c k) ms))) (below 128))
     (option_to_list (option_map (Bend c) (last_value (bend_of c) ms))))
   where
-    place : ℕ → List Msg
-    place s = option_to_list (get_or slots (c * 130 + s) None)
+    held : ℕ → List Msg
+    held s = option_to_list (get_or slots (c * 130 + s) None)
 
 -- the messages of the table
 pub state_is : (slots : List (Option Msg)) (ms : List Msg) → EachFits ms → Holds slots ms → messages_of slots ≡ state ms

@@ -10,7 +10,7 @@ use Rattle.fm_read.specs.Written.{time_after}
 use Rattle.fm_read.specs.declared.limits.TheConstants.{MAX_FILE}
 use Rattle.fm_excerpt.specs.Last.{or_else, last_value}
 use Rattle.fm_excerpt.specs.Excerpt.{before}
-use Rattle.fm_excerpt.specs.Table.{slot_of, at_place, at_slot, Holds, SlotsAreInRange}
+use Rattle.fm_excerpt.specs.Table.{slot_of, in_slot, at_slot, Holds, SlotsAreInRange}
 use Rattle.fm_excerpt.specs.declared.state.TheConstants.{SLOTS}
 
 or_else_assoc : {A : Type 0} (x y z : Option A) → or_else (or_else x y) z ≡ or_else x (or_else y z)
@@ -47,7 +47,7 @@ none_there n i = by_test (nat_lt i n) refl
 pub nothing_in_range : SlotsAreInRange (replicate SLOTS None)
 nothing_in_range = λ i. subst (λ o. IfSome o (λ m. IsTrue (is_in_range m))) (sym (none_there SLOTS i)) tt
 
--- a value in its place, and every other place as it was
+-- a value in its slot, and every other slot as it was
 set_is : (xs : List (Option Msg)) (i j : ℕ) (b : Bool) (m : Msg) (old : Option Msg) → nat_eq i j ≡ b → i < length xs →
     get_or xs j None ≡ old → get_or (set xs i (Some m)) j None ≡ or_else (cond b (Some m) None) old
 set_is xs i j true m old is fits was =
@@ -59,14 +59,14 @@ set_is xs i j false m old is fits was =
 -- a message that sets something
 pub holds_set : (slots : List (Option Msg)) (ms : List Msg) (m : Msg) (j : ℕ) → slot_of m ≡ Some j → j < SLOTS → length slots ≡ SLOTS →
     Holds slots ms → Holds (set slots j (Some m)) (ms ++ m ∷ [])
-holds_set slots ms m j place there long had = λ i less.
+holds_set slots ms m j slot there long had = λ i less.
     set_is slots j i (nat_eq j i) m (last_value (at_slot i) ms) refl (omega arith) (had i less)
-    ∙ ap (λ p. or_else (at_place i p m) (last_value (at_slot i) ms)) (sym place) ∙ sym (last_more (at_slot i) ms m)
+    ∙ ap (λ p. or_else (in_slot i p m) (last_value (at_slot i) ms)) (sym slot) ∙ sym (last_more (at_slot i) ms m)
 
 -- a message that sets nothing
 pub holds_other : (slots : List (Option Msg)) (ms : List Msg) (m : Msg) → slot_of m ≡ None → Holds slots ms → Holds slots (ms ++ m ∷ [])
-holds_other slots ms m place had = λ i less.
-    had i less ∙ ap (λ p. or_else (at_place i p m) (last_value (at_slot i) ms)) (sym place) ∙ sym (last_more (at_slot i) ms m)
+holds_other slots ms m slot had = λ i less.
+    had i less ∙ ap (λ p. or_else (in_slot i p m) (last_value (at_slot i) ms)) (sym slot) ∙ sym (last_more (at_slot i) ms m)
 
 -- a message in range keeps the table in range
 pub set_in_range : (slots : List (Option Msg)) (m : Msg) (j : ℕ) → j < length slots → IsTrue (is_in_range m) → SlotsAreInRange slots →

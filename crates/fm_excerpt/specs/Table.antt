@@ -12,9 +12,9 @@ use Rattle.fm_smf.specs.declared.limits.TheConstants.{MAX_QUANTITY, START_LENGTH
 use Rattle.fm_excerpt.specs.Last.{last_value}
 use Rattle.fm_excerpt.specs.Excerpt.{below, is_on, is_off}
 use Rattle.fm_excerpt.specs.declared.state.TheConstants.{CHANNEL_SLOTS, SLOTS}
-use Rattle.fm_excerpt.specs.declared.counts.TheConstants.{PLACES}
+use Rattle.fm_excerpt.specs.declared.counts.TheConstants.{ALL_KEYS}
 
--- the place of what a message sets: a channel's program, its controllers, its bend, and then the next channel
+-- the slot of what a message sets: a channel's program, its controllers, its bend, and then the next channel
 abbrev pub slot_of : Msg → Option ℕ
 slot_of (On channel key velocity) = None
 slot_of (Off channel key) = None
@@ -22,20 +22,20 @@ slot_of (Control channel controller value) = Some (channel * CHANNEL_SLOTS + (1 
 slot_of (Program channel program) = Some (channel * CHANNEL_SLOTS)
 slot_of (Bend channel bend) = Some (channel * CHANNEL_SLOTS + (1 + DATA_VALUES))
 
--- a message, where what it sets has this place
-abbrev pub at_place : ℕ → Option ℕ → Msg → Option Msg
-at_place i None m = None
-at_place i (Some j) m = if j == i then Some m else None
+-- a message, where what it sets has this slot
+abbrev pub in_slot : ℕ → Option ℕ → Msg → Option Msg
+in_slot i None m = None
+in_slot i (Some j) m = if j == i then Some m else None
 
--- a message, where this is the place of what it sets
+-- a message, where this is the slot of what it sets
 abbrev pub at_slot : ℕ → Msg → Option Msg
-at_slot i m = at_place i (slot_of m) m
+at_slot i m = in_slot i (slot_of m) m
 
--- the table holds at each place the last of these messages that sets it
+-- the table holds in each slot the last of these messages that sets it
 abbrev pub Holds : List (Option Msg) → List Msg → Type 0
 Holds slots ms = (i : ℕ) → i < SLOTS → slice_index_or slots i None ≡ last_value (at_slot i) ms
 
--- the messages of a table, from the first place on
+-- the messages of a table, from the first index on
 abbrev pub messages_of : List (Option Msg) → List Msg
 messages_of slots = flat_map (λ i. option_to_list (slice_index_or slots i None)) (below SLOTS)
 
@@ -49,14 +49,14 @@ Sounds counts ms =
     (c k : ℕ) → c < CHANNELS → k < DATA_VALUES →
     slice_index_or counts (c * DATA_VALUES + k) 0 + count_by (is_off c k) ms ≡ count_by (is_on c k) ms
 
--- the note-offs of a table of counts, from the first place on
+-- the note-offs of a table of counts, from the first index on
 abbrev pub endings_below : ℕ → List ℕ → List Msg
 endings_below n counts =
     flat_map (λ i. replicate (slice_index_or counts i 0) (Off (i / DATA_VALUES) (i % DATA_VALUES))) (below n)
 
 -- all of them
 abbrev pub endings_of : List ℕ → List Msg
-endings_of counts = endings_below PLACES counts
+endings_of counts = endings_below ALL_KEYS counts
 
 -- a writer and how many events it has written
 pub record Progress : Type 0 where

@@ -9,8 +9,8 @@ ghost use Rattle.fm_excerpt.specs.Table.{Sounds, endings_of};
 use fm_msg::{CHANNELS, DATA_VALUES, Msg};
 use std::marker::Model;
 
-/// How many places there are: one for each channel and key.
-pub const PLACES: usize = 2048;
+/// How many keys all channels have.
+pub const ALL_KEYS: usize = 2048;
 
 /// How many notes of each channel and key sound: note-ons less note-offs that were kept.
 #[derive(Drop)]
@@ -26,12 +26,12 @@ impl Model for Counts {
     ghost view = { λ c. c.counts };
 }
 
-// The place of a channel and a key.
-fn place_of(channel: u8, key: u8) -> usize
+// The index of a channel and a key.
+fn index_of(channel: u8, key: u8) -> usize
     requires channel { channel < CHANNELS }
     requires key { key < DATA_VALUES }
     ensures value { result ≡ channel * DATA_VALUES + key }
-    ensures there { result < PLACES }
+    ensures there { result < ALL_KEYS }
 {
     channel as usize * DATA_VALUES as usize + key as usize
 }
@@ -58,15 +58,15 @@ impl Counts {
     {
         match msg {
             Msg::On { channel, key, .. } => {
-                self.counts[place_of(channel, key)] += 1;
+                self.counts[index_of(channel, key)] += 1;
                 true
             }
             Msg::Off { channel, key } => {
-                let place = place_of(channel, key);
-                if self.counts[place] == 0 {
+                let index = index_of(channel, key);
+                if self.counts[index] == 0 {
                     return false;
                 }
-                self.counts[place] -= 1;
+                self.counts[index] -= 1;
                 true
             }
             _ => true,
@@ -88,11 +88,11 @@ impl Counts {
         inside && self.keep(msg)
     }
 
-    /// How many notes sound at a place.
-    pub fn count(&self, place: usize) -> u32
-        requires { place < PLACES }
-        ensures { result ≡ slice_index_or self.now place 0 }
+    /// How many notes of a channel and a key sound.
+    pub fn count(&self, index: usize) -> u32
+        requires { index < ALL_KEYS }
+        ensures { result ≡ slice_index_or self.now index 0 }
     {
-        self.counts[place]
+        self.counts[index]
     }
 }

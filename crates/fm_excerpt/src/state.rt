@@ -12,10 +12,10 @@ use fm_msg::{CHANNELS, DATA_VALUES, Msg};
 use fm_read::{MAX_FILE, Track, message_from};
 use std::marker::Model;
 
-/// How many places a channel has: for its program, its controllers and its bend.
+/// How many slots a channel has: for its program, its controllers and its bend.
 pub const CHANNEL_SLOTS: usize = 130;
 
-/// How many places all channels have.
+/// How many slots all channels have.
 pub const SLOTS: usize = 2080;
 
 /// The last program, controllers and bend of each channel, as the messages that set them.
@@ -36,7 +36,7 @@ impl Model for State {
     ghost invariant = { λ s. SlotsAreInRange s.slots };
 }
 
-// The place of what a message sets, where it sets something.
+// The slot of what a message sets, where it sets something.
 fn slot_of(msg: Msg) -> Option<usize>
     requires { IsTrue (is_in_range msg) }
     ensures value { result ≡ slot_of msg }
@@ -77,7 +77,7 @@ impl State {
         }
     }
 
-    /// The message at a place, in range.
+    /// The message in a slot, in range.
     pub fn message(&self, slot: usize) -> Option<Msg>
         requires { slot < SLOTS }
         ensures value { result ≡ slice_index_or self.now slot None }

@@ -11,7 +11,7 @@ ghost use Rattle.fm_excerpt.specs.Excerpt.{is_inside, window, at_tick, as_event,
 ghost use Rattle.fm_excerpt.specs.Excerpt.{stop_of};
 ghost use Rattle.fm_excerpt.specs.Table.{messages_of, Sounds, endings_of};
 
-use crate::counts::{Counts, PLACES};
+use crate::counts::{ALL_KEYS, Counts};
 use crate::output::{MAX_EVENTS, Output};
 use crate::state::{SLOTS, State};
 use fm_edge::Sink;
@@ -136,12 +136,12 @@ pub fn put_endings<K: Sink>(
     ensures few { OnOk result (out.new.count ≤ MAX_EVENTS) }
     ensures last { OnOk result (out.new.written.state.last ≤ tick) }
 {
-    for place in 0..PLACES {
+    for index in 0..ALL_KEYS {
         let msg = Msg::Off {
-            channel: (place / DATA_VALUES as usize) as u8,
-            key: (place % DATA_VALUES as usize) as u8,
+            channel: (index / DATA_VALUES as usize) as u8,
+            key: (index % DATA_VALUES as usize) as u8,
         };
-        put_offs(msg, counts.count(place), tick, out, sink)?;
+        put_offs(msg, counts.count(index), tick, out, sink)?;
     }
     Ok(())
 }

@@ -42,10 +42,10 @@ use Rattle.fm_expansion.proofs.Settings.{Setting, holds_by}
 abbrev pub around : (seed : ℕ) → Inside → Around
 around seed i = record { seed = seed; channel = i.channel }
 
--- from a place of a program to another, so many steps play this
+-- from an operation of a program to another, so many steps play this
 abbrev pub Reaches : List Action → List Home → List Counter → List OpenLevel → ℕ → Now → ℕ → Made → ℕ → Type 0
-Reaches code hs cs ls place n steps m end =
-    Runs code (at place n ls (frames_held hs cs n.blocks)) steps (heard ls m.marks)
+Reaches code hs cs ls operation n steps m end =
+    Runs code (at operation n ls (frames_held hs cs n.blocks)) steps (heard ls m.marks)
     (at end m.after ls (frames_held hs cs m.after.blocks))
 
 -- ---- a note, drawn one after the other
@@ -56,7 +56,7 @@ note_done s ch keys lasts part velocity behind =
     let ons = map (λ key. On ch key velocity) keys in
     let offs = map (Off ch) keys in
     silent (record behind {
-      place = s.place + 1;
+      operation = s.operation + 1;
       position = s.position + lasts;
       index = s.index + length (ons ++ offs);
       due = marks_of s.process s.index s.position (note_end s.position lasts part) (ons ++ offs);
@@ -91,17 +91,17 @@ module _ (t : Tables) (scopes : List (List Slot)) (code : List Action) where
   )
 
   -- a note
-  pub note_runs : (chord : ℕ) (lasting : Lasting) (d : Depths) (i : Inside) (seed place : ℕ) (n : Now)
+  pub note_runs : (chord : ℕ) (lasting : Lasting) (d : Depths) (i : Inside) (seed operation : ℕ) (n : Now)
       (ls : List OpenLevel)
       (cs : List Counter) → Setting scopes d i ls → Held t i.homes cs n.blocks
       → levels_hold ls (note_plays (map (source_of t) (chord_in t chord)) (length_of t lasting)
       (around seed i) n).after.position ≡ true
-      → slice_get code place ≡ Some (action_of (stock_with t scopes)
+      → slice_get code operation ≡ Some (action_of (stock_with t scopes)
       (op.Note chord (span_for lasting i.homes) i.channel
       (turn_for articulation usual_gate i.homes) (turn_for loudness usual_velocity i.homes) i.scope))
-      → Reaches code i.homes cs ls place n (2 * length (map (source_of t) (chord_in t chord)) + 1)
-      (note_plays (map (source_of t) (chord_in t chord)) (length_of t lasting) (around seed i) n) (place + 1)
-  note_runs chord lasting d i seed place n ls cs setting held fits here =
+      → Reaches code i.homes cs ls operation n (2 * length (map (source_of t) (chord_in t chord)) + 1)
+      (note_plays (map (source_of t) (chord_in t chord)) (length_of t lasting) (around seed i) n) (operation + 1)
+  note_runs chord lasting d i seed operation n ls cs setting held fits here =
       let hs = i.homes in
       let a = around seed i in
       let ch = i.channel in
@@ -113,7 +113,7 @@ module _ (t : Tables) (scopes : List (List Slot)) (code : List Action) where
       let op_span = duration_of stock (span_for lasting hs) in
       let op_gate = turn_for articulation usual_gate hs in
       let op_loud = turn_for loudness usual_velocity hs in
-      let s = at place n ls (frames_held hs cs n.blocks) in
+      let s = at operation n ls (frames_held hs cs n.blocks) in
       let keys = keys_drawn draws n in
       let n1 = keys.after in
       let lasts = span_drawn span n1 in
@@ -128,22 +128,22 @@ module _ (t : Tables) (scopes : List (List Slot)) (code : List Action) where
       let held2 = held_alike t hs cs n1.blocks n2.blocks (span_kept span n1) held1 in
       let held3 = held_alike t hs cs n2.blocks n3.blocks (moved_kept articulation n2.blocks) held2 in
       let held4 = held_alike t hs cs n3.blocks n4.blocks (moved_kept loudness n3.blocks) held3 in
-      let pitches = pitches_are t scopes ds place n ls (frames_held hs cs n.blocks) slots
+      let pitches = pitches_are t scopes ds operation n ls (frames_held hs cs n.blocks) slots
       (slots_give t hs cs n.blocks held)
-      ∙ ap (λ b. draught keys.value (at place n1 ls (frames_held hs cs b))) (sym b1) in
+      ∙ ap (λ b. draught keys.value (at operation n1 ls (frames_held hs cs b))) (sym b1) in
       let drawn_all = ap (note_keys s ch op_span op_gate op_loud slots) pitches
       ∙ ap (note_length s ch op_gate op_loud keys.value)
-      (span_is t scopes lasting place n1 ls hs cs slots (slots_give t hs cs n1.blocks held1) held1)
+      (span_is t scopes lasting operation n1 ls hs cs slots (slots_give t hs cs n1.blocks held1) held1)
       ∙ ap (note_part s ch op_loud keys.value lasts.value)
-      (turn_gives t scopes articulation usual_gate place n2 ls hs cs held2)
+      (turn_gives t scopes articulation usual_gate operation n2 ls hs cs held2)
       ∙ ap (note_velocity s ch keys.value lasts.value gate.value)
-      (turn_gives t scopes loudness usual_velocity place n3 ls hs cs held3) in
+      (turn_gives t scopes loudness usual_velocity operation n3 ls hs cs held3) in
       let ons = note_ons draws span a n in
       let offs = note_offs draws a n in
       let ms = marks_of n.process n.index n.position (note_end n.position lasts.value gate.value)
       (ons ++ offs) in
       let mid : Standing = record {
-        place = place + 1;
+        operation = operation + 1;
         position = n.position + lasts.value;
         process = n4.process;
         index = n.index + length (ons ++ offs);
@@ -194,34 +194,34 @@ module _ (t : Tables) (scopes : List (List Slot)) (code : List Action) where
       (arith, length-append ons offs, k) in
       become code s _ _ _ _ _ _ steps heard_all
       (ap₂ mid_at (ap (λ p. p + lasts.value) (sym x)) indexed
-      ∙ ap (λ q. at (place + 1) q ls (frames_held hs cs q.blocks)) (sym (note_after draws span a n)))
+      ∙ ap (λ q. at (operation + 1) q ls (frames_held hs cs q.blocks)) (sym (note_after draws span a n)))
       (after code s mid _ 1 (length ms) [] (heard ls ms) first (due_runs code mid ms))
 
   -- a rest
-  pub rest_runs : (lasting : Lasting) (d : Depths) (i : Inside) (seed place : ℕ) (n : Now)
+  pub rest_runs : (lasting : Lasting) (d : Depths) (i : Inside) (seed operation : ℕ) (n : Now)
       (ls : List OpenLevel) (cs : List Counter)
       → Setting scopes d i ls → Held t i.homes cs n.blocks
       → levels_hold ls (plays (meaning.rest (length_of t lasting)) (around seed i) n).after.position ≡ true
-      → slice_get code place ≡ Some (action_of (stock_with t scopes)
+      → slice_get code operation ≡ Some (action_of (stock_with t scopes)
       (op.Rest (span_for lasting i.homes) i.scope))
-      → Reaches code i.homes cs ls place n 1 (plays (meaning.rest (length_of t lasting)) (around seed i)
-      n) (place + 1)
-  rest_runs lasting d i seed place n ls cs setting held fits here =
+      → Reaches code i.homes cs ls operation n 1 (plays (meaning.rest (length_of t lasting)) (around seed i)
+      n) (operation + 1)
+  rest_runs lasting d i seed operation n ls cs setting held fits here =
       let hs = i.homes in
       let slots = slots_of hs in
       let span = length_of t lasting in
       let op_span = duration_of (stock_with t scopes) (span_for lasting hs) in
       let fs = frames_held hs cs n.blocks in
-      let s = at place n ls fs in
+      let s = at operation n ls fs in
       let lasts = span_drawn span n in
       let n1 = lasts.after in
       let held1 = held_alike t hs cs n.blocks n1.blocks (span_kept span n) held in
       let x = ap Now.position (span_after span n) in
-      let end_at : ℕ → Standing = λ p. at (place + 1) (record n1 { position = p + lasts.value }) ls
+      let end_at : ℕ → Standing = λ p. at (operation + 1) (record n1 { position = p + lasts.value }) ls
       (frames_held hs cs n1.blocks) in
       let rested : Draught ℕ → Stepped = λ v. silent
-      (record v.after { place = place + 1; position = n.position + v.value }) in
-      let drawn_all = ap rested (span_is t scopes lasting place n ls hs cs slots
+      (record v.after { operation = operation + 1; position = n.position + v.value }) in
+      let drawn_all = ap rested (span_is t scopes lasting operation n ls hs cs slots
       (slots_give t hs cs n.blocks held) held)
       ∙ ap (λ p. silent (end_at p)) (sym x) in
       let small = room d i ls cs n1 setting held1 in
@@ -239,21 +239,21 @@ module _ (t : Tables) (scopes : List (List Slot)) (code : List Action) where
   point_is point.Bend ch v = ap (λ x. Bend ch x) (nearest_is most_bend (v +ℤ pos bend_centre))
 
   -- a message without a length
-  pub send_runs : (p : Point) (w : Draw) (d : Depths) (i : Inside) (seed place : ℕ) (n : Now)
+  pub send_runs : (p : Point) (w : Draw) (d : Depths) (i : Inside) (seed operation : ℕ) (n : Now)
       (ls : List OpenLevel)
       (cs : List Counter) → Setting scopes d i ls → Held t i.homes cs n.blocks
       → levels_hold ls (plays (meaning.send (kind_of p) (source_of t w)) (around seed i)
       n).after.position ≡ true
-      → slice_get code place ≡ Some (action_of (stock_with t scopes) (op.Send p i.channel w i.scope))
-      → Reaches code i.homes cs ls place n 1 (plays (meaning.send (kind_of p) (source_of t w))
-      (around seed i) n) (place + 1)
-  send_runs p w d i seed place n ls cs setting held fits here =
+      → slice_get code operation ≡ Some (action_of (stock_with t scopes) (op.Send p i.channel w i.scope))
+      → Reaches code i.homes cs ls operation n 1 (plays (meaning.send (kind_of p) (source_of t w))
+      (around seed i) n) (operation + 1)
+  send_runs p w d i seed operation n ls cs setting held fits here =
       let hs = i.homes in
       let ch = i.channel in
       let slots = slots_of hs in
       let amount = amount_of (stock_with t scopes) w in
       let fs = frames_held hs cs n.blocks in
-      let s = at place n ls fs in
+      let s = at operation n ls fs in
       let v = amount_drawn (source_of t w) n in
       let is = amount_after (source_of t w) n in
       let mark_by : Msg → Mark = λ x. record {
@@ -264,9 +264,9 @@ module _ (t : Tables) (scopes : List (List Slot)) (code : List Action) where
         ending = n.position;
       } in
       let sent_by : Draught ℤ → Stepped = λ u. sounding (put_out ls (mark_by (point_msg p ch u.value)))
-      (record u.after { place = place + 1; index = n.index + 1 }) in
-      let there : Standing = at (place + 1) (record v.after { index = n.index + 1 }) ls fs in
-      let drawn_all = ap sent_by (number_is t scopes w place n ls fs slots
+      (record u.after { operation = operation + 1; index = n.index + 1 }) in
+      let there : Standing = at (operation + 1) (record v.after { index = n.index + 1 }) ls fs in
+      let drawn_all = ap sent_by (number_is t scopes w operation n ls fs slots
       (slots_give t hs cs n.blocks held)) in
       let small = room d i ls cs n setting held in
       let x = ap Now.position is in
@@ -274,8 +274,8 @@ module _ (t : Tables) (scopes : List (List Slot)) (code : List Action) where
       become code s _ _ _ _ _ _ refl
       (ap (λ y. heard ls (mark_by y ∷ [])) (point_is p ch v.value)
       ∙ ap (λ m. heard ls (mark_from m ∷ [])) (sym is))
-      (ap (λ k. at (place + 1) (record v.after { index = k + 1 }) ls fs) (sym (ap Now.index is))
-      ∙ ap (λ b. at (place + 1) (record v.after { index = v.after.index + 1 }) ls (frames_held hs cs b))
+      (ap (λ k. at (operation + 1) (record v.after { index = k + 1 }) ls fs) (sym (ap Now.index is))
+      ∙ ap (λ b. at (operation + 1) (record v.after { index = v.after.index + 1 }) ls (frames_held hs cs b))
       (sym (ap Now.blocks is)))
       (one_sounding code s there (put_out ls (mark_by (point_msg p ch v.value)))
       (step_sounding code s there (send p ch amount slots)
@@ -284,23 +284,23 @@ module _ (t : Tables) (scopes : List (List Slot)) (code : List Action) where
       (holds_by there small.0 small.1 fits)))
 
   -- a register
-  pub assign_runs : (register expr : ℕ) (d : Depths) (i : Inside) (seed place : ℕ) (n : Now)
+  pub assign_runs : (register expr : ℕ) (d : Depths) (i : Inside) (seed operation : ℕ) (n : Now)
       (ls : List OpenLevel)
       (cs : List Counter) → Setting scopes d i ls → Held t i.homes cs n.blocks
       → levels_hold ls n.position ≡ true
-      → slice_get code place ≡ Some (action_of (stock_with t scopes) (op.Set register expr i.scope))
-      → Reaches code i.homes cs ls place n 1 (plays (meaning.assign register (expr_in t expr))
-      (around seed i) n) (place + 1)
-  assign_runs register expr d i seed place n ls cs setting held fits here =
+      → slice_get code operation ≡ Some (action_of (stock_with t scopes) (op.Set register expr i.scope))
+      → Reaches code i.homes cs ls operation n 1 (plays (meaning.assign register (expr_in t expr))
+      (around seed i) n) (operation + 1)
+  assign_runs register expr d i seed operation n ls cs setting held fits here =
       let hs = i.homes in
       let slots = slots_of hs in
       let nodes = expr_in t expr in
       let fs = frames_held hs cs n.blocks in
-      let s = at place n ls fs in
-      let there : Standing = at (place + 1) (plays (meaning.assign register nodes) (around seed i)
+      let s = at operation n ls fs in
+      let there : Standing = at (operation + 1) (plays (meaning.assign register nodes) (around seed i)
       n).after ls fs in
       let set_by : Draught ℤ → Stepped = λ v. silent (record v.after {
-        place = place + 1;
+        operation = operation + 1;
         registers = slice_set n.registers register v.value;
       }) in
       let small = room d i ls cs n setting held in
@@ -308,5 +308,5 @@ module _ (t : Tables) (scopes : List (List Slot)) (code : List Action) where
       (step_silent code s there (assign register nodes slots) refl
       (here ∙ ap (λ k. Some (assign register nodes k)) setting.scope)
       (slots_open t hs cs n.blocks held) (ap set_by
-      (expr_is nodes place n ls fs slots (slots_give t hs cs n.blocks held)))
+      (expr_is nodes operation n ls fs slots (slots_give t hs cs n.blocks held)))
       (holds_by there small.0 small.1 fits))

@@ -22,10 +22,10 @@ use Rattle.fm_expansion.specs.Homes.{Home, turn_for, span_at, span_for}
 use Rattle.fm_fidelity.proofs.Keeping.{amount_after}
 use Rattle.fm_expansion.proofs.Frames.{Counter, frames_held, Held, turn_value, turn_moved, turns}
 
--- a process at a place of its program, in the state of what it plays
+-- a process at an operation of its program, in the state of what it plays
 abbrev pub at : ℕ → Now → List OpenLevel → List OpenFrame → Standing
-at place n ls fs = record {
-  place = place;
+at operation n ls fs = record {
+  operation = operation;
   position = n.position;
   process = n.process;
   index = n.index;
@@ -48,43 +48,43 @@ abbrev pub Gives : List OpenFrame → List Slot → Now → Type 0
 Gives fs slots n = map (slot_index fs) slots ≡ indices_of n.blocks
 
 -- an expression
-pub expr_is : (e : List Node) (place : ℕ) (n : Now) (ls : List OpenLevel) (fs : List OpenFrame)
+pub expr_is : (e : List Node) (operation : ℕ) (n : Now) (ls : List OpenLevel) (fs : List OpenFrame)
     (slots : List Slot) → Gives fs slots n
-    → expr_drawn e slots (at place n ls fs) ≡ draught (evaluated e n).value
-    (at place (evaluated e n).after ls fs)
-expr_is e place n ls fs slots gives = ap {A = List ℕ} {B = Draught ℤ} drawn_by gives
+    → expr_drawn e slots (at operation n ls fs) ≡ draught (evaluated e n).value
+    (at operation (evaluated e n).after ls fs)
+expr_is e operation n ls fs slots gives = ap {A = List ℕ} {B = Draught ℤ} drawn_by gives
   where
     drawn_by : List ℕ → Draught ℤ
     drawn_by is =
         let v = value_of (readable n.registers is) e n.dice in draught v.value
-        (record (at place n ls fs) { dice = v.state })
+        (record (at operation n ls fs) { dice = v.state })
 
 module _ (t : Tables) (scopes : List (List Slot)) where
   -- a number of a message
-  pub number_is : (d : Draw) (place : ℕ) (n : Now) (ls : List OpenLevel) (fs : List OpenFrame)
+  pub number_is : (d : Draw) (operation : ℕ) (n : Now) (ls : List OpenLevel) (fs : List OpenFrame)
       (slots : List Slot) → Gives fs slots n
-      → number_drawn (amount_of (stock_with t scopes) d) slots (at place n ls fs)
-      ≡ draught (amount_drawn (source_of t d) n).value (at place (amount_drawn (source_of t d) n).after ls fs)
-  number_is (draw.Fixed v) place n ls fs slots gives = refl
-  number_is (draw.Drawn e) place n ls fs slots gives = expr_is (expr_in t e) place n ls fs slots gives
+      → number_drawn (amount_of (stock_with t scopes) d) slots (at operation n ls fs)
+      ≡ draught (amount_drawn (source_of t d) n).value (at operation (amount_drawn (source_of t d) n).after ls fs)
+  number_is (draw.Fixed v) operation n ls fs slots gives = refl
+  number_is (draw.Drawn e) operation n ls fs slots gives = expr_is (expr_in t e) operation n ls fs slots gives
 
   -- the keys of a note
-  pub pitches_are : (ds : List Draw) (place : ℕ) (n : Now) (ls : List OpenLevel) (fs : List OpenFrame)
+  pub pitches_are : (ds : List Draw) (operation : ℕ) (n : Now) (ls : List OpenLevel) (fs : List OpenFrame)
       (slots : List Slot)
       → Gives fs slots n
-      → pitches_drawn (map (amount_of (stock_with t scopes)) ds) slots (at place n ls fs)
+      → pitches_drawn (map (amount_of (stock_with t scopes)) ds) slots (at operation n ls fs)
       ≡ draught (keys_drawn (map (source_of t) ds) n).value
-      (at place (keys_drawn (map (source_of t) ds) n).after ls fs)
-  pitches_are [] place n ls fs slots gives = refl
-  pitches_are (d ∷ ds) place n ls fs slots gives =
+      (at operation (keys_drawn (map (source_of t) ds) n).after ls fs)
+  pitches_are [] operation n ls fs slots gives = refl
+  pitches_are (d ∷ ds) operation n ls fs slots gives =
       let key = amount_drawn (source_of t d) n in
       let keys = keys_drawn (map (source_of t) ds) key.after in
       let still : Gives fs slots key.after = gives
       ∙ sym (ap (λ m. indices_of m.blocks) (amount_after (source_of t d) n)) in
-      ap others (number_is d place n ls fs slots gives)
+      ap others (number_is d operation n ls fs slots gives)
       ∙ ap (λ ks. draught (nearest_to (DATA_VALUES - 1) key.value ∷ ks.value) ks.after)
-      (pitches_are ds place key.after ls fs slots still)
-      ∙ ap (λ k. draught (k ∷ keys.value) (at place keys.after ls fs)) (nearest_is most_data key.value)
+      (pitches_are ds operation key.after ls fs slots still)
+      ∙ ap (λ k. draught (k ∷ keys.value) (at operation keys.after ls fs)) (nearest_is most_data key.value)
     where
       others : Draught ℤ → Draught (List ℕ)
       others key =
@@ -92,15 +92,15 @@ module _ (t : Tables) (scopes : List (List Slot)) where
           draught (nearest_to (DATA_VALUES - 1) key.value ∷ keys.value) keys.after
 
   -- how often a loop goes round
-  pub repeats_are : (c : Count) (place : ℕ) (n : Now) (ls : List OpenLevel) (fs : List OpenFrame)
+  pub repeats_are : (c : Count) (operation : ℕ) (n : Now) (ls : List OpenLevel) (fs : List OpenFrame)
       (slots : List Slot) → Gives fs slots n
-      → repeats_drawn (repeats_of (stock_with t scopes) c) slots (at place n ls fs)
-      ≡ draught (count_drawn (rounds_of t c) n).value (at place (count_drawn (rounds_of t c) n).after ls fs)
-  repeats_are (count.Fixed k) place n ls fs slots gives = refl
-  repeats_are (count.Drawn e most) place n ls fs slots gives =
+      → repeats_drawn (repeats_of (stock_with t scopes) c) slots (at operation n ls fs)
+      ≡ draught (count_drawn (rounds_of t c) n).value (at operation (count_drawn (rounds_of t c) n).after ls fs)
+  repeats_are (count.Fixed k) operation n ls fs slots gives = refl
+  repeats_are (count.Drawn e most) operation n ls fs slots gives =
       let v = evaluated (expr_in t e) n in
-      ap (λ x. draught (nearest_to most x.value) x.after) (expr_is (expr_in t e) place n ls fs slots gives)
-      ∙ ap (λ k. draught k (at place v.after ls fs)) (nearest_is most v.value)
+      ap (λ x. draught (nearest_to most x.value) x.after) (expr_is (expr_in t e) operation n ls fs slots gives)
+      ∙ ap (λ k. draught k (at operation v.after ls fs)) (nearest_is most v.value)
 
   -- ---- lists
 
@@ -111,16 +111,16 @@ module _ (t : Tables) (scopes : List (List Slot)) where
   turn_is (turn.Cycle f) s = refl
 
   -- the next entry of a quality
-  pub turn_gives : (q : Quality) (otherwise place : ℕ) (n : Now) (ls : List OpenLevel) (hs : List Home)
+  pub turn_gives : (q : Quality) (otherwise operation : ℕ) (n : Now) (ls : List OpenLevel) (hs : List Home)
       (cs : List Counter)
       → Held t hs cs n.blocks
-      → turn_drawn (turn_for q otherwise hs) (at place n ls (frames_held hs cs n.blocks))
+      → turn_drawn (turn_for q otherwise hs) (at operation n ls (frames_held hs cs n.blocks))
       ≡ draught (taken q otherwise n).value
-      (at place (taken q otherwise n).after ls (frames_held hs cs (taken q otherwise n).after.blocks))
-  turn_gives q otherwise place n ls hs cs held =
+      (at operation (taken q otherwise n).after ls (frames_held hs cs (taken q otherwise n).after.blocks))
+  turn_gives q otherwise operation n ls hs cs held =
       let is = turns t q otherwise hs cs n.blocks held in
-      turn_is (turn_for q otherwise hs) (at place n ls (frames_held hs cs n.blocks))
-      ∙ ap₂ (λ v fs. draught v (at place n ls fs)) is.value is.moved
+      turn_is (turn_for q otherwise hs) (at operation n ls (frames_held hs cs n.blocks))
+      ∙ ap₂ (λ v fs. draught v (at operation n ls fs)) is.value is.moved
 
   -- a turn as a duration
   span_turn : (x : Turn) (slots : List Slot) (s : Standing)
@@ -135,23 +135,23 @@ module _ (t : Tables) (scopes : List (List Slot)) where
   span_turn_open (turn.Cycle f) fs = refl
 
   -- a duration
-  pub span_is : (l : Lasting) (place : ℕ) (n : Now) (ls : List OpenLevel) (hs : List Home)
+  pub span_is : (l : Lasting) (operation : ℕ) (n : Now) (ls : List OpenLevel) (hs : List Home)
       (cs : List Counter) (slots : List Slot)
       → Gives (frames_held hs cs n.blocks) slots n → Held t hs cs n.blocks
       → duration_drawn (duration_of (stock_with t scopes) (span_for l hs)) slots
-      (at place n ls (frames_held hs cs n.blocks))
+      (at operation n ls (frames_held hs cs n.blocks))
       ≡ draught (span_drawn (length_of t l) n).value
-      (at place (span_drawn (length_of t l) n).after ls
+      (at operation (span_drawn (length_of t l) n).after ls
       (frames_held hs cs (span_drawn (length_of t l) n).after.blocks))
-  span_is (ticks k) place n ls hs cs slots gives held = refl
-  span_is (computed e most) place n ls hs cs slots gives held =
+  span_is (ticks k) operation n ls hs cs slots gives held = refl
+  span_is (computed e most) operation n ls hs cs slots gives held =
       let v = evaluated (expr_in t e) n in
       let fs = frames_held hs cs n.blocks in
-      ap (λ x. draught (nearest_to most x.value) x.after) (expr_is (expr_in t e) place n ls fs slots gives)
-      ∙ ap (λ k. draught k (at place v.after ls fs)) (nearest_is most v.value)
-  span_is beat place n ls hs cs slots gives held =
-      span_turn (turn_for duration 0 hs) slots (at place n ls (frames_held hs cs n.blocks))
-      ∙ turn_gives duration 0 place n ls hs cs held
+      ap (λ x. draught (nearest_to most x.value) x.after) (expr_is (expr_in t e) operation n ls fs slots gives)
+      ∙ ap (λ k. draught k (at operation v.after ls fs)) (nearest_is most v.value)
+  span_is beat operation n ls hs cs slots gives held =
+      span_turn (turn_for duration 0 hs) slots (at operation n ls (frames_held hs cs n.blocks))
+      ∙ turn_gives duration 0 operation n ls hs cs held
 
   -- its list is open
   pub span_opened : (l : Lasting) (n : Now) (hs : List Home) (cs : List Counter) → Held t hs cs n.blocks

@@ -98,14 +98,14 @@ module _ (t : Tables) (scopes : List (List Slot)) (seed longest : ℕ) where
       let p = play_in t x in
       let o = plays p a now in
       let ops0 = e.current.ops in
-      let place = length ops0 in
-      let ops = emit x i place (length e.scopes) in
+      let operation = length ops0 in
+      let ops = emit x i operation (length e.scopes) in
       let new = scopes_of x hs in
       let same = plays_same p a now (forks_alike t x ∙ alone) in
       let scoped = subst (λ l. HasScopes l (length e.scopes) new) (sym pre.is)
       (has_scopes new e.scopes pre.more) in
-      let long : place + size x ≡ length (ops0 ++ ops) = omega
-      (arith, length-append ops0 ops, emit_length x i place (length e.scopes)) in
+      let long : operation + size x ≡ length (ops0 ++ ops) = omega
+      (arith, length-append ops0 ops, emit_length x i operation (length e.scopes)) in
       let few : m + steps_of p a now ≤ m + (bounds_of longest p).steps = omega
       (arith, steps_bound longest p a now (forks_alike t x ∙ alone)) in
       record {
@@ -116,9 +116,9 @@ module _ (t : Tables) (scopes : List (List Slot)) (seed longest : ℕ) where
             same.process same.births few g
             (λ more. become (code_of t scopes seed (ops0 ++ (ops ++ more))) _ _ _ _ _ _ _ refl refl
             (ap (λ k. at k o.after ls (frames_held hs [] o.after.blocks)) long)
-            (emit_runs t scopes (code_of t scopes seed (ops0 ++ (ops ++ more))) seed x d i place
+            (emit_runs t scopes (code_of t scopes seed (ops0 ++ (ops ++ more))) seed x d i operation
             (length e.scopes) now ls [] fits alone setting held
-            levels high (has_front stock (code_of t scopes seed (ops0 ++ (ops ++ more))) place ops more
+            levels high (has_front stock (code_of t scopes seed (ops0 ++ (ops ++ more))) operation ops more
             (has_all stock (ops ++ more) ops0))
             scoped)));
         grows = ([], sym (append-nil e.finished));
@@ -375,9 +375,9 @@ module _ (t : Tables) (scopes : List (List Slot)) (seed longest : ℕ) where
         (le-leb o.after.position MAX_TICK levels.0.position) high in
         let held1 = held_alike t hs [] now.blocks o.after.blocks (passage_kept p a start) held in
         let e1 = with_ops (op.Enter number ∷ []) e in
-        let place = length e.current.ops in
+        let operation = length e.current.ops in
         let fs = frames_held hs [] now.blocks in
-        let entered = at (place + 1) start (l ∷ ls) fs in
+        let entered = at (operation + 1) start (l ∷ ls) fs in
         let fits0 = room t scopes (code_of t scopes seed []) d i ls [] now setting held in
         let fits1 = room t scopes (code_of t scopes seed []) d i ls [] o.after setting held1 in
         let g1 = extend t scopes seed e now start hs hs ls (l ∷ ls) heard_so_far []
@@ -386,9 +386,9 @@ module _ (t : Tables) (scopes : List (List Slot)) (seed longest : ℕ) where
         _ _ _ _ _ _ refl refl
         (ap (λ k. at k start (l ∷ ls) fs) (one_longer e (op.Enter number)))
         (one_silent (code_of t scopes seed (e.current.ops ++ (op.Enter number ∷ [] ++ more)))
-        (at place now ls fs) entered
+        (at operation now ls fs) entered
         (step_silent (code_of t scopes seed (e.current.ops ++ (op.Enter number ∷ [] ++ more)))
-        (at place now ls fs) entered (action.enter number parts) refl
+        (at operation now ls fs) entered (action.enter number parts) refl
         (one_op e (op.Enter number) more) refl refl
         (holds_by entered fits0.0 flat (levels_earlier (l ∷ ls) 0 o.after.position (omega arith)
         top))))) in
@@ -475,9 +475,9 @@ module _ (t : Tables) (scopes : List (List Slot)) (seed longest : ℕ) where
         held0 in
         let small2 = room t scopes (code_of t scopes seed []) d i ls [] out.after setting held2 in
         let e1 = with_ops (op.Begin list ∷ []) e in
-        let place = length e.current.ops in
+        let operation = length e.current.ops in
         let fs = frames_held hs [] now.blocks in
-        let opened = at (place + 1) start ls (cycling entries 0 ∷ fs) in
+        let opened = at (operation + 1) start ls (cycling entries 0 ∷ fs) in
         let soon = levels_earlier ls now.position out.after.position
         (plays_rise d (play_in t (under quality list body)) a now fits) high in
         let g1 = extend t scopes seed e now start hs (list_frame quality list ∷ hs) ls ls heard_so_far
@@ -486,9 +486,9 @@ module _ (t : Tables) (scopes : List (List Slot)) (seed longest : ℕ) where
         _ _ _ _ _ refl refl
         (ap (λ k. at k start ls (cycling entries 0 ∷ fs)) (one_longer e (op.Begin list)))
         (one_silent (code_of t scopes seed (e.current.ops ++ (op.Begin list ∷ [] ++ more)))
-        (at place now ls fs) opened
+        (at operation now ls fs) opened
         (step_silent (code_of t scopes seed (e.current.ops ++ (op.Begin list ∷ [] ++ more)))
-        (at place now ls fs) opened (action.begin entries) refl
+        (at operation now ls fs) opened (action.begin entries) refl
         (one_op e (op.Begin list) more) refl refl (holds_by opened small0.0 small0.1 soon)))) in
         let r = expand_in_good body (in_list quality d) inside ls e1 start (heard_so_far ++ []) (m + 1)
         fits.3 set named held0 levels high pre

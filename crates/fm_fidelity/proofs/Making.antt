@@ -124,7 +124,7 @@ module _ (t : Tables) (scopes : List (List Slot)) (seed : ℕ) where
     joins = g.joins;
   }
 
-  -- in other homes with the same frames, in a state that stands in the same place
+  -- in other homes with the same frames, in a state that stands at the same operation
   pub good_at : (e : Emitting) (now new : Now) (hs ks : List Home) (ls : List OpenLevel)
       (tr : List Mark) (m : ℕ)
       → new.process ≡ now.process → new.births ≡ now.births

@@ -77,17 +77,17 @@ written_front t j hs cs bs h = absurd h
 -- ---- rounds
 
 module _ (t : Tables) (code : List Action) (hs : List Home) (cs : List Counter) (ls : List OpenLevel)
-    (place z : ℕ)
+    (operation z : ℕ)
     (steps : ℕ → Now → ℕ) (inside : Now → Made) (Q : ℕ → Now → Type 0)
-    (here : slice_get code (place + 1 + z) ≡ Some (again (place + 1)))
+    (here : slice_get code (operation + 1 + z) ≡ Some (again (operation + 1)))
     (few : frames_of hs + 1 ≤ MAX_FRAMES) (flat : length ls ≤ MAX_LEVELS)
     (kept : (m : Now) → map restarted (inside m).after.blocks ≡ map restarted m.blocks)
     (rise : (m : Now) → m.position ≤ (inside m).after.position)
     (each : (i left : ℕ) (m : Now) → Held t hs cs m.blocks → Q i m
     → levels_hold ls (inside (record m { blocks = looped i ∷ m.blocks })).after.position ≡ true
-    → Reaches code (loop_frame ∷ hs) (record { left = left; back = place + 1 } ∷ cs) ls (place + 1)
+    → Reaches code (loop_frame ∷ hs) (record { left = left; back = operation + 1 } ∷ cs) ls (operation + 1)
     (record m { blocks = looped i ∷ m.blocks }) (steps i m)
-    (inside (record m { blocks = looped i ∷ m.blocks })) (place + 1 + z)) where
+    (inside (record m { blocks = looped i ∷ m.blocks })) (operation + 1 + z)) where
   -- a round
   abbrev body : ℕ → Now → Made
   body i m = in_block (looped i) inside m
@@ -107,28 +107,28 @@ module _ (t : Tables) (code : List Action) (hs : List Home) (cs : List Counter) 
 
   -- the frames behind the body of a round
   frames_there : (i left : ℕ) (m : Now) → frames_held (loop_frame ∷ hs)
-      (record { left = left; back = place + 1 } ∷ cs)
-      (inside (within i m)).after.blocks ≡ counting i left (place + 1) ∷ frames_held hs cs (behind i m).blocks
-  frames_there i left m = round_front i hs (record { left = left; back = place + 1 }) cs
+      (record { left = left; back = operation + 1 } ∷ cs)
+      (inside (within i m)).after.blocks ≡ counting i left (operation + 1) ∷ frames_held hs cs (behind i m).blocks
+  frames_there i left m = round_front i hs (record { left = left; back = operation + 1 }) cs
       (inside (within i m)).after.blocks
       (round_first i (inside (within i m)).after.blocks (map restarted m.blocks) (kept (within i m)))
 
   -- the end of a round
   again_step : (i left : ℕ) (m : Now) (s : Standing) → Held t hs cs m.blocks
-      → s ≡ round_over (place + 1) (at (place + 1 + z) (behind i m) ls
-      (counting i left (place + 1) ∷ frames_held hs cs (behind i m).blocks))
-      (counting i left (place + 1) ∷ frames_held hs cs (behind i m).blocks)
+      → s ≡ round_over (operation + 1) (at (operation + 1 + z) (behind i m) ls
+      (counting i left (operation + 1) ∷ frames_held hs cs (behind i m).blocks))
+      (counting i left (operation + 1) ∷ frames_held hs cs (behind i m).blocks)
       → length s.frames ≤ MAX_FRAMES → s.levels ≡ ls → s.position ≡ (behind i m).position
       → levels_hold ls (behind i m).position ≡ true
-      → Runs code (at (place + 1 + z) (inside (within i m)).after ls
-      (frames_held (loop_frame ∷ hs) (record { left = left; back = place + 1 } ∷ cs)
+      → Runs code (at (operation + 1 + z) (inside (within i m)).after ls
+      (frames_held (loop_frame ∷ hs) (record { left = left; back = operation + 1 } ∷ cs)
       (inside (within i m)).after.blocks)) 1 [] s
   again_step i left m s held is frames levels position fits =
-      let fs = counting i left (place + 1) ∷ frames_held hs cs (behind i m).blocks in
-      let from = at (place + 1 + z) (behind i m) ls fs in
-      begin_at code _ from s 1 [] (ap (λ g. at (place + 1 + z) (behind i m) ls g) (frames_there i left m))
-      (one_silent code from s (step_silent code from s (again (place + 1)) refl here
-      (eq-eqb (place + 1) (place + 1) refl) (ap silent (sym is))
+      let fs = counting i left (operation + 1) ∷ frames_held hs cs (behind i m).blocks in
+      let from = at (operation + 1 + z) (behind i m) ls fs in
+      begin_at code _ from s 1 [] (ap (λ g. at (operation + 1 + z) (behind i m) ls g) (frames_there i left m))
+      (one_silent code from s (step_silent code from s (again (operation + 1)) refl here
+      (eq-eqb (operation + 1) (operation + 1) refl) (ap silent (sym is))
       (holds_by s frames (subst (λ l. length l ≤ MAX_LEVELS) (sym levels) flat)
       (subst (λ l. levels_hold l s.position ≡ true) (sym levels)
       (subst (λ p. levels_hold ls p ≡ true) (sym position) fits)))))
@@ -136,17 +136,17 @@ module _ (t : Tables) (code : List Action) (hs : List Home) (cs : List Counter) 
   -- as many rounds as are left, and this one
   pub rounds_run : (left i : ℕ) (m : Now) → Held t hs cs m.blocks → EachRound Q body (suc left) i m
       → levels_hold ls (rounds body (suc left) i m).after.position ≡ true
-      → Runs code (at (place + 1) m ls (counting i left (place + 1) ∷ frames_held hs cs m.blocks))
+      → Runs code (at (operation + 1) m ls (counting i left (operation + 1) ∷ frames_held hs cs m.blocks))
       (rounds_steps steps body (suc left) i m) (heard ls (rounds body (suc left) i m).marks)
-      (at (place + z + 2) (rounds body (suc left) i m).after ls
+      (at (operation + z + 2) (rounds body (suc left) i m).after ls
       (frames_held hs cs (rounds body (suc left) i m).after.blocks))
   rounds_run zero i m held levels fits =
       let o = inside (within i m) in
       let next = behind i m in
       let fs = frames_held hs cs next.blocks in
-      let end : Standing = at (place + 1 + z + 1) next ls fs in
+      let end : Standing = at (operation + 1 + z + 1) next ls fs in
       let held1 = held_behind i m held in
-      let p : place + 1 + z + 1 ≡ place + z + 2 = omega arith in
+      let p : operation + 1 + z + 1 ≡ operation + z + 2 = omega arith in
       let n : steps i m + 1 ≡ rounds_steps steps body 1 i m = omega arith in
       become code _ _ _ _ _ _ _ n (append-nil (heard ls o.marks) ∙ ap (heard ls) (sym (append-nil o.marks)))
       (ap (λ q. at q next ls fs) p)
@@ -157,7 +157,7 @@ module _ (t : Tables) (code : List Action) (hs : List Home) (cs : List Counter) 
       let o = inside (within i m) in
       let next = behind i m in
       let fs = frames_held hs cs next.blocks in
-      let end : Standing = at (place + 1) next ls (counting (i + 1) left (place + 1) ∷ fs) in
+      let end : Standing = at (operation + 1) next ls (counting (i + 1) left (operation + 1) ∷ fs) in
       let held1 = held_behind i m held in
       let others = rounds body (suc left) (i + 1) next in
       let soon = levels_earlier ls next.position others.after.position

@@ -15,25 +15,25 @@ use Rattle.fm_fidelity.proofs.Plain.{plain, heard_mark, heard}
 
 -- ---- operations that stand in a program
 
--- these operations stand in it from a place on
+-- these operations stand in it from an index on
 abbrev pub HasAt : StockParts → List Action → ℕ → List Op → Type 0
-HasAt t code place [] = Unit {0}
-HasAt t code place (o ∷ os) = (slice_get code place ≡ Some (action_of t o)) × HasAt t code (place + 1) os
+HasAt t code operation [] = Unit {0}
+HasAt t code operation (o ∷ os) = (slice_get code operation ≡ Some (action_of t o)) × HasAt t code (operation + 1) os
 
 -- the first of two lists
-pub has_front : (t : StockParts) (code : List Action) (place : ℕ) (a b : List Op)
-    → HasAt t code place (a ++ b) → HasAt t code place a
-has_front t code place [] b h = tt
-has_front t code place (o ∷ a) b h = (h.0, has_front t code (place + 1) a b h.1)
+pub has_front : (t : StockParts) (code : List Action) (operation : ℕ) (a b : List Op)
+    → HasAt t code operation (a ++ b) → HasAt t code operation a
+has_front t code operation [] b h = tt
+has_front t code operation (o ∷ a) b h = (h.0, has_front t code (operation + 1) a b h.1)
 
 -- the second, behind as many places as the first has
-pub has_back : (t : StockParts) (code : List Action) (place n : ℕ) (a b : List Op) → length a ≡ n
-    → HasAt t code place (a ++ b)
-    → HasAt t code (place + n) b
-has_back t code place n [] b long h = subst (λ p. HasAt t code p b) (omega (arith, long)) h
-has_back t code place n (o ∷ a) b long h =
-    let e : place + 1 + length a ≡ place + n = omega (arith, long) in
-    subst (λ p. HasAt t code p b) e (has_back t code (place + 1) (length a) a b refl h.1)
+pub has_back : (t : StockParts) (code : List Action) (operation n : ℕ) (a b : List Op) → length a ≡ n
+    → HasAt t code operation (a ++ b)
+    → HasAt t code (operation + n) b
+has_back t code operation n [] b long h = subst (λ p. HasAt t code p b) (omega (arith, long)) h
+has_back t code operation n (o ∷ a) b long h =
+    let e : operation + 1 + length a ≡ operation + n = omega (arith, long) in
+    subst (λ p. HasAt t code p b) e (has_back t code (operation + 1) (length a) a b refl h.1)
 
 -- a list behind another
 pub has_all : (t : StockParts) (os pre : List Op) → HasAt t (map (action_of t) (pre ++ os)) (length pre) os
@@ -146,7 +146,7 @@ begin_at code s r t n es is run = subst (λ x. Runs code x n es t) (sym is) run
 
 -- an operation that gives no mark
 pub step_silent : (code : List Action) (s t : Standing) (a : Action) → s.due ≡ []
-    → slice_get code s.place ≡ Some a
+    → slice_get code s.operation ≡ Some a
     → is_open a s ≡ true → done a s ≡ silent t → holds t ≡ true → step code s ≡ silent t
 step_silent code s t a none here opened gives held =
     ap (step_from code s) none ∙ ap (λ o. step_at o s) here
@@ -155,7 +155,7 @@ step_silent code s t a none here opened gives held =
 
 -- an operation that gives a mark
 pub step_sounding : (code : List Action) (s t : Standing) (a : Action) (m : Mark) → s.due ≡ []
-    → slice_get code s.place ≡ Some a
+    → slice_get code s.operation ≡ Some a
     → is_open a s ≡ true → done a s ≡ sounding m t → holds t ≡ true → step code s ≡ sounding m t
 step_sounding code s t a m none here opened gives held =
     ap (step_from code s) none ∙ ap (λ o. step_at o s) here

@@ -206,7 +206,7 @@ module _ (t : Tables) (scopes : List (List Slot)) where
   }
 
   -- one operation that fits anywhere
-  one_fits : (e : Emitting) (o : Op) → ((size place : ℕ) → op_fits st size place o ≡ true)
+  one_fits : (e : Emitting) (o : Op) → ((size operation : ℕ) → op_fits st size operation o ≡ true)
       → ops_fit st (length (e.current.ops ++ o ∷ [])) (length e.current.ops) (o ∷ []) ≡ true
   one_fits e o anywhere =
       and_from (op_fits st (length (e.current.ops ++ o ∷ [])) (length e.current.ops) o) true
@@ -242,16 +242,16 @@ module _ (t : Tables) (scopes : List (List Slot)) where
       → HasWarps t x → Inner t scopes d i ls → Prefix (straight x i e).scopes scopes → Shaped e
       → Shaped (straight x i e)
   straight_shaped x d i ls e fits warps inner pre s =
-      let place = length e.current.ops in
-      let ops = emit x i place (length e.scopes) in
+      let operation = length e.current.ops in
+      let ops = emit x i operation (length e.scopes) in
       let new = scopes_of x i.homes in
       let scoped = subst (λ l. HasScopes l (length e.scopes) new) (sym pre.is)
       (has_scopes new e.scopes pre.more) in
-      let long : place + size x ≤ length (e.current.ops ++ ops) =
-      omega (arith, length-append e.current.ops ops, emit_length x i place (length e.scopes)) in
+      let long : operation + size x ≤ length (e.current.ops ++ ops) =
+      omega (arith, length-append e.current.ops ops, emit_length x i operation (length e.scopes)) in
       shaped_scopes (with_ops ops e) new (scopes_good t x d i.homes (rounds_good t i.homes inner.homes) fits
       (omega (arith, inner.set.loops, inner.set.low)))
-      (shaped_ops e ops (emit_fits t scopes x d i ls place (length e.scopes)
+      (shaped_ops e ops (emit_fits t scopes x d i ls operation (length e.scopes)
       (length (e.current.ops ++ ops)) fits warps inner scoped long) s)
 
   -- rounds that are written out

@@ -105,12 +105,12 @@ pub record Inner (t : Tables) (scopes : List (List Slot)) (d : Depths) (i : Insi
 
 -- ---- operations behind others
 
--- a place is as far in a longer program
-forward_wider : (size more place target : ℕ) → size ≤ more → goes_forward size place target ≡ true
-    → goes_forward more place target ≡ true
-forward_wider size more place target wider h =
-    let both = and_parts (nat_lt place target) (nat_le target size) h in
-    and_from (nat_lt place target) (nat_le target more) both.0
+-- an operation is as far in a longer program
+forward_wider : (size more operation target : ℕ) → size ≤ more → goes_forward size operation target ≡ true
+    → goes_forward more operation target ≡ true
+forward_wider size more operation target wider h =
+    let both = and_parts (nat_lt operation target) (nat_le target size) h in
+    and_from (nat_lt operation target) (nat_le target more) both.0
     (le-leb target more (omega (arith, leb-true target size both.1, wider)))
 
 -- by the last of two tests
@@ -118,49 +118,49 @@ last_wider : (a b c : Bool) → (b ≡ true → c ≡ true) → a && b ≡ true 
 last_wider a b c on h = let both = and_parts a b h in and_from a c both.0 (on both.1)
 
 -- an operation fits in a longer program
-op_wider : (t : StockParts) (size more place : ℕ) (o : Op) → size ≤ more → op_fits t size place o ≡ true
-    → op_fits t more place o ≡ true
-op_wider t size more place (op.Note c d ch gate loud k) wider h = h
-op_wider t size more place (op.Rest d k) wider h = h
-op_wider t size more place (op.Send p ch d k) wider h = h
-op_wider t size more place (op.Set r e k) wider h = h
-op_wider t size more place (op.Test e k past) wider h =
+op_wider : (t : StockParts) (size more operation : ℕ) (o : Op) → size ≤ more → op_fits t size operation o ≡ true
+    → op_fits t more operation o ≡ true
+op_wider t size more operation (op.Note c d ch gate loud k) wider h = h
+op_wider t size more operation (op.Rest d k) wider h = h
+op_wider t size more operation (op.Send p ch d k) wider h = h
+op_wider t size more operation (op.Set r e k) wider h = h
+op_wider t size more operation (op.Test e k past) wider h =
     last_wider (nat_lt k (length t.scopes) && expr_fits t (loops_of t k) e)
-    (goes_forward size place past) (goes_forward more place past)
-    (forward_wider size more place past wider) h
-op_wider t size more place (op.Jump to) wider h = forward_wider size more place to wider h
-op_wider t size more place (op.Loop n k past) wider h =
+    (goes_forward size operation past) (goes_forward more operation past)
+    (forward_wider size more operation past wider) h
+op_wider t size more operation (op.Jump to) wider h = forward_wider size more operation to wider h
+op_wider t size more operation (op.Loop n k past) wider h =
     last_wider (nat_lt k (length t.scopes) && count_fits t (loops_of t k) n)
-    (goes_forward size place past) (goes_forward more place past)
-    (forward_wider size more place past wider) h
-op_wider t size more place (op.Again back) wider h = h
-op_wider t size more place (op.Begin l) wider h = h
-op_wider t size more place op.Close wider h = h
-op_wider t size more place (op.Enter w) wider h = h
-op_wider t size more place op.Leave wider h = h
+    (goes_forward size operation past) (goes_forward more operation past)
+    (forward_wider size more operation past wider) h
+op_wider t size more operation (op.Again back) wider h = h
+op_wider t size more operation (op.Begin l) wider h = h
+op_wider t size more operation op.Close wider h = h
+op_wider t size more operation (op.Enter w) wider h = h
+op_wider t size more operation op.Leave wider h = h
 
 -- so do operations in turn
-pub ops_wider : (t : StockParts) (size more place : ℕ) (os : List Op) → size ≤ more
-    → ops_fit t size place os ≡ true
-    → ops_fit t more place os ≡ true
-ops_wider t size more place [] wider h = refl
-ops_wider t size more place (o ∷ os) wider h =
-    let both = and_parts (op_fits t size place o) (ops_fit t size (place + 1) os) h in
-    and_from (op_fits t more place o) (ops_fit t more (place + 1) os)
-    (op_wider t size more place o wider both.0)
-    (ops_wider t size more (place + 1) os wider both.1)
+pub ops_wider : (t : StockParts) (size more operation : ℕ) (os : List Op) → size ≤ more
+    → ops_fit t size operation os ≡ true
+    → ops_fit t more operation os ≡ true
+ops_wider t size more operation [] wider h = refl
+ops_wider t size more operation (o ∷ os) wider h =
+    let both = and_parts (op_fits t size operation o) (ops_fit t size (operation + 1) os) h in
+    and_from (op_fits t more operation o) (ops_fit t more (operation + 1) os)
+    (op_wider t size more operation o wider both.0)
+    (ops_wider t size more (operation + 1) os wider both.1)
 
 -- operations behind others
-pub ops_both : (t : StockParts) (size place n : ℕ) (a b : List Op) → length a ≡ n
-    → ops_fit t size place a ≡ true
-    → ops_fit t size (place + n) b ≡ true → ops_fit t size place (a ++ b) ≡ true
-ops_both t size place n [] b long first second = subst (λ p. ops_fit t size p b ≡ true)
+pub ops_both : (t : StockParts) (size operation n : ℕ) (a b : List Op) → length a ≡ n
+    → ops_fit t size operation a ≡ true
+    → ops_fit t size (operation + n) b ≡ true → ops_fit t size operation (a ++ b) ≡ true
+ops_both t size operation n [] b long first second = subst (λ p. ops_fit t size p b ≡ true)
     (omega (arith, long)) second
-ops_both t size place n (o ∷ a) b long first second =
-    let both = and_parts (op_fits t size place o) (ops_fit t size (place + 1) a) first in
-    let e : place + n ≡ place + 1 + length a = omega (arith, long) in
-    and_from (op_fits t size place o) (ops_fit t size (place + 1) (a ++ b)) both.0
-    (ops_both t size (place + 1) (length a) a b refl both.1 (subst (λ p. ops_fit t size p b ≡ true) e second))
+ops_both t size operation n (o ∷ a) b long first second =
+    let both = and_parts (op_fits t size operation o) (ops_fit t size (operation + 1) a) first in
+    let e : operation + n ≡ operation + 1 + length a = omega (arith, long) in
+    and_from (op_fits t size operation o) (ops_fit t size (operation + 1) (a ++ b)) both.0
+    (ops_both t size (operation + 1) (length a) a b refl both.1 (subst (λ p. ops_fit t size p b ≡ true) e second))
 
 -- ---- operations
 
@@ -251,11 +251,11 @@ module _ (t : Tables) (scopes : List (List Slot)) where
   mutual
     -- a statement
     pub emit_fits : (x : Instruction) (d : Depths) (i : Inside) (ls : List OpenLevel)
-        (place next whole : ℕ) → Fits d (play_in t x)
+        (operation next whole : ℕ) → Fits d (play_in t x)
         → HasWarps t x → Inner t scopes d i ls → HasScopes scopes next (scopes_of x i.homes)
-        → place + size x ≤ whole
-        → ops_fit st whole place (emit x i place next) ≡ true
-    emit_fits (note chord lasting) d i ls place next whole fits warps inner scoped room =
+        → operation + size x ≤ whole
+        → ops_fit st whole operation (emit x i operation next) ≡ true
+    emit_fits (note chord lasting) d i ls operation next whole fits warps inner scoped room =
         let loops = loops_of st i.scope in
         let same = sym (loops_open d i ls inner) in
         let pitches = subst (λ k. list_all (draw_fits st k (pos 0) (pos (DATA_VALUES - 1)))
@@ -282,7 +282,7 @@ module _ (t : Tables) (scopes : List (List Slot)) where
         (lt-ltb i.channel CHANNELS inner.set.channel))
         (turn_good t articulation usual_gate i.homes inner.homes refl))
         (turn_good t loudness usual_velocity i.homes inner.homes refl)) refl
-    emit_fits (rest lasting) d i ls place next whole fits warps inner scoped room =
+    emit_fits (rest lasting) d i ls operation next whole fits warps inner scoped room =
         let loops = loops_of st i.scope in
         let span = subst (λ k. span_fits st k (span_for lasting i.homes) ≡ true)
         (sym (loops_open d i ls inner))
@@ -290,7 +290,7 @@ module _ (t : Tables) (scopes : List (List Slot)) where
         and_from (nat_lt i.scope (length scopes) && span_fits st loops (span_for lasting i.homes)) true
         (and_from (nat_lt i.scope (length scopes)) (span_fits st loops (span_for lasting i.homes))
         (scope_there d i ls inner) span) refl
-    emit_fits (send p x) d i ls place next whole fits warps inner scoped room =
+    emit_fits (send p x) d i ls operation next whole fits warps inner scoped room =
         let loops = loops_of st i.scope in
         let sent = subst (λ k. point_fits st k p x ≡ true) (sym (loops_open d i ls inner))
         (point_there d.loops p x fits) in
@@ -299,7 +299,7 @@ module _ (t : Tables) (scopes : List (List Slot)) where
         and_from (a && b && point_fits st loops p x) true
         (and_from (a && b) (point_fits st loops p x)
         (and_from a b (scope_there d i ls inner) (lt-ltb i.channel CHANNELS inner.set.channel)) sent) refl
-    emit_fits (assign register expr) d i ls place next whole fits warps inner scoped room =
+    emit_fits (assign register expr) d i ls operation next whole fits warps inner scoped room =
         let loops = loops_of st i.scope in
         let own = subst (λ k. expr_fits st k expr ≡ true) (sym (loops_open d i ls inner))
         (expr_there d.loops expr fits.1) in
@@ -308,14 +308,14 @@ module _ (t : Tables) (scopes : List (List Slot)) where
         and_from (a && b && expr_fits st loops expr) true
         (and_from (a && b) (expr_fits st loops expr)
         (and_from a b (scope_there d i ls inner) (lt-ltb register REGISTERS fits.0)) own) refl
-    emit_fits (choice expr first second) d i ls place next whole fits warps inner scoped room =
+    emit_fits (choice expr first second) d i ls operation next whole fits warps inner scoped room =
         let loops = loops_of st i.scope in
         let own = subst (λ k. expr_fits st k expr ≡ true) (sym (loops_open d i ls inner))
         (expr_there d.loops expr fits.0) in
-        let middle = place + size_in first + 2 in
+        let middle = operation + size_in first + 2 in
         let out = middle + size_in second in
         let later = next + length (scopes_in first i.homes) in
-        let ops1 = emit_in first i (place + 1) next in
+        let ops1 = emit_in first i (operation + 1) next in
         let ops2 = emit_in second i middle later in
         let inside : Inner t scopes (in_branching d) i ls = record {
           set = in_choice_more scopes d i ls inner.set;
@@ -324,32 +324,32 @@ module _ (t : Tables) (scopes : List (List Slot)) where
           warps = inner.warps;
         } in
         let a = nat_lt i.scope (length scopes) && expr_fits st loops expr in
-        let forward = and_from (nat_lt place middle) (nat_le middle whole) (lt-ltb place middle (omega arith))
+        let forward = and_from (nat_lt operation middle) (nat_le middle whole) (lt-ltb operation middle (omega arith))
         (le-leb middle whole (omega (arith, room))) in
-        let test = and_from a (goes_forward whole place middle)
+        let test = and_from a (goes_forward whole operation middle)
         (and_from (nat_lt i.scope (length scopes)) (expr_fits st loops expr)
         (scope_there d i ls inner) own) forward in
-        let one = emit_in_fits first (in_branching d) i ls (place + 1) next whole fits.3 warps.0 inside
+        let one = emit_in_fits first (in_branching d) i ls (operation + 1) next whole fits.3 warps.0 inside
         (scopes_front scopes next (scopes_in first i.homes) (scopes_in second i.homes) scoped)
         (omega (arith, room)) in
         let two = emit_in_fits second (in_branching d) i ls middle later whole fits.4 warps.1 inside
         (scopes_back scopes next (scopes_in first i.homes) (scopes_in second i.homes) scoped)
         (omega (arith, room)) in
-        let at_middle : middle ≡ place + 1 + size_in first + 1 = omega arith in
-        let leap = and_from (nat_lt (place + 1 + size_in first) out) (nat_le out whole)
-        (lt-ltb (place + 1 + size_in first) out (omega arith)) (le-leb out whole (omega (arith, room))) in
-        let rest_fits = and_from (goes_forward whole (place + 1 + size_in first) out)
-        (ops_fit st whole (place + 1 + size_in first + 1) ops2) leap
+        let at_middle : middle ≡ operation + 1 + size_in first + 1 = omega arith in
+        let leap = and_from (nat_lt (operation + 1 + size_in first) out) (nat_le out whole)
+        (lt-ltb (operation + 1 + size_in first) out (omega arith)) (le-leb out whole (omega (arith, room))) in
+        let rest_fits = and_from (goes_forward whole (operation + 1 + size_in first) out)
+        (ops_fit st whole (operation + 1 + size_in first + 1) ops2) leap
         (subst (λ q. ops_fit st whole q ops2 ≡ true) at_middle two) in
-        and_from (op_fits st whole place (op.Test expr i.scope middle))
-        (ops_fit st whole (place + 1) (ops1 ++ op.Jump out ∷ ops2)) test
-        (ops_both st whole (place + 1) (size_in first) ops1 (op.Jump out ∷ ops2)
-        (emit_in_length first i (place + 1) next) one rest_fits)
-    emit_fits (loop c body) d i ls place next whole fits warps inner scoped room =
+        and_from (op_fits st whole operation (op.Test expr i.scope middle))
+        (ops_fit st whole (operation + 1) (ops1 ++ op.Jump out ∷ ops2)) test
+        (ops_both st whole (operation + 1) (size_in first) ops1 (op.Jump out ∷ ops2)
+        (emit_in_length first i (operation + 1) next) one rest_fits)
+    emit_fits (loop c body) d i ls operation next whole fits warps inner scoped room =
         let loops = loops_of st i.scope in
         let own = subst (λ k. count_fits st k c ≡ true) (sym (loops_open d i ls inner))
         (count_there d.loops c fits.0) in
-        let past = place + size_in body + 2 in
+        let past = operation + size_in body + 2 in
         let deeper = in_scope loop_frame next i in
         let inside : Inner t scopes (in_loop (rounds_of t c) d) deeper ls = record {
           set = in_frame_more scopes d i ls (rounds_of t c) next fits.2 scoped.0 inner.set;
@@ -357,30 +357,30 @@ module _ (t : Tables) (scopes : List (List Slot)) where
           homes = inner.homes;
           warps = inner.warps;
         } in
-        let ops = emit_in body deeper (place + 1) (next + 1) in
+        let ops = emit_in body deeper (operation + 1) (next + 1) in
         let a = nat_lt i.scope (length scopes) && count_fits st loops c in
-        let forward = and_from (nat_lt place past) (nat_le past whole) (lt-ltb place past (omega arith))
+        let forward = and_from (nat_lt operation past) (nat_le past whole) (lt-ltb operation past (omega arith))
         (le-leb past whole (omega (arith, room))) in
-        let opens = and_from a (goes_forward whole place past)
+        let opens = and_from a (goes_forward whole operation past)
         (and_from (nat_lt i.scope (length scopes)) (count_fits st loops c)
         (scope_there d i ls inner) own) forward in
-        let one = emit_in_fits body (in_loop (rounds_of t c) d) deeper ls (place + 1) (next + 1) whole
+        let one = emit_in_fits body (in_loop (rounds_of t c) d) deeper ls (operation + 1) (next + 1) whole
         fits.3 warps inside scoped.1
         (omega (arith, room)) in
-        and_from (op_fits st whole place (op.Loop c i.scope past))
-        (ops_fit st whole (place + 1) (ops ++ op.Again (place + 1) ∷ [])) opens
-        (ops_both st whole (place + 1) (size_in body) ops (op.Again (place + 1) ∷ [])
-        (emit_in_length body deeper (place + 1) (next + 1)) one refl)
-    emit_fits (phrase body) d i ls place next whole fits warps inner scoped room =
-        emit_in_fits body (in_one d) i ls place next whole fits warps
+        and_from (op_fits st whole operation (op.Loop c i.scope past))
+        (ops_fit st whole (operation + 1) (ops ++ op.Again (operation + 1) ∷ [])) opens
+        (ops_both st whole (operation + 1) (size_in body) ops (op.Again (operation + 1) ∷ [])
+        (emit_in_length body deeper (operation + 1) (next + 1)) one refl)
+    emit_fits (phrase body) d i ls operation next whole fits warps inner scoped room =
+        emit_in_fits body (in_one d) i ls operation next whole fits warps
         (record {
           set = in_block_more scopes d i ls inner.set;
           there = inner.there;
           homes = inner.homes;
           warps = inner.warps;
         }) scoped room
-    emit_fits (par arms) d i ls place next whole fits warps inner scoped room = refl
-    emit_fits (warp number body) d i ls place next whole fits warps inner scoped room =
+    emit_fits (par arms) d i ls operation next whole fits warps inner scoped room = refl
+    emit_fits (warp number body) d i ls operation next whole fits warps inner scoped room =
         let l : OpenLevel = record { warp = number; parts = parts_in t number; origin = 0 } in
         let deeper = in_warp number i in
         let inside : Inner t scopes (deeper_warp d) deeper (l ∷ ls) = record {
@@ -391,15 +391,15 @@ module _ (t : Tables) (scopes : List (List Slot)) where
               (list_all (λ w. nat_lt w (length t.warps)) i.warps)
               (lt-ltb number (length t.warps) warps.0) inner.warps;
         } in
-        let ops = emit_in body deeper (place + 1) next in
-        let one = emit_in_fits body (deeper_warp d) deeper (l ∷ ls) (place + 1) next whole fits.1
+        let ops = emit_in body deeper (operation + 1) next in
+        let one = emit_in_fits body (deeper_warp d) deeper (l ∷ ls) (operation + 1) next whole fits.1
         warps.1 inside scoped (omega (arith, room)) in
-        and_from (nat_lt number (length t.warps)) (ops_fit st whole (place + 1) (ops ++ op.Leave ∷ []))
+        and_from (nat_lt number (length t.warps)) (ops_fit st whole (operation + 1) (ops ++ op.Leave ∷ []))
         (lt-ltb number (length t.warps) warps.0)
-        (ops_both st whole (place + 1) (size_in body) ops (op.Leave ∷ [])
-        (emit_in_length body deeper (place + 1) next) one refl)
-    emit_fits (channel number body) d i ls place next whole fits warps inner scoped room =
-        emit_in_fits body (in_one d) (record i { channel = number }) ls place next whole fits.1 warps
+        (ops_both st whole (operation + 1) (size_in body) ops (op.Leave ∷ [])
+        (emit_in_length body deeper (operation + 1) next) one refl)
+    emit_fits (channel number body) d i ls operation next whole fits warps inner scoped room =
+        emit_in_fits body (in_one d) (record i { channel = number }) ls operation next whole fits.1 warps
         (record {
           set = on_channel scopes d i ls number fits.0 inner.set;
           there = inner.there;
@@ -407,8 +407,8 @@ module _ (t : Tables) (scopes : List (List Slot)) where
           warps = inner.warps;
         })
         scoped room
-    emit_fits (steady quality entry body) d i ls place next whole fits warps inner scoped room =
-        emit_in_fits body (in_one d) (at_home (list_of_one quality entry) i) ls place next whole fits.1 warps
+    emit_fits (steady quality entry body) d i ls operation next whole fits warps inner scoped room =
+        emit_in_fits body (in_one d) (at_home (list_of_one quality entry) i) ls operation next whole fits.1 warps
         (record {
           set = in_one_entry scopes d i ls quality entry inner.set;
           there = inner.there;
@@ -416,7 +416,7 @@ module _ (t : Tables) (scopes : List (List Slot)) where
           warps = inner.warps;
         })
         scoped room
-    emit_fits (under quality list body) d i ls place next whole fits warps inner scoped room =
+    emit_fits (under quality list body) d i ls operation next whole fits warps inner scoped room =
         let there = in_table (has_up_to MAX_ENTRIES) t.lists list [] refl fits.0 in
         let deeper = at_home (list_frame quality list) i in
         let inside : Inner t scopes (in_list quality d) deeper ls = record {
@@ -425,27 +425,27 @@ module _ (t : Tables) (scopes : List (List Slot)) where
           homes = (there, inner.homes);
           warps = inner.warps;
         } in
-        let ops = emit_in body deeper (place + 1) next in
-        let one = emit_in_fits body (in_list quality d) deeper ls (place + 1) next whole fits.3 warps
+        let ops = emit_in body deeper (operation + 1) next in
+        let one = emit_in_fits body (in_list quality d) deeper ls (operation + 1) next whole fits.3 warps
         inside scoped (omega (arith, room)) in
-        and_from (nat_lt list (length t.lists)) (ops_fit st whole (place + 1) (ops ++ op.Close ∷ []))
+        and_from (nat_lt list (length t.lists)) (ops_fit st whole (operation + 1) (ops ++ op.Close ∷ []))
         (lt-ltb list (length t.lists) there)
-        (ops_both st whole (place + 1) (size_in body) ops (op.Close ∷ [])
-        (emit_in_length body deeper (place + 1) next) one refl)
+        (ops_both st whole (operation + 1) (size_in body) ops (op.Close ∷ [])
+        (emit_in_length body deeper (operation + 1) next) one refl)
 
     -- statements in turn
     pub emit_in_fits : (b : Block) (d : Depths) (i : Inside) (ls : List OpenLevel)
-        (place next whole : ℕ) → FitsIn d (passage_in t b)
+        (operation next whole : ℕ) → FitsIn d (passage_in t b)
         → HasWarpsIn t b → Inner t scopes d i ls → HasScopes scopes next (scopes_in b i.homes)
-        → place + size_in b ≤ whole
-        → ops_fit st whole place (emit_in b i place next) ≡ true
-    emit_in_fits done d i ls place next whole fits warps inner scoped room = refl
-    emit_in_fits (item spot x more) d i ls place next whole fits warps inner scoped room =
+        → operation + size_in b ≤ whole
+        → ops_fit st whole operation (emit_in b i operation next) ≡ true
+    emit_in_fits done d i ls operation next whole fits warps inner scoped room = refl
+    emit_in_fits (item spot x more) d i ls operation next whole fits warps inner scoped room =
         let later = next + length (scopes_of x i.homes) in
-        ops_both st whole place (size x) (emit x i place next) (emit_in more i (place + size x) later)
-        (emit_length x i place next)
-        (emit_fits x d i ls place next whole fits.0 warps.0 inner
+        ops_both st whole operation (size x) (emit x i operation next) (emit_in more i (operation + size x) later)
+        (emit_length x i operation next)
+        (emit_fits x d i ls operation next whole fits.0 warps.0 inner
         (scopes_front scopes next (scopes_of x i.homes) (scopes_in more i.homes) scoped)
         (omega (arith, room)))
-        (emit_in_fits more d i ls (place + size x) later whole fits.1 warps.1 inner
+        (emit_in_fits more d i ls (operation + size x) later whole fits.1 warps.1 inner
         (scopes_back scopes next (scopes_of x i.homes) (scopes_in more i.homes) scoped) (omega (arith, room)))

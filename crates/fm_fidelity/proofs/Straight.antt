@@ -40,51 +40,51 @@ module _ (t : Tables) (scopes : List (List Slot)) (code : List Action) (seed : �
   -- ---- choices
 
   -- the test of a choice
-  test_runs : (expr past : ℕ) (d : Depths) (i : Inside) (place : ℕ) (n : Now) (ls : List OpenLevel)
+  test_runs : (expr past : ℕ) (d : Depths) (i : Inside) (operation : ℕ) (n : Now) (ls : List OpenLevel)
       (cs : List Counter) (b : Bool)
       → int_lt (pos 0) (evaluated (expr_in t expr) n).value ≡ b → Setting scopes d i ls
       → Held t i.homes cs n.blocks
       → levels_hold ls n.position ≡ true
-      → slice_get code place ≡ Some (action_of (stock_with t scopes) (op.Test expr i.scope past))
-      → Runs code (at place n ls (frames_held i.homes cs n.blocks)) 1 []
-      (at (if b then place + 1 else past) (evaluated (expr_in t expr) n).after ls
+      → slice_get code operation ≡ Some (action_of (stock_with t scopes) (op.Test expr i.scope past))
+      → Runs code (at operation n ls (frames_held i.homes cs n.blocks)) 1 []
+      (at (if b then operation + 1 else past) (evaluated (expr_in t expr) n).after ls
       (frames_held i.homes cs n.blocks))
-  test_runs expr past d i place n ls cs b is setting held fits here =
+  test_runs expr past d i operation n ls cs b is setting held fits here =
       let nodes = expr_in t expr in
       let slots = slots_of i.homes in
       let fs = frames_held i.homes cs n.blocks in
       let v = evaluated nodes n in
       let tested : Draught ℤ → Stepped = λ u. silent
-      (record u.after { place = (if int_lt (pos 0) u.value then place + 1 else past) }) in
-      let there : Bool → Standing = λ c. at (if c then place + 1 else past) v.after ls fs in
+      (record u.after { operation = (if int_lt (pos 0) u.value then operation + 1 else past) }) in
+      let there : Bool → Standing = λ c. at (if c then operation + 1 else past) v.after ls fs in
       let small = room t scopes code d i ls cs n setting held in
-      one_silent code (at place n ls fs) (there b)
-      (step_silent code (at place n ls fs) (there b) (action.choose nodes slots past) refl
+      one_silent code (at operation n ls fs) (there b)
+      (step_silent code (at operation n ls fs) (there b) (action.choose nodes slots past) refl
       (here ∙ ap (λ k. Some (action.choose nodes k past)) setting.scope)
       (slots_open t i.homes cs n.blocks held)
-      (ap tested (expr_is nodes place n ls fs slots (slots_give t i.homes cs n.blocks held))
+      (ap tested (expr_is nodes operation n ls fs slots (slots_give t i.homes cs n.blocks held))
       ∙ ap (λ c. silent (there c)) is)
       (holds_by (there b) small.0 small.1 fits))
 
   -- from the test to the end of either block
-  choice_by : (first second : Block) (i : Inside) (place : ℕ) (n m : Now) (ls : List OpenLevel)
+  choice_by : (first second : Block) (i : Inside) (operation : ℕ) (n m : Now) (ls : List OpenLevel)
       (cs : List Counter) (b : Bool)
       → Held t i.homes cs m.blocks → frames_held i.homes cs n.blocks ≡ frames_held i.homes cs m.blocks
       → (length (frames_held i.homes cs (passage_plays (passage_in t first) (around seed i)
       m).after.blocks) ≤ MAX_FRAMES)
       → (length ls ≤ MAX_LEVELS)
-      → Runs code (at place n ls (frames_held i.homes cs n.blocks)) 1 []
-      (at (if b then place + 1 else place + size_in first + 2) m ls (frames_held i.homes cs n.blocks))
+      → Runs code (at operation n ls (frames_held i.homes cs n.blocks)) 1 []
+      (at (if b then operation + 1 else operation + size_in first + 2) m ls (frames_held i.homes cs n.blocks))
       → (b ≡ true → levels_hold ls (passage_plays (passage_in t first) (around seed i) m).after.position
       ≡ true)
-      → (b ≡ true → Reaches code i.homes cs ls (place + 1) m (steps_in (passage_in t first) (around seed i) m)
-      (passage_plays (passage_in t first) (around seed i) m) (place + 1 + size_in first))
-      → (b ≡ false → Reaches code i.homes cs ls (place + size_in first + 2) m
+      → (b ≡ true → Reaches code i.homes cs ls (operation + 1) m (steps_in (passage_in t first) (around seed i) m)
+      (passage_plays (passage_in t first) (around seed i) m) (operation + 1 + size_in first))
+      → (b ≡ false → Reaches code i.homes cs ls (operation + size_in first + 2) m
       (steps_in (passage_in t second) (around seed i) m)
-      (passage_plays (passage_in t second) (around seed i) m) (place + size_in first + 2 + size_in second))
-      → slice_get code (place + 1 + size_in first) ≡ Some
-      (action.jump (place + size_in first + 2 + size_in second))
-      → Reaches code i.homes cs ls place n
+      (passage_plays (passage_in t second) (around seed i) m) (operation + size_in first + 2 + size_in second))
+      → slice_get code (operation + 1 + size_in first) ≡ Some
+      (action.jump (operation + size_in first + 2 + size_in second))
+      → Reaches code i.homes cs ls operation n
       (1 + elim b as (λ _. ℕ) [
         | true ↦ steps_in (passage_in t first) (around seed i) m + 1
         | false ↦ steps_in (passage_in t second) (around seed i) m
@@ -93,31 +93,31 @@ module _ (t : Tables) (scopes : List (List Slot)) (code : List Action) (seed : �
         | true ↦ passage_plays (passage_in t first) (around seed i) m
         | false ↦ passage_plays (passage_in t second) (around seed i) m
       ])
-      (place + (size_in first + size_in second + 2))
-  choice_by first second i place n m ls cs true held same small flat tested soon one other jumped =
+      (operation + (size_in first + size_in second + 2))
+  choice_by first second i operation n m ls cs true held same small flat tested soon one other jumped =
       let o = passage_plays (passage_in t first) (around seed i) m in
       let fs = frames_held i.homes cs o.after.blocks in
-      let out = place + size_in first + 2 + size_in second in
-      let from = at (place + 1 + size_in first) o.after ls fs in
+      let out = operation + size_in first + 2 + size_in second in
+      let from = at (operation + 1 + size_in first) o.after ls fs in
       let steps = steps_in (passage_in t first) (around seed i) m in
       let there = at out o.after ls fs in
-      let e : out ≡ place + (size_in first + size_in second + 2) = omega arith in
+      let e : out ≡ operation + (size_in first + size_in second + 2) = omega arith in
       let leap = one_silent code from there (step_silent code from there (action.jump out) refl jumped
       refl refl
       (holds_by there small flat (soon refl))) in
       become code _ _ _ _ _ _ _ refl (append-nil (heard ls o.marks)) (ap (λ p. at p o.after ls fs) e)
       (after code _ _ _ 1 (steps + 1) [] (heard ls o.marks ++ []) tested
-      (begin_at code _ _ _ _ _ (ap (λ g. at (place + 1) m ls g) same)
+      (begin_at code _ _ _ _ _ (ap (λ g. at (operation + 1) m ls g) same)
       (after code _ _ there steps 1 (heard ls o.marks) [] (one refl) leap)))
-  choice_by first second i place n m ls cs false held same small flat tested soon one other jumped =
+  choice_by first second i operation n m ls cs false held same small flat tested soon one other jumped =
       let o = passage_plays (passage_in t second) (around seed i) m in
       let fs = frames_held i.homes cs o.after.blocks in
       let steps = steps_in (passage_in t second) (around seed i) m in
-      let e : place + size_in first + 2 + size_in second ≡ place +
+      let e : operation + size_in first + 2 + size_in second ≡ operation +
       (size_in first + size_in second + 2) = omega arith in
       become code _ _ _ _ _ _ _ refl refl (ap (λ p. at p o.after ls fs) e)
       (after code _ _ _ 1 steps [] (heard ls o.marks) tested
-      (begin_at code _ _ _ _ _ (ap (λ g. at (place + size_in first + 2) m ls g) same) (other refl)))
+      (begin_at code _ _ _ _ _ (ap (λ g. at (operation + size_in first + 2) m ls g) same) (other refl)))
 
   -- one of two types
   first_of : (b : Bool) (A B : Type 0) → elim b as (λ _. Type 0) [ true ↦ A | false ↦ B ] → b ≡ true → A
@@ -146,7 +146,7 @@ module _ (t : Tables) (scopes : List (List Slot)) (code : List Action) (seed : �
   -- ---- loops
 
   -- a loop in a frame: its count, and as many rounds
-  loop_by : (k : ℕ) (d : Depths) (i : Inside) (place z : ℕ) (n : Now) (ls : List OpenLevel)
+  loop_by : (k : ℕ) (d : Depths) (i : Inside) (operation z : ℕ) (n : Now) (ls : List OpenLevel)
       (cs : List Counter) (count : Count)
       → (count_drawn (rounds_of t count) n).value ≡ k
       → (steps : Now → ℕ) (inside : Now → Made) (Q : Now → Type 0)
@@ -155,29 +155,29 @@ module _ (t : Tables) (scopes : List (List Slot)) (code : List Action) (seed : �
       (count_drawn (rounds_of t count) n).after
       → levels_hold ls (rounds (λ j. in_block (looped j) inside) k 0
       (count_drawn (rounds_of t count) n).after).after.position ≡ true
-      → slice_get code place ≡ Some (action_of (stock_with t scopes) (op.Loop count i.scope (place + z + 2)))
-      → slice_get code (place + 1 + z) ≡ Some (action.again (place + 1))
+      → slice_get code operation ≡ Some (action_of (stock_with t scopes) (op.Loop count i.scope (operation + z + 2)))
+      → slice_get code (operation + 1 + z) ≡ Some (action.again (operation + 1))
       → ((m : Now) → map restarted (inside m).after.blocks ≡ map restarted m.blocks)
       → ((m : Now) → m.position ≤ (inside m).after.position)
       → ((j left : ℕ) (m : Now) → Held t i.homes cs m.blocks → Q (record m { blocks = looped j ∷ m.blocks })
       → levels_hold ls (inside (record m { blocks = looped j ∷ m.blocks })).after.position ≡ true
-      → Reaches code (loop_frame ∷ i.homes) (record { left = left; back = place + 1 } ∷ cs) ls (place + 1)
+      → Reaches code (loop_frame ∷ i.homes) (record { left = left; back = operation + 1 } ∷ cs) ls (operation + 1)
       (record m { blocks = looped j ∷ m.blocks }) (steps (record m { blocks = looped j ∷ m.blocks }))
-      (inside (record m { blocks = looped j ∷ m.blocks })) (place + 1 + z))
-      → Reaches code i.homes cs ls place n
+      (inside (record m { blocks = looped j ∷ m.blocks })) (operation + 1 + z))
+      → Reaches code i.homes cs ls operation n
       (1 + rounds_steps (λ j m. steps (record m { blocks = looped j ∷ m.blocks }))
       (λ j. in_block (looped j) inside) k 0
       (count_drawn (rounds_of t count) n).after)
-      (rounds (λ j. in_block (looped j) inside) k 0 (count_drawn (rounds_of t count) n).after) (place + z + 2)
-  loop_by zero d i place z n ls cs count is steps inside Q deep setting held levels high here over kept
+      (rounds (λ j. in_block (looped j) inside) k 0 (count_drawn (rounds_of t count) n).after) (operation + z + 2)
+  loop_by zero d i operation z n ls cs count is steps inside Q deep setting held levels high here over kept
       rise each =
       let hs = i.homes in
       let slots = slots_of hs in
       let c = count_drawn (rounds_of t count) n in
       let fs = frames_held hs cs n.blocks in
-      let s = at place n ls fs in
+      let s = at operation n ls fs in
       let repeats = repeats_of (stock_with t scopes) count in
-      let past = place + z + 2 in
+      let past = operation + z + 2 in
       let opened_by : Draught ℕ → Stepped = λ k. silent (loop_opened k.value past k.after) in
       let there = at past c.after ls fs in
       let small = room t scopes code d i ls cs n setting held in
@@ -185,20 +185,20 @@ module _ (t : Tables) (scopes : List (List Slot)) (code : List Action) (seed : �
       become code s _ _ _ _ _ _ refl refl (ap (λ b. at past c.after ls (frames_held hs cs b)) (sym b1))
       (one_silent code s there (step_silent code s there (action.loop repeats slots past) refl
       (here ∙ ap (λ k. Some (action.loop repeats k past)) setting.scope) (slots_open t hs cs n.blocks held)
-      (ap opened_by (repeats_are t scopes count place n ls fs slots (slots_give t hs cs n.blocks held))
-      ∙ ap (λ k. silent (loop_opened k past (at place c.after ls fs))) is)
+      (ap opened_by (repeats_are t scopes count operation n ls fs slots (slots_give t hs cs n.blocks held))
+      ∙ ap (λ k. silent (loop_opened k past (at operation c.after ls fs))) is)
       (holds_by there small.0 small.1 high)))
-  loop_by (suc k) d i place z n ls cs count is steps inside Q deep setting held levels high here over
+  loop_by (suc k) d i operation z n ls cs count is steps inside Q deep setting held levels high here over
       kept rise each =
       let hs = i.homes in
       let slots = slots_of hs in
       let c = count_drawn (rounds_of t count) n in
       let fs = frames_held hs cs n.blocks in
-      let s = at place n ls fs in
+      let s = at operation n ls fs in
       let repeats = repeats_of (stock_with t scopes) count in
-      let past = place + z + 2 in
+      let past = operation + z + 2 in
       let opened_by : Draught ℕ → Stepped = λ x. silent (loop_opened x.value past x.after) in
-      let there = at (place + 1) c.after ls (counting 0 k (place + 1) ∷ fs) in
+      let there = at (operation + 1) c.after ls (counting 0 k (operation + 1) ∷ fs) in
       let small = room t scopes code d i ls cs n setting held in
       let b1 = ap Now.blocks (count_after (rounds_of t count) n) in
       let held1 = subst (λ bs. Held t hs cs bs) (sym b1) held in
@@ -210,57 +210,57 @@ module _ (t : Tables) (scopes : List (List Slot)) (code : List Action) (seed : �
       let open_step = one_silent code s there (step_silent code s there (action.loop repeats slots past) refl
       (here ∙ ap (λ x. Some (action.loop repeats x past)) setting.scope)
       (slots_open t hs cs n.blocks held)
-      (ap opened_by (repeats_are t scopes count place n ls fs slots (slots_give t hs cs n.blocks held))
-      ∙ ap (λ x. silent (loop_opened x past (at place c.after ls fs))) is)
+      (ap opened_by (repeats_are t scopes count operation n ls fs slots (slots_give t hs cs n.blocks held))
+      ∙ ap (λ x. silent (loop_opened x past (at operation c.after ls fs))) is)
       (holds_by there (omega (arith, held_length t hs cs n.blocks held, setting.frames, deep))
       small.1 soon)) in
       after code s there _ 1 _ [] (heard ls o.marks) open_step
-      (begin_at code _ _ _ _ _ (ap (λ b. at (place + 1) c.after ls
-      (counting 0 k (place + 1) ∷ frames_held hs cs b)) (sym b1))
-      (rounds_run t code hs cs ls place z (λ j m. steps (record m { blocks = looped j ∷ m.blocks })) inside
+      (begin_at code _ _ _ _ _ (ap (λ b. at (operation + 1) c.after ls
+      (counting 0 k (operation + 1) ∷ frames_held hs cs b)) (sym b1))
+      (rounds_run t code hs cs ls operation z (λ j m. steps (record m { blocks = looped j ∷ m.blocks })) inside
       (λ j m. Q (record m { blocks = looped j ∷ m.blocks })) over (omega (arith, setting.frames, deep))
       small.1 kept rise each
       k 0 c.after held1 levels high))
 
   mutual
     -- a statement
-    pub emit_runs : (x : Instruction) (d : Depths) (i : Inside) (place next : ℕ) (n : Now)
+    pub emit_runs : (x : Instruction) (d : Depths) (i : Inside) (operation next : ℕ) (n : Now)
         (ls : List OpenLevel) (cs : List Counter)
         → Fits d (play_in t x) → forks x ≡ false → Setting scopes d i ls → Held t i.homes cs n.blocks
         → LevelsOf IsInTime (play_in t x) (around seed i) n
         → levels_hold ls (plays (play_in t x) (around seed i) n).after.position ≡ true
-        → HasAt (stock_with t scopes) code place (emit x i place next)
+        → HasAt (stock_with t scopes) code operation (emit x i operation next)
         → HasScopes scopes next (scopes_of x i.homes)
-        → Reaches code i.homes cs ls place n (steps_of (play_in t x) (around seed i) n)
+        → Reaches code i.homes cs ls operation n (steps_of (play_in t x) (around seed i) n)
         (plays (play_in t x) (around seed i) n)
-        (place + size x)
-    emit_runs (note chord lasting) d i place next n ls cs fits alone setting held levels high has scoped =
-        note_runs t scopes code chord lasting d i seed place n ls cs setting held high has.0
-    emit_runs (rest lasting) d i place next n ls cs fits alone setting held levels high has scoped =
-        rest_runs t scopes code lasting d i seed place n ls cs setting held high has.0
-    emit_runs (send point draw) d i place next n ls cs fits alone setting held levels high has scoped =
-        send_runs t scopes code point draw d i seed place n ls cs setting held high has.0
-    emit_runs (assign register expr) d i place next n ls cs fits alone setting held levels high has scoped =
-        assign_runs t scopes code register expr d i seed place n ls cs setting held high has.0
-    emit_runs (choice expr first second) d i place next n ls cs fits alone setting held levels high has
+        (operation + size x)
+    emit_runs (note chord lasting) d i operation next n ls cs fits alone setting held levels high has scoped =
+        note_runs t scopes code chord lasting d i seed operation n ls cs setting held high has.0
+    emit_runs (rest lasting) d i operation next n ls cs fits alone setting held levels high has scoped =
+        rest_runs t scopes code lasting d i seed operation n ls cs setting held high has.0
+    emit_runs (send point draw) d i operation next n ls cs fits alone setting held levels high has scoped =
+        send_runs t scopes code point draw d i seed operation n ls cs setting held high has.0
+    emit_runs (assign register expr) d i operation next n ls cs fits alone setting held levels high has scoped =
+        assign_runs t scopes code register expr d i seed operation n ls cs setting held high has.0
+    emit_runs (choice expr first second) d i operation next n ls cs fits alone setting held levels high has
         scoped =
         let stock = stock_with t scopes in
         let a = around seed i in
         let v = evaluated (expr_in t expr) n in
         let b = int_lt (pos 0) v.value in
         let both = or_parts (forks_in first) (forks_in second) alone in
-        let middle = place + size_in first + 2 in
-        let ops1 = emit_in first i (place + 1) next in
+        let middle = operation + size_in first + 2 in
+        let ops1 = emit_in first i (operation + 1) next in
         let later = next + length (scopes_in first i.homes) in
         let ops2 = emit_in second i middle later in
         let jump = op.Jump (middle + size_in second) in
         let p1 = passage_in t first in
         let p2 = passage_in t second in
         let inside = in_choice_more scopes d i ls setting in
-        let has1 = has_front stock code (place + 1) ops1 (jump ∷ ops2) has.1 in
-        let has_rest = has_back stock code (place + 1) (size_in first) ops1 (jump ∷ ops2)
-        (emit_in_length first i (place + 1) next) has.1 in
-        let at_middle : place + 1 + size_in first + 1 ≡ middle = omega arith in
+        let has1 = has_front stock code (operation + 1) ops1 (jump ∷ ops2) has.1 in
+        let has_rest = has_back stock code (operation + 1) (size_in first) ops1 (jump ∷ ops2)
+        (emit_in_length first i (operation + 1) next) has.1 in
+        let at_middle : operation + 1 + size_in first + 1 ≡ middle = omega arith in
         let has2 = subst (λ p. HasAt stock code p ops2) at_middle has_rest.1 in
         let m1 = passage_plays p1 a v.after in
         let m2 = passage_plays p2 a v.after in
@@ -270,19 +270,19 @@ module _ (t : Tables) (scopes : List (List Slot)) (code : List Action) (seed : �
         let level2 = second_of b (LevelsIn IsInTime p1 a v.after) (LevelsIn IsInTime p2 a v.after) levels in
         let high1 = first_held b ls m1 m2 high in
         let high2 = second_held b ls m1 m2 high in
-        choice_by first second i place n v.after ls cs b held refl small.0 small.1
-        (test_runs expr middle d i place n ls cs b refl setting held
+        choice_by first second i operation n v.after ls cs b held refl small.0 small.1
+        (test_runs expr middle d i operation n ls cs b refl setting held
         (levels_earlier ls n.position (plays (play_in t (choice expr first second)) a n).after.position
         (plays_rise d (play_in t (choice expr first second)) a n fits) high) has.0)
         high1
-        (λ is. emit_in_runs first (in_branching d) i (place + 1) next v.after ls cs fits.3 both.0 inside
+        (λ is. emit_in_runs first (in_branching d) i (operation + 1) next v.after ls cs fits.3 both.0 inside
         held (level1 is) (high1 is) has1
         (scopes_front scopes next (scopes_in first i.homes) (scopes_in second i.homes) scoped))
         (λ is. emit_in_runs second (in_branching d) i middle later v.after ls cs fits.4 both.1 inside
         held (level2 is) (high2 is) has2
         (scopes_back scopes next (scopes_in first i.homes) (scopes_in second i.homes) scoped))
         has_rest.0
-    emit_runs (loop count body) d i place next n ls cs fits alone setting held levels high has scoped =
+    emit_runs (loop count body) d i operation next n ls cs fits alone setting held levels high has scoped =
         let stock = stock_with t scopes in
         let a = around seed i in
         let hs = i.homes in
@@ -290,29 +290,29 @@ module _ (t : Tables) (scopes : List (List Slot)) (code : List Action) (seed : �
         let p = passage_in t body in
         let c = count_drawn (rounds_of t count) n in
         let inside = in_scope loop_frame next i in
-        let ops = emit_in body inside (place + 1) (next + 1) in
-        let has_body = has_front stock code (place + 1) ops (op.Again (place + 1) ∷ []) has.1 in
-        let has_again = (has_back stock code (place + 1) z ops (op.Again (place + 1) ∷ [])
-        (emit_in_length body inside (place + 1) (next + 1)) has.1).0 in
-        let e : place + z + 2 ≡ place + (z + 2) = omega arith in
+        let ops = emit_in body inside (operation + 1) (next + 1) in
+        let has_body = has_front stock code (operation + 1) ops (op.Again (operation + 1) ∷ []) has.1 in
+        let has_again = (has_back stock code (operation + 1) z ops (op.Again (operation + 1) ∷ [])
+        (emit_in_length body inside (operation + 1) (next + 1)) has.1).0 in
+        let e : operation + z + 2 ≡ operation + (z + 2) = omega arith in
         let set = in_frame_more scopes d i ls (rounds_of t count) next fits.2 scoped.0 setting in
         become code _ _ _ _ _ _ _ refl refl (ap (λ q. at q (plays (play_in t (loop count body)) a n).after ls
         (frames_held hs cs (plays (play_in t (loop count body)) a n).after.blocks)) e)
-        (loop_by c.value d i place z n ls cs count refl
+        (loop_by c.value d i operation z n ls cs count refl
         (λ m. steps_in p a m) (passage_plays p a) (λ m. LevelsIn IsInTime p a m)
         fits.2 setting held levels high has.0 has_again
         (λ m. passage_kept p a m) (λ m. passage_rises (in_loop (rounds_of t count) d) p a m fits.3)
-        (λ k left m own level top. emit_in_runs body (in_loop (rounds_of t count) d) inside (place + 1)
+        (λ k left m own level top. emit_in_runs body (in_loop (rounds_of t count) d) inside (operation + 1)
         (next + 1)
-        (record m { blocks = looped k ∷ m.blocks }) ls (record { left = left; back = place + 1 } ∷ cs)
+        (record m { blocks = looped k ∷ m.blocks }) ls (record { left = left; back = operation + 1 } ∷ cs)
         fits.3 alone set own level top
         has_body scoped.1))
-    emit_runs (phrase body) d i place next n ls cs fits alone setting held levels high has scoped =
-        emit_in_runs body (in_one d) i place next n ls cs fits alone
+    emit_runs (phrase body) d i operation next n ls cs fits alone setting held levels high has scoped =
+        emit_in_runs body (in_one d) i operation next n ls cs fits alone
         (in_block_more scopes d i ls setting) held levels high has scoped
-    emit_runs (par arms) d i place next n ls cs fits alone setting held levels high has scoped = absurd
+    emit_runs (par arms) d i operation next n ls cs fits alone setting held levels high has scoped = absurd
         (true≢false alone)
-    emit_runs (warp number body) d i place next n ls cs fits alone setting held levels high has scoped =
+    emit_runs (warp number body) d i operation next n ls cs fits alone setting held levels high has scoped =
         let stock = stock_with t scopes in
         let a = around seed i in
         let hs = i.homes in
@@ -324,25 +324,25 @@ module _ (t : Tables) (scopes : List (List Slot)) (code : List Action) (seed : �
         let o = passage_plays p a start in
         let m = plays (play_in t (warp number body)) a n in
         let inside = in_warp number i in
-        let ops = emit_in body inside (place + 1) next in
-        let has_body = has_front stock code (place + 1) ops (op.Leave ∷ []) has.1 in
-        let has_leave = (has_back stock code (place + 1) z ops (op.Leave ∷ [])
-        (emit_in_length body inside (place + 1) next) has.1).0 in
+        let ops = emit_in body inside (operation + 1) next in
+        let has_body = has_front stock code (operation + 1) ops (op.Leave ∷ []) has.1 in
+        let has_leave = (has_back stock code (operation + 1) z ops (op.Leave ∷ [])
+        (emit_in_length body inside (operation + 1) next) has.1).0 in
         let top = and_from (nat_le o.after.position MAX_TICK)
         (levels_hold ls (placed Onset n.position parts o.after.position))
         (le-leb o.after.position MAX_TICK levels.0.position) high in
         let fs = frames_held hs cs n.blocks in
         let gs = frames_held hs cs o.after.blocks in
-        let s = at place n ls fs in
-        let entered = at (place + 1) start (l ∷ ls) fs in
-        let inner = at (place + 1 + z) o.after (l ∷ ls) gs in
-        let out = at (place + 1 + z + 1) m.after ls gs in
+        let s = at operation n ls fs in
+        let entered = at (operation + 1) start (l ∷ ls) fs in
+        let inner = at (operation + 1 + z) o.after (l ∷ ls) gs in
+        let out = at (operation + 1 + z + 1) m.after ls gs in
         let small = room t scopes code d i ls cs n setting held in
         let deep = in_level_more scopes d i ls l fits.0 setting in
         let held1 = held_alike t hs cs n.blocks o.after.blocks (passage_kept p a start) held in
         let small1 = room t scopes code d i ls cs o.after setting held1 in
         let flat : length (l ∷ ls) ≤ MAX_LEVELS = omega (arith, deep.levels, deep.flat) in
-        let e : place + 1 + z + 1 ≡ place + (z + 2) = omega arith in
+        let e : operation + 1 + z + 1 ≡ operation + (z + 2) = omega arith in
         let steps = steps_in p a start in
         let k : 1 + (steps + 1) ≡ 2 + steps = omega arith in
         let enter_step = one_silent code s entered
@@ -355,13 +355,13 @@ module _ (t : Tables) (scopes : List (List Slot)) (code : List Action) (seed : �
         (ap (λ q. at q m.after ls gs) e)
         (after code s entered out 1 (steps + 1) [] (heard (l ∷ ls) o.marks ++ []) enter_step
         (after code entered inner out steps 1 (heard (l ∷ ls) o.marks) []
-        (emit_in_runs body (deeper_warp d) inside (place + 1) next start (l ∷ ls) cs fits.1 alone deep
+        (emit_in_runs body (deeper_warp d) inside (operation + 1) next start (l ∷ ls) cs fits.1 alone deep
         held levels.1 top has_body scoped)
         leave_step))
-    emit_runs (channel number body) d i place next n ls cs fits alone setting held levels high has scoped =
-        emit_in_runs body (in_one d) (record i { channel = number }) place next n ls cs fits.1 alone
+    emit_runs (channel number body) d i operation next n ls cs fits alone setting held levels high has scoped =
+        emit_in_runs body (in_one d) (record i { channel = number }) operation next n ls cs fits.1 alone
         (on_channel scopes d i ls number fits.0 setting) held levels high has scoped
-    emit_runs (steady quality entry body) d i place next n ls cs fits alone setting held levels high has
+    emit_runs (steady quality entry body) d i operation next n ls cs fits alone setting held levels high has
         scoped =
         let a = around seed i in
         let hs = i.homes in
@@ -369,15 +369,15 @@ module _ (t : Tables) (scopes : List (List Slot)) (code : List Action) (seed : �
         let block = listed quality (entry ∷ []) 0 in
         let start : Now = record n { blocks = block ∷ n.blocks } in
         let o = passage_plays p a start in
-        let there = at (place + size_in body) o.after ls in
+        let there = at (operation + size_in body) o.after ls in
         let held0 : Held t (list_of_one quality entry ∷ hs) cs start.blocks = (refl, refl, held) in
         let held1 = held_alike t (list_of_one quality entry ∷ hs) cs start.blocks o.after.blocks
         (passage_kept p a start) held0 in
         become code _ _ _ _ _ _ _ refl refl (ap there (one_front t quality entry hs cs o.after.blocks held1))
-        (emit_in_runs body (in_one d) (at_home (list_of_one quality entry) i) place next start ls cs
+        (emit_in_runs body (in_one d) (at_home (list_of_one quality entry) i) operation next start ls cs
         fits.1 alone
         (in_one_entry scopes d i ls quality entry setting) held0 levels high has scoped)
-    emit_runs (under quality list body) d i place next n ls cs fits alone setting held levels high has
+    emit_runs (under quality list body) d i operation next n ls cs fits alone setting held levels high has
         scoped =
         let stock = stock_with t scopes in
         let a = around seed i in
@@ -389,10 +389,10 @@ module _ (t : Tables) (scopes : List (List Slot)) (code : List Action) (seed : �
         let o = passage_plays p a start in
         let m = plays (play_in t (under quality list body)) a n in
         let inside = at_home (list_frame quality list) i in
-        let ops = emit_in body inside (place + 1) next in
-        let has_body = has_front stock code (place + 1) ops (op.Close ∷ []) has.1 in
-        let has_close = (has_back stock code (place + 1) z ops (op.Close ∷ [])
-        (emit_in_length body inside (place + 1) next) has.1).0 in
+        let ops = emit_in body inside (operation + 1) next in
+        let has_body = has_front stock code (operation + 1) ops (op.Close ∷ []) has.1 in
+        let has_close = (has_back stock code (operation + 1) z ops (op.Close ∷ [])
+        (emit_in_length body inside (operation + 1) next) has.1).0 in
         let held0 : Held t (list_frame quality list ∷ hs) cs start.blocks = (refl, refl, fits.1, held) in
         let held1 = held_alike t (list_frame quality list ∷ hs) cs start.blocks o.after.blocks
         (passage_kept p a start) held0 in
@@ -404,13 +404,13 @@ module _ (t : Tables) (scopes : List (List Slot)) (code : List Action) (seed : �
         let fs = frames_held hs cs n.blocks in
         let gs = frames_held hs cs m.after.blocks in
         let front = list_front t quality list hs cs o.after.blocks held1 in
-        let s = at place n ls fs in
-        let opened = at (place + 1) start ls (cycling entries 0 ∷ fs) in
-        let inner = at (place + 1 + z) o.after ls (front.frame ∷ gs) in
-        let out = at (place + 1 + z + 1) m.after ls gs in
+        let s = at operation n ls fs in
+        let opened = at (operation + 1) start ls (cycling entries 0 ∷ fs) in
+        let inner = at (operation + 1 + z) o.after ls (front.frame ∷ gs) in
+        let out = at (operation + 1 + z + 1) m.after ls gs in
         let soon = levels_earlier ls n.position m.after.position
         (plays_rise d (play_in t (under quality list body)) a n fits) high in
-        let e : place + 1 + z + 1 ≡ place + (z + 2) = omega arith in
+        let e : operation + 1 + z + 1 ≡ operation + (z + 2) = omega arith in
         let steps = steps_in p a start in
         let k : 1 + (steps + 1) ≡ 2 + steps = omega arith in
         let begin_step = one_silent code s opened
@@ -423,26 +423,26 @@ module _ (t : Tables) (scopes : List (List Slot)) (code : List Action) (seed : �
         (after code s opened out 1 (steps + 1) [] (heard ls o.marks ++ []) begin_step
         (after code opened inner out steps 1 (heard ls o.marks) []
         (become code opened _ inner steps steps (heard ls o.marks) (heard ls o.marks) refl refl
-        (ap (λ g. at (place + 1 + z) o.after ls g) front.is)
-        (emit_in_runs body (in_list quality d) inside (place + 1) next start ls cs fits.3 alone set
+        (ap (λ g. at (operation + 1 + z) o.after ls g) front.is)
+        (emit_in_runs body (in_list quality d) inside (operation + 1) next start ls cs fits.3 alone set
         held0 levels high has_body scoped))
         close_step))
 
     -- statements in turn
-    pub emit_in_runs : (b : Block) (d : Depths) (i : Inside) (place next : ℕ) (n : Now)
+    pub emit_in_runs : (b : Block) (d : Depths) (i : Inside) (operation next : ℕ) (n : Now)
         (ls : List OpenLevel) (cs : List Counter)
         → FitsIn d (passage_in t b) → forks_in b ≡ false → Setting scopes d i ls → Held t i.homes cs n.blocks
         → LevelsIn IsInTime (passage_in t b) (around seed i) n
         → levels_hold ls (passage_plays (passage_in t b) (around seed i) n).after.position ≡ true
-        → HasAt (stock_with t scopes) code place (emit_in b i place next)
+        → HasAt (stock_with t scopes) code operation (emit_in b i operation next)
         → HasScopes scopes next (scopes_in b i.homes)
-        → Reaches code i.homes cs ls place n (steps_in (passage_in t b) (around seed i) n)
-        (passage_plays (passage_in t b) (around seed i) n) (place + size_in b)
-    emit_in_runs done d i place next n ls cs fits alone setting held levels high has scoped =
-        let e : place ≡ place + 0 = omega arith in
+        → Reaches code i.homes cs ls operation n (steps_in (passage_in t b) (around seed i) n)
+        (passage_plays (passage_in t b) (around seed i) n) (operation + size_in b)
+    emit_in_runs done d i operation next n ls cs fits alone setting held levels high has scoped =
+        let e : operation ≡ operation + 0 = omega arith in
         become code _ _ _ _ _ _ _ refl refl (ap (λ q. at q n ls (frames_held i.homes cs n.blocks)) e)
-        (nothing code (at place n ls (frames_held i.homes cs n.blocks)))
-    emit_in_runs (item spot x more) d i place next n ls cs fits alone setting held levels high has scoped =
+        (nothing code (at operation n ls (frames_held i.homes cs n.blocks)))
+    emit_in_runs (item spot x more) d i operation next n ls cs fits alone setting held levels high has scoped =
         let stock = stock_with t scopes in
         let a = around seed i in
         let both = or_parts (forks x) (forks_in more) alone in
@@ -450,19 +450,19 @@ module _ (t : Tables) (scopes : List (List Slot)) (code : List Action) (seed : �
         let q = passage_in t more in
         let m = plays p a n in
         let o = passage_plays q a m.after in
-        let ops = emit x i place next in
+        let ops = emit x i operation next in
         let later = next + length (scopes_of x i.homes) in
-        let others = emit_in more i (place + size x) later in
+        let others = emit_in more i (operation + size x) later in
         let held1 = held_alike t i.homes cs n.blocks m.after.blocks (plays_kept p a n) held in
         let soon = levels_earlier ls m.after.position o.after.position
         (passage_rises d q a m.after fits.1) high in
-        let e : place + size x + size_in more ≡ place + (size x + size_in more) = omega arith in
+        let e : operation + size x + size_in more ≡ operation + (size x + size_in more) = omega arith in
         become code _ _ _ _ _ _ _ refl (sym (heard_append ls m.marks o.marks))
         (ap (λ k. at k o.after ls (frames_held i.homes cs o.after.blocks)) e)
         (after code _ _ _ (steps_of p a n) (steps_in q a m.after) (heard ls m.marks) (heard ls o.marks)
-        (emit_runs x d i place next n ls cs fits.0 both.0 setting held levels.1 soon
-        (has_front stock code place ops others has)
+        (emit_runs x d i operation next n ls cs fits.0 both.0 setting held levels.1 soon
+        (has_front stock code operation ops others has)
         (scopes_front scopes next (scopes_of x i.homes) (scopes_in more i.homes) scoped))
-        (emit_in_runs more d i (place + size x) later m.after ls cs fits.1 both.1 setting held1 levels.2 high
-        (has_back stock code place (size x) ops others (emit_length x i place next) has)
+        (emit_in_runs more d i (operation + size x) later m.after ls cs fits.1 both.1 setting held1 levels.2 high
+        (has_back stock code operation (size x) ops others (emit_length x i operation next) has)
         (scopes_back scopes next (scopes_of x i.homes) (scopes_in more i.homes) scoped)))

@@ -1,4 +1,4 @@
--- The earliest one of a stack, found by its place, is the one that is picked.
+-- The earliest one of a stack, found by its index, is the one that is picked.
 use Rattle.std.proofs.Common.{◌≡◌, ℕ, zero, suc, ◌+◌, ◌<◌, ◌≤◌, List, [], ◌∷◌, length, Bool, true, false, map, take, drop, All, refl, sym, ap, ◌∙◌, subst, arith}
 use Rattle.std.specs.Prelude.{if◌then◌else◌, nat_le, min, slice_index_or, remove}
 use Rattle.std.proofs.lemmas.Bool.{le-leb, leb-true, false_from_ne_true}
@@ -45,7 +45,7 @@ earliest-picked (suc i) x (y ∷ ys) e =
     let low : tick_at (y ∷ ys) i < x.tick = e.first 0 (omega arith) in
     rw ih (rw (false_from_ne_true (nat_le x.tick (tick_at (y ∷ ys) i)) (λ t. let h = leb-true _ _ t in omega arith)) refl)
 
--- what stands for a place that is not there plays no part where it is there
+-- what stands for an index that is not there plays no part where it is there
 pub any_default : (xs : List NoteOff) (i : ℕ) (d e : NoteOff) → i < length xs → slice_index_or xs i d ≡ slice_index_or xs i e
 any_default [] i d e l = absurd (omega arith)
 any_default (x ∷ xs) zero d e l = refl
@@ -104,7 +104,7 @@ module _ (t k i : ℕ) where
       let few : length (map off_sound xs) + k ≤ most_waiting = let h = map_length xs in omega arith in
       (out-none t k (map off_sound xs) late few, left-none t k (map off_sound xs) late few)
 
--- the clock, by the place of the earliest
+-- the clock, by the index of the earliest
 pub clock_is : (t i : ℕ) (xs : List NoteOff) → IsEarliest xs i → clock_with t (map off_sound xs) ≡ min t (tick_at xs i)
 clock_is t i [] e = let h = e.there in absurd (omega arith)
 clock_is t i (x ∷ xs) e = ap (λ (r : Picked). min t r.first.time) (earliest-picked i x xs e)

@@ -42,17 +42,17 @@ pub record HasRoom (t pitches : ℕ) (ws : List Sound) : Type 0 where
   pub clock : clock_with t ws ≡ t
   pub room : length ws + pitches ≤ most_waiting
 
--- ---- by places in the stack
+-- ---- by indices in the stack
 
 -- what stands for a note-off that is not there
 abbrev pub no_off : NoteOff
 no_off = record { tick = 0; channel = 0; key = 0 }
 
--- the tick of the note-off at a place
+-- the tick of the note-off at an index
 abbrev pub tick_at : List NoteOff → ℕ → ℕ
 tick_at xs k = (slice_index_or xs k no_off).tick
 
--- the note-off at this place is not later than any, and earlier than those before it
+-- the note-off at this index is not later than any, and earlier than those before it
 pub record IsEarliest (xs : List NoteOff) (i : ℕ) : Type 0 where
   pub there : i < length xs
   pub first : (k : ℕ) → k < i → tick_at xs i < tick_at xs k

@@ -113,15 +113,15 @@ impl Waiting {
 
 ghost use Rattle.fm_offs.specs.Stack.{IsEarliest};
 
-// The place of the one with the least tick, of equals the first.
+// The index of the one with the least tick, of equals the first.
 fn earliest(offs: &[NoteOff]) -> usize
     requires some { 0 < length offs.now }
     ensures { IsEarliest offs.now result }
 {
     let mut first = 0;
-    for place in 1..offs.len() {
-        if offs[place].tick < offs[first].tick {
-            first = place;
+    for index in 1..offs.len() {
+        if offs[index].tick < offs[first].tick {
+            first = index;
         }
     }
     first

@@ -87,7 +87,7 @@ loop_framed false count b i e is = refl
 
 -- ---- a choice
 
--- its two blocks, with the places filled in
+-- its two blocks, with the targets filled in
 pub choice_made : (m m1 m2 m3 m4 m5 m6 : Emitter) (c : Inside) (i : Open) (expr : ℕ) (one two : Block) (test jump middle target : ℕ)
     → Agrees m c i
     → Makes m m1 (with_ops (op.Test expr c.scope 0 ∷ []) (emitting_of m))
@@ -134,7 +134,7 @@ choice_made m m1 m2 m3 m4 m5 m6 c i expr one two test jump middle target a p1 p2
 
 -- ---- a loop in a frame
 
--- its body, with the place behind it filled in
+-- its body, with the index behind it filled in
 pub loop_made : (m m1 m2 m3 m4 m5 : Emitter) (c d : Inside) (i : Open) (count : Count) (body : Block) (start back number past : ℕ)
     → Agrees m c i
     → Makes m m1 (with_ops (op.Loop count c.scope 0 ∷ []) (emitting_of m))

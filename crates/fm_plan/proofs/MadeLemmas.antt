@@ -59,11 +59,11 @@ straight_in_is (item spot x more) i e =
     let here = emit x i (length ops) (length e.scopes) in
     let new = scopes_of x i.homes in
     let e1 = straight x i e in
-    let place : length (ops ++ here) ≡ length ops + size x =
+    let behind : length (ops ++ here) ≡ length ops + size x =
     omega (arith, length-append ops here, emit_length x i (length ops) (length e.scopes)) in
     let later : length (e.scopes ++ new) ≡ length e.scopes + length new = length-append e.scopes new in
     straight_in_is more i e1
-    ∙ ap₂ (λ p s. rebuilt e ((ops ++ here) ++ emit_in more i p s) ((e.scopes ++ new) ++ scopes_in more i.homes)) place later
+    ∙ ap₂ (λ p s. rebuilt e ((ops ++ here) ++ emit_in more i p s) ((e.scopes ++ new) ++ scopes_in more i.homes)) behind later
     ∙ ap₂ (rebuilt e) (append_assoc ops here (emit_in more i (length ops + size x) (length e.scopes + length new)))
     (append_assoc e.scopes new (scopes_in more i.homes))
 
@@ -106,10 +106,10 @@ between : (x y : Op) (b : Block) (i : Inside) (e : Emitting)
     ≡ with_ops (y ∷ []) (straight_in b i (with_ops (x ∷ []) e))
 between x y b i e =
     let ops = e.current.ops in
-    let place : length (ops ++ x ∷ []) ≡ length ops + 1 = length-append ops (x ∷ []) in
+    let behind : length (ops ++ x ∷ []) ≡ length ops + 1 = length-append ops (x ∷ []) in
     let inner = emit_in b i (length ops + 1) (length e.scopes) in
     sym (ap (with_ops (y ∷ [])) (straight_in_is b i (with_ops (x ∷ []) e))
-    ∙ ap (λ p. rebuilt e (((ops ++ x ∷ []) ++ emit_in b i p (length e.scopes)) ++ y ∷ []) (e.scopes ++ scopes_in b i.homes)) place
+    ∙ ap (λ p. rebuilt e (((ops ++ x ∷ []) ++ emit_in b i p (length e.scopes)) ++ y ∷ []) (e.scopes ++ scopes_in b i.homes)) behind
     ∙ ap (λ l. rebuilt e l (e.scopes ++ scopes_in b i.homes))
     (append_assoc (ops ++ x ∷ []) inner (y ∷ []) ∙ append_assoc ops (x ∷ []) (inner ++ y ∷ [])))
 
@@ -142,12 +142,12 @@ made_loop c b i e =
     let inside = in_scope loop_frame (length e.scopes) i in
     let slots = slots_of (loop_frame ∷ i.homes) in
     let e1 = with_scopes (slots ∷ []) (with_ops (first ∷ []) e) in
-    let place : length (ops ++ first ∷ []) ≡ length ops + 1 = length-append ops (first ∷ []) in
+    let behind : length (ops ++ first ∷ []) ≡ length ops + 1 = length-append ops (first ∷ []) in
     let later : length (e.scopes ++ slots ∷ []) ≡ length e.scopes + 1 = length-append e.scopes (slots ∷ []) in
     let inner = emit_in b inside (length ops + 1) (length e.scopes + 1) in
     ap (λ x. patched (length ops) past (with_ops (again ∷ []) x)) (straight_in_is b inside e1)
     ∙ ap₂ (λ p s. rebuilt e (slice_set (((ops ++ first ∷ []) ++ emit_in b inside p s) ++ again ∷ []) (length ops) past)
-    ((e.scopes ++ slots ∷ []) ++ scopes_in b inside.homes)) place later
+    ((e.scopes ++ slots ∷ []) ++ scopes_in b inside.homes)) behind later
     ∙ ap₂ (λ l s. rebuilt e (slice_set l (length ops) past) s)
     (append_assoc (ops ++ first ∷ []) inner (again ∷ []) ∙ append_assoc ops (first ∷ []) (inner ++ again ∷ []))
     (append_assoc e.scopes (slots ∷ []) (scopes_in b inside.homes))

@@ -6,9 +6,9 @@ use Rattle.fm_expansion.specs.Outline.{Instruction, Block, done, item}
 use Rattle.fm_expansion.specs.Homes.{Inside}
 use Rattle.fm_expansion.specs.Expansion.{Emitting, straight, whole, expand, expand_in}
 
--- another operation at a place of the program that grows
+-- another operation at an index of the program that grows
 abbrev pub patched : ℕ → Op → Emitting → Emitting
-patched place op e = record e { current = record e.current { ops = slice_set e.current.ops place op } }
+patched at op e = record e { current = record e.current { ops = slice_set e.current.ops at op } }
 
 -- the program that grows is whole, and another one begins
 abbrev pub next_begun : ProgramParts → Emitting → Emitting

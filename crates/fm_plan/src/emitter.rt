@@ -5,7 +5,7 @@ ghost use Rattle.fm_expansion.specs.Expansion.{with_ops, with_scopes, nothing_ma
 ghost use Rattle.fm_plan.specs.Made.{patched, next_begun};
 ghost use Rattle.fm_plan.specs.Seen.{emitting_of, Makes};
 
-use crate::inside::place;
+use crate::inside::as_index;
 use fm_program::{Op, Program, Scopes, Slot};
 use std::alloc::{AllocError, Global};
 use std::mem;
@@ -55,7 +55,7 @@ impl Emitter {
         Ok(())
     }
 
-    /// Another operation at a place of the program that grows, where there is one.
+    /// Another operation at an index of the program that grows, where there is one.
     pub(crate) fn set(&mut self, at: usize, op: Op)
         ensures { Makes self.old self.new (patched at op (emitting_of self.old)) }
     {
@@ -71,14 +71,14 @@ impl Emitter {
         self.current.ops.len()
     }
 
-    /// The place of the next operation.
+    /// The index of the next operation.
     pub(crate) fn next(&self) -> Result<u32, AllocError>
         ensures { IfOk result (λ k. k ≡ length (emitting_of self.now).current.ops) }
     {
-        place(self.current.ops.len())
+        as_index(self.current.ops.len())
     }
 
-    /// A scope of one loop more than another, and its place.
+    /// A scope of one loop more than another, and its index.
     pub(crate) fn add_scope(&mut self, parent: u32, slot: Slot) -> Result<u32, AllocError>
         ensures number { IfOk result (λ k. k ≡ length (emitting_of self.old).scopes) }
         ensures programs { IfOk result (λ _. Makes self.old self.new

@@ -13,7 +13,7 @@ ghost use Rattle.fm_plan.specs.Seen.{emitting_of, look_at, Agrees, Makes};
 
 use crate::emitter::Emitter;
 use crate::forks::{is_written_out, phrases_fork};
-use crate::inside::{Inside, place};
+use crate::inside::{Inside, as_index};
 use fm_outline::{Instruction, Outline, Quality, Step};
 use fm_program::{Count, Op, Program, Scopes, Slot};
 use std::alloc::{AllocError, Global};
@@ -297,14 +297,14 @@ fn expand_fork(
         (map (λ b. block_view (look_at (map vec_items earlier.now)) b.items) branches.now))) i
         (emitting_of m.old))) }
 {
-    let forked = place(m.finished.len())?;
+    let forked = as_index(m.finished.len())?;
     let mut lasts = Vec::new(m.alloc);
     for branch in branches {
         let mut parent = Vec::new(m.alloc);
         parent.push(forked)?;
         m.next_program(parent)?;
         expand_steps(m, earlier, forks, branch, inside, true)?;
-        lasts.push(place(m.finished.len())?)?;
+        lasts.push(as_index(m.finished.len())?)?;
     }
     m.next_program(lasts)?;
     Ok(())

@@ -32,7 +32,7 @@ fn step_forks(step: &Step, phrases: &[bool]) -> bool
     }
 }
 
-// Whether one of the statements does. The one at the place `first` is asked before all others.
+// Whether one of the statements does. The one at the index `first` is asked before all others.
 #[cycle(forks)]
 fn steps_fork(steps: &[Step], first: usize, phrases: &[bool]) -> bool
     ensures { (look : Look) →
@@ -66,7 +66,7 @@ fn phrase_forks(number: Option<u32>, phrases: &[bool]) -> bool
 }
 
 /// Whether a loop is written out: it forks, and stands where statements may. The statement of its
-/// body at the place `first` is asked before all others.
+/// body at the index `first` is asked before all others.
 pub(crate) fn is_written_out(body: &[Step], first: usize, forks: &[bool], forking: bool) -> bool
     ensures { (look : Look) →
         ((n : ℕ) → slice_index_or forks.now n false ≡ emission.forks_in (look n)) →

@@ -15,7 +15,7 @@ const USUAL_GATE: u32 = 90;
 const USUAL_VELOCITY: u32 = 64;
 
 /// Where notes take their durations, articulations and velocities from, how many frames are open,
-/// the channel, and the scope of expressions by its place in the table.
+/// the channel, and the scope of expressions by its index in the table.
 #[derive(Clone, Copy)]
 pub(crate) struct Inside {
     pub(crate) beat: Turn,
@@ -138,12 +138,12 @@ fn one_more(n: u32) -> Result<u32, AllocError>
     }
 }
 
-/// A number of operations, programs or scopes as a place of a table.
-pub(crate) fn place(n: usize) -> Result<u32, AllocError>
+/// A number of operations, programs or scopes as an index of a table.
+pub(crate) fn as_index(n: usize) -> Result<u32, AllocError>
     ensures { IfOk result (λ k. k ≡ n) }
 {
     match u32::try_from(n) {
-        Ok(place) => Ok(place),
+        Ok(index) => Ok(index),
         Err(_) => Err(AllocError),
     }
 }

@@ -191,7 +191,7 @@ pub next-plain : (p : PlanParts) (s : Player) (e : TimedMessage) → InCourse p 
 unfolding next_event
 next-plain p s e course free is = by_more (nat_lt s.note.given (2 * length s.note.keys.items)) refl
   where
-    by_op : pending_events s.process s.note ≡ [] → (o : Option Op) → slice_get (process_program p s.process).ops s.place ≡ o
+    by_op : pending_events s.process s.note ≡ [] → (o : Option Op) → slice_get (process_program p s.process).ops s.operation ≡ o
         → is_note_off e.msg ≡ false
     by_op none None gone = absurd (none_some e (sym (over-quiet p s (none-ended p s course none (sym gone))) ∙ is))
     by_op none (Some o) some =
@@ -203,7 +203,7 @@ next-plain p s e course free is = by_more (nat_lt s.note.given (2 * length s.not
         ap is_note_off (sym (some_msg _ _ _ (next_msg s.note) e (sym (note-step p s course more).is.1 ∙ is)))
         ∙ ap is_note_off (on_next s.note (not_at_off s.note free more))
     by_more false past =
-        by_op (pending-none s.process s.note (past_of _ _ past)) (slice_get (process_program p s.process).ops s.place) refl
+        by_op (pending-none s.process s.note (past_of _ _ past)) (slice_get (process_program p s.process).ops s.operation) refl
 
 -- ---- how many pitches begin
 

@@ -271,7 +271,7 @@ pub begin-course : (p : PlanParts) (j : ℕ) (place : Place) (u : StockParts) (w
     → DrawsStand u draws s)
     → IsTimed warps time → frames_of time.nest ≡ framed levels place.origins → time.position ≡ place.position
     → IsPending note → ((k : ℕ) → pending_events k note ≡ [])
-    → InCourse p (record { process = j; made = 0; place = 0; index = 0; draws = draws; time = time; note = note })
+    → InCourse p (record { process = j; made = 0; operation = 0; index = 0; draws = draws; time = time; note = note })
 begin-course p j place u warps state lists levels draws time note fits below is ut wt lt vt st frames stands timed nest position
     pending none = record {
       fits = fits;
@@ -286,7 +286,7 @@ begin-course p j place u warps state lists levels draws time note fits below is 
       };
       stands = record {
         process = refl;
-        place = refl;
+        operation = refl;
         index = refl;
         draws = opened;
         time = record {

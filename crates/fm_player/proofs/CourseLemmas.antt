@@ -115,25 +115,25 @@ steps-most p j fits below = omega (arith, fits.steps, steps-all (plan_played p) 
 
 -- ---- operations
 
--- the operation at a place fits
-pub op-at : (t : StockParts) (size place : ℕ) (os : List Op) (k : ℕ) (o : Op) → ops_fit t size place os ≡ true → slice_get os k ≡ Some o
-    → op_fits t size (place + k) o ≡ true
-op-at t size place [] k o fits is = absurd (none_some o is)
+-- each operation fits
+pub op-at : (t : StockParts) (size first : ℕ) (os : List Op) (k : ℕ) (o : Op) → ops_fit t size first os ≡ true → slice_get os k ≡ Some o
+    → op_fits t size (first + k) o ≡ true
+op-at t size first [] k o fits is = absurd (none_some o is)
   where
     none_some : (x : Op) → None ≡ Some x → ⊥
     none_some x bad = cc
-op-at t size place (x ∷ xs) zero o fits is =
+op-at t size first (x ∷ xs) zero o fits is =
     let same : x ≡ o = some_is x o is in
-    let here : place ≡ place + 0 = omega arith in
+    let here : first ≡ first + 0 = omega arith in
     subst (λ (i : ℕ). op_fits t size i o ≡ true) here
-    (subst (λ (y : Op). op_fits t size place y ≡ true) same (both (op_fits t size place x) (ops_fit t size (place + 1) xs) fits).0)
+    (subst (λ (y : Op). op_fits t size first y ≡ true) same (both (op_fits t size first x) (ops_fit t size (first + 1) xs) fits).0)
   where
     some_is : (a b : Op) → Some a ≡ Some b → a ≡ b
     some_is a b same = cc
-op-at t size place (x ∷ xs) (suc k) o fits is =
-    let moved : place + 1 + k ≡ place + suc k = omega arith in
+op-at t size first (x ∷ xs) (suc k) o fits is =
+    let moved : first + 1 + k ≡ first + suc k = omega arith in
     subst (λ (i : ℕ). op_fits t size i o ≡ true) moved
-    (op-at t size (place + 1) xs k o (both (op_fits t size place x) (ops_fit t size (place + 1) xs) fits).1 is)
+    (op-at t size (first + 1) xs k o (both (op_fits t size first x) (ops_fit t size (first + 1) xs) fits).1 is)
 
 -- an operation of the process j fits
 pub process-op : (p : PlanParts) (j k : ℕ) (o : Op) → PartsFit p → j < length p.programs → slice_get (process_program p j).ops k ≡ Some o
@@ -163,18 +163,18 @@ step-ticks p j w fits below calm lives goes-on = at w.due refl
   where
     at : (ms : List Mark) → w.due ≡ ms → Ticks w (step (code_of p j) w)
     at (m ∷ ms) due = subst (Ticks w) (sym (ap (step_from (code_of p j) w) due)) (ticks-due w m ms calm due)
-    at [] due = found (slice_get (process_program p j).ops w.place) refl
+    at [] due = found (slice_get (process_program p j).ops w.operation) refl
       where
-        found : (o : Option Op) → slice_get (process_program p j).ops w.place ≡ o → Ticks w (step (code_of p j) w)
+        found : (o : Option Op) → slice_get (process_program p j).ops w.operation ≡ o → Ticks w (step (code_of p j) w)
         found None none =
             absurd (lives (ap (step_from (code_of p j) w) due
-            ∙ ap (λ (a : Option Action). step_at a w) (get-action p.stock (process_program p j).ops w.place
+            ∙ ap (λ (a : Option Action). step_at a w) (get-action p.stock (process_program p j).ops w.operation
             ∙ ap (option_map (action_of p.stock)) none)))
         found (Some o) is =
             let made : step (code_of p j) w ≡ step_at (Some (action_of p.stock o)) w =
             ap (step_from (code_of p j) w) due
             ∙ ap (λ (a : Option Action). step_at a w)
-            (get-action p.stock (process_program p j).ops w.place ∙ ap (option_map (action_of p.stock)) is) in
+            (get-action p.stock (process_program p j).ops w.operation ∙ ap (option_map (action_of p.stock)) is) in
             let can = op-goes (action_of p.stock o) w (λ stops. goes-on (made ∙ stops)) in
             subst (Ticks w) (sym (made ∙ can.is))
             (ticks-done (action_of p.stock o) w due)

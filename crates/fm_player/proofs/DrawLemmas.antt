@@ -22,7 +22,7 @@ use Rattle.fm_program.specs.State.{OpenFrame, counting, cycling, Standing, cycle
 
 -- a state in which draws changed registers, the generator and frames alone
 pub record Kept (w v : Standing) : Type 0 where
-  pub place : v.place ≡ w.place
+  pub operation : v.operation ≡ w.operation
   pub position : v.position ≡ w.position
   pub process : v.process ≡ w.process
   pub index : v.index ≡ w.index
@@ -30,11 +30,11 @@ pub record Kept (w v : Standing) : Type 0 where
   pub due : v.due ≡ w.due
 
 pub kept-same : (w : Standing) → Kept w w
-kept-same w = record { place = refl; position = refl; process = refl; index = refl; levels = refl; due = refl }
+kept-same w = record { operation = refl; position = refl; process = refl; index = refl; levels = refl; due = refl }
 
 pub kept-then : (u v w : Standing) → Kept u v → Kept v w → Kept u w
 kept-then u v w a b = record {
-  place = b.place ∙ a.place;
+  operation = b.operation ∙ a.operation;
   position = b.position ∙ a.position;
   process = b.process ∙ a.process;
   index = b.index ∙ a.index;
@@ -44,7 +44,7 @@ kept-then u v w a b = record {
 
 pub number-kept : (x : MessageNumber) (scope : List Slot) (w : Standing) → Kept w (number_drawn x scope w).after
 number-kept (written v) scope w = kept-same w
-number-kept (valued e) scope w = record { place = refl; position = refl; process = refl; index = refl; levels = refl; due = refl }
+number-kept (valued e) scope w = record { operation = refl; position = refl; process = refl; index = refl; levels = refl; due = refl }
 
 pub pitches-kept : (xs : List MessageNumber) (scope : List Slot) (w : Standing) → Kept w (pitches_drawn xs scope w).after
 pitches-kept [] scope w = kept-same w
@@ -53,16 +53,16 @@ pitches-kept (x ∷ xs) scope w =
 
 pub duration-kept : (d : SpanLength) (scope : List Slot) (w : Standing) → Kept w (duration_drawn d scope w).after
 duration-kept (lasting d) scope w = kept-same w
-duration-kept (valued_to e most) scope w = record { place = refl; position = refl; process = refl; index = refl; levels = refl; due = refl }
-duration-kept (cycled f) scope w = record { place = refl; position = refl; process = refl; index = refl; levels = refl; due = refl }
+duration-kept (valued_to e most) scope w = record { operation = refl; position = refl; process = refl; index = refl; levels = refl; due = refl }
+duration-kept (cycled f) scope w = record { operation = refl; position = refl; process = refl; index = refl; levels = refl; due = refl }
 
 pub turn-kept : (x : Turn) (w : Standing) → Kept w (turn_drawn x w).after
 turn-kept (turn.Steady v) w = kept-same w
-turn-kept (turn.Cycle f) w = record { place = refl; position = refl; process = refl; index = refl; levels = refl; due = refl }
+turn-kept (turn.Cycle f) w = record { operation = refl; position = refl; process = refl; index = refl; levels = refl; due = refl }
 
 pub repeats-kept : (n : Repeats) (scope : List Slot) (w : Standing) → Kept w (repeats_drawn n scope w).after
 repeats-kept (times n) scope w = kept-same w
-repeats-kept (times_to e most) scope w = record { place = refl; position = refl; process = refl; index = refl; levels = refl; due = refl }
+repeats-kept (times_to e most) scope w = record { operation = refl; position = refl; process = refl; index = refl; levels = refl; due = refl }
 
 -- ---- one key more
 

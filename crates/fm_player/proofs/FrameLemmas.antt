@@ -226,7 +226,7 @@ no_list-goes_back t l c back xs (cycling es n ∷ fs) stands goes = false_true g
 pub round-goes : (t : StockParts) (d : Draws) (s : Standing) (fs : List OpenFrame) (xs : List Frame) (i l b back : ℕ)
     → d.registers ≡ s.registers → d.dice ≡ s.dice → d.frames.items ≡ xs ++ Counting (i + 1) (l - 1) b ∷ []
     → FramesStand t (xs ++ Counting i l b ∷ []) fs → loops_back back fs ≡ true → 0 < l
-    → DrawsStand t d (round_over back s fs) × ((round_over back s fs).place ≡ back)
+    → DrawsStand t d (round_over back s fs) × ((round_over back s fs).operation ≡ back)
 round-goes t d s [] xs i l b back registers dice items stands goes more = absurd (false_true goes)
 round-goes t d s (cycling es c ∷ fs) xs i l b back registers dice items stands goes more = absurd (false_true goes)
 round-goes t d s (counting j zero b' ∷ fs) xs i l b back registers dice items stands goes more =
@@ -248,7 +248,7 @@ round-goes t d s (counting j (suc n) b' ∷ fs) xs i l b back registers dice ite
 pub round-ends : (t : StockParts) (d : Draws) (s : Standing) (fs : List OpenFrame) (xs : List Frame) (i l b back : ℕ)
     → d.registers ≡ s.registers → d.dice ≡ s.dice → d.frames.items ≡ xs
     → FramesStand t (xs ++ Counting i l b ∷ []) fs → loops_back back fs ≡ true → l ≡ 0
-    → DrawsStand t d (round_over back s fs) × ((round_over back s fs).place ≡ s.place + 1)
+    → DrawsStand t d (round_over back s fs) × ((round_over back s fs).operation ≡ s.operation + 1)
 round-ends t d s [] xs i l b back registers dice items stands goes none = absurd (false_true goes)
 round-ends t d s (cycling es c ∷ fs) xs i l b back registers dice items stands goes none = absurd (false_true goes)
 round-ends t d s (counting j (suc n) b' ∷ fs) xs i l b back registers dice items stands goes none =

@@ -138,7 +138,7 @@ own-step j code w own = at w.due refl own.due
     found (Some a) = open_or a (is_open a w)
 
     at : (ms : List Mark) → w.due ≡ ms → OwnMarks j ms → OwnStep j (step_from code w ms) w
-    at [] due marks = found (slice_get code w.place)
+    at [] due marks = found (slice_get code w.operation)
     at (m ∷ ms) due marks = (
       record { process = own.process; due = marks.2 },
       (put_out-process w.levels m ∙ marks.0, ap is_none (put_out-msg w.levels m) ∙ marks.1, tt),

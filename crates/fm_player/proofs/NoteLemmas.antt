@@ -199,7 +199,7 @@ pub note-does : (p : PlanParts) (s : Player) (w : Standing) (chord : ℕ) (span 
     → IsPending pending
     → pending ≡ record { keys = n.keys; channel = ch; velocity = n.velocity; onset = on; ending = off; first = s.index; given = 0 }
     → count ≡ length n.keys.items → length n.keys.items ≤ MAX_PITCHES
-    → Does p s (record s { place = s.place + 1; index = s.index + 2 * count; draws = d; time = time; note = pending }) w
+    → Does p s (record s { operation = s.operation + 1; index = s.index + 2 * count; draws = d; time = time; note = pending }) w
     (noted p chord span ch gate loud scope)
 note-does p s w chord span ch gate loud scope u d n time on off count pending can ut drawn frames timed levels position ison isoff ready
     is counted few =
@@ -235,10 +235,10 @@ note-does p s w chord span ch gate loud scope u d n time on off count pending ca
     let sounds = note-sounds t.warps (frames_of s.time.nest) velocity.after.levels w.process w.index w.position
     (note_end w.position lasts.value part.value) ch velocity.value on off keys.value
     (can.stands.time.levels ∙ sym kept.levels) starts ends in
-    let stands : Stands p (record s { place = s.place + 1; index = s.index + 2 * count; draws = d; time = time; note = pending }) next =
+    let stands : Stands p (record s { operation = s.operation + 1; index = s.index + 2 * count; draws = d; time = time; note = pending }) next =
     record {
       process = kept.process ∙ can.stands.process;
-      place = ap (λ k. k + 1) can.stands.place;
+      operation = ap (λ k. k + 1) can.stands.operation;
       index = (let same : s.index + 2 * count ≡ w.index + length (ons ++ offs) = omega (arith, can.stands.index, numbered) in same);
       draws = DrawsStand-same p d velocity.after next (here.after w can.stands.draws) refl refl refl;
       time = record {
@@ -259,7 +259,7 @@ note-does p s w chord span ch gate loud scope u d n time on off count pending ca
         frames = subst (λ (x : StockParts). All (IsFrame x) d.frames.items) ut frames;
         time = timed;
         note = ready;
-        few = few-held p (record s { place = s.place + 1; index = s.index + 2 * count; draws = d; time = time; note = pending }) next
+        few = few-held p (record s { operation = s.operation + 1; index = s.index + 2 * count; draws = d; time = time; note = pending }) next
             stands can.within;
       };
       stands = stands;
@@ -269,7 +269,7 @@ note-does p s w chord span ch gate loud scope u d n time on off count pending ca
 -- what a note's operation fits
 pub play-can : (p : PlanParts) (s : Player) (w : Standing) (size : ℕ) (o : Op) (chord : ℕ) (span : Span) (ch : ℕ)
     (gate loud : Turn) (scope : ℕ)
-    → CanDo p s w (action_of p.stock o) → op_fits p.stock size s.place o ≡ true → o ≡ op.Note chord span ch gate loud scope
+    → CanDo p s w (action_of p.stock o) → op_fits p.stock size s.operation o ≡ true → o ≡ op.Note chord span ch gate loud scope
     → CanDo p s w (noted p chord span ch gate loud scope)
     × ((chord < length p.stock.chords)
     × ((scope < length p.stock.scopes)
@@ -286,7 +286,7 @@ play-can p s w size o chord span ch gate loud scope can fits is =
     let c4 = span_fits t (loops_of t scope) span in
     let c5 = nat_lt ch CHANNELS in
     let c6 = turn_fits 0 MAX_PERCENT gate in
-    let here = subst (λ (x : Op). op_fits t size s.place x ≡ true) is fits in
+    let here = subst (λ (x : Op). op_fits t size s.operation x ≡ true) is fits in
     let a = both (c1 && c2 && c3 && c4 && c5 && c6) (turn_fits 1 (DATA_VALUES - 1) loud) here in
     let b = both (c1 && c2 && c3 && c4 && c5) c6 a.0 in
     let c = both (c1 && c2 && c3 && c4) c5 b.0 in

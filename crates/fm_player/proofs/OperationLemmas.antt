@@ -96,14 +96,14 @@ enter-fits p s w warp can there =
 pub enter-does : (p : PlanParts) (s : Player) (w : Standing) (warp : ℕ) (time : Timeline)
     → CanDo p s w (enter warp (parts_at p.stock warp)) → IsTimed p.stock.warps time
     → frames_of time.nest ≡ frames_of s.time.nest ++ record { warp = warp; origin = s.time.position } ∷ [] → time.position ≡ 0
-    → Does p s (record s { place = s.place + 1; time = time }) w (enter warp (parts_at p.stock warp))
+    → Does p s (record s { operation = s.operation + 1; time = time }) w (enter warp (parts_at p.stock warp))
 enter-does p s w warp time can timed frames position = record {
   process = refl;
   made = refl;
   ready = record { frames = can.ready.frames; time = timed; note = can.ready.note; few = can.ready.few };
   stands = record {
     process = can.stands.process;
-    place = ap (λ n. n + 1) can.stands.place;
+    operation = ap (λ n. n + 1) can.stands.operation;
     index = can.stands.index;
     draws = DrawsStand-same p s.draws w _ can.stands.draws refl refl refl;
     time = record {
@@ -122,7 +122,7 @@ pub leave-does : (p : PlanParts) (s : Player) (w : Standing) (time : Timeline)
     → ((outer : List Frame) (inner : Frame) → frames_of s.time.nest ≡ outer ++ inner ∷ []
     → time.position ≡ lifted Onset p.stock.warps inner s.time.position)
     → 0 < length (frames_of s.time.nest)
-    → Does p s (record s { place = s.place + 1; time = time }) w leave
+    → Does p s (record s { operation = s.operation + 1; time = time }) w leave
 leave-does p s w time can timed frames position some = record {
   process = refl;
   made = refl;
@@ -131,17 +131,17 @@ leave-does p s w time can timed frames position some = record {
   index = omega arith;
 }
   where
-    at : Innermost (frames_of s.time.nest) → Stands p (record s { place = s.place + 1; time = time }) (level_closed w w.levels)
+    at : Innermost (frames_of s.time.nest) → Stands p (record s { operation = s.operation + 1; time = time }) (level_closed w w.levels)
     at split =
         let warps = p.stock.warps in
         let levels : w.levels ≡ level_of warps split.inner ∷ levels_inside warps split.outer [] =
         sym can.stands.time.levels
         ∙ ap (λ (fs : List Frame). levels_inside warps fs []) split.is
         ∙ levels_inside-last warps split.outer split.inner [] in
-        subst (λ (ls : List OpenLevel). Stands p (record s { place = s.place + 1; time = time }) (level_closed w ls)) (sym levels)
+        subst (λ (ls : List OpenLevel). Stands p (record s { operation = s.operation + 1; time = time }) (level_closed w ls)) (sym levels)
         (record {
           process = can.stands.process;
-          place = ap (λ n. n + 1) can.stands.place;
+          operation = ap (λ n. n + 1) can.stands.operation;
           index = can.stands.index;
           draws = DrawsStand-same p s.draws w (level_closed w (level_of warps split.inner ∷ levels_inside warps split.outer []))
               can.stands.draws refl refl refl;
@@ -219,21 +219,21 @@ frames-same p s d u ready same is =
 
 loop-stands : (p : PlanParts) (s : Player) (w x : Standing) (e : Draws) (rounds k past : ℕ) → Stands p s w → Kept w x → w.due ≡ []
     → rounds ≡ k → (rounds ≡ 0 → ⊥)
-    → DrawsStand p.stock e (record x { frames = counting 0 (rounds - 1) (s.place + 1) ∷ x.frames })
-    → Stands p (record s { place = s.place + 1; draws = e }) (loop_opened k past x)
+    → DrawsStand p.stock e (record x { frames = counting 0 (rounds - 1) (s.operation + 1) ∷ x.frames })
+    → Stands p (record s { operation = s.operation + 1; draws = e }) (loop_opened k past x)
 loop-stands p s w x e rounds zero past stands kept due is some pushed = absurd (some is)
 loop-stands p s w x e rounds (suc m) past stands kept due is some pushed =
     let left : rounds - 1 ≡ m = omega arith in
-    let place : s.place + 1 ≡ x.place + 1 = omega (arith, stands.place, kept.place) in
+    let place : s.operation + 1 ≡ x.operation + 1 = omega (arith, stands.operation, kept.operation) in
     record {
       process = kept.process ∙ stands.process;
-      place = place;
+      operation = place;
       index = stands.index ∙ sym kept.index;
       draws = record {
         registers = pushed.registers;
         dice = pushed.dice;
         frames = subst (λ (n : ℕ). FramesStand p.stock e.frames.items (counting 0 m n ∷ x.frames)) place
-            (subst (λ (n : ℕ). FramesStand p.stock e.frames.items (counting 0 n (s.place + 1) ∷ x.frames)) left pushed.frames);
+            (subst (λ (n : ℕ). FramesStand p.stock e.frames.items (counting 0 n (s.operation + 1) ∷ x.frames)) left pushed.frames);
       };
       time = record {
         position = stands.time.position ∙ sym kept.position;
@@ -246,15 +246,15 @@ loop-stands p s w x e rounds (suc m) past stands kept due is some pushed =
 pub loop-does : (p : PlanParts) (s : Player) (w : Standing) (count : Count) (scope past : ℕ) (u v : StockParts) (d e : Draws) (rounds : ℕ)
     → CanDo p s w (loop (repeats_of p.stock count) (scope_at p.stock scope) past) → u ≡ p.stock → v ≡ p.stock
     → DrawsTo u s.draws d rounds (repeats_drawn (repeats_of u count) (scope_at u scope)) → (rounds ≡ 0 → ⊥)
-    → ((x : Standing) → DrawsStand v d x → DrawsStand v e (record x { frames = counting 0 (rounds - 1) (s.place + 1) ∷ x.frames }))
+    → ((x : Standing) → DrawsStand v d x → DrawsStand v e (record x { frames = counting 0 (rounds - 1) (s.operation + 1) ∷ x.frames }))
     → All (IsFrame v) e.frames.items
-    → Does p s (record s { place = s.place + 1; draws = e }) w (loop (repeats_of p.stock count) (scope_at p.stock scope) past)
+    → Does p s (record s { operation = s.operation + 1; draws = e }) w (loop (repeats_of p.stock count) (scope_at p.stock scope) past)
 loop-does p s w count scope past u v d e rounds can ut vt draws some opens frames =
     let n = repeats_drawn (repeats_of p.stock count) (scope_at p.stock scope) w in
     let drawn = subst (λ (x : StockParts). DrawsTo x s.draws d rounds (repeats_drawn (repeats_of x count) (scope_at x scope))) ut draws in
     let kept = repeats-kept (repeats_of p.stock count) (scope_at p.stock scope) w in
     let pushed =
-    subst (λ (x : StockParts). DrawsStand x e (record n.after { frames = counting 0 (rounds - 1) (s.place + 1) ∷ n.after.frames })) vt
+    subst (λ (x : StockParts). DrawsStand x e (record n.after { frames = counting 0 (rounds - 1) (s.operation + 1) ∷ n.after.frames })) vt
     (opens n.after (subst (λ (x : StockParts). DrawsStand x d n.after) (sym vt) (drawn.after w can.stands.draws))) in
     let stands = loop-stands p s w n.after e rounds n.value past can.stands kept can.due (drawn.value w can.stands.draws) some pushed in
     record {
@@ -264,7 +264,7 @@ loop-does p s w count scope past u v d e rounds can ut vt draws some opens frame
         frames = subst (λ (x : StockParts). All (IsFrame x) e.frames.items) vt frames;
         time = can.ready.time;
         note = can.ready.note;
-        few = few-held p (record s { place = s.place + 1; draws = e }) (loop_opened n.value past n.after) stands can.within;
+        few = few-held p (record s { operation = s.operation + 1; draws = e }) (loop_opened n.value past n.after) stands can.within;
       };
       stands = stands;
       index = omega arith;
@@ -272,10 +272,10 @@ loop-does p s w count scope past u v d e rounds can ut vt draws some opens frame
 
 -- where a loop of no rounds leads
 loop-passed : (p : PlanParts) (s : Player) (w x : Standing) (d : Draws) (k past : ℕ) → Stands p s w → Kept w x → w.due ≡ []
-    → k ≡ 0 → DrawsStand p.stock d x → Stands p (record s { place = past; draws = d }) (loop_opened k past x)
+    → k ≡ 0 → DrawsStand p.stock d x → Stands p (record s { operation = past; draws = d }) (loop_opened k past x)
 loop-passed p s w x d zero past stands kept due none drawn = record {
   process = kept.process ∙ stands.process;
-  place = refl;
+  operation = refl;
   index = stands.index ∙ sym kept.index;
   draws = record { registers = drawn.registers; dice = drawn.dice; frames = drawn.frames };
   time = record {
@@ -291,7 +291,7 @@ pub loop-skips : (p : PlanParts) (s : Player) (w : Standing) (count : Count) (sc
     → CanDo p s w (loop (repeats_of p.stock count) (scope_at p.stock scope) past) → u ≡ p.stock
     → DrawsTo u s.draws d rounds (repeats_drawn (repeats_of u count) (scope_at u scope)) → d.frames ≡ s.draws.frames
     → rounds ≡ 0
-    → Does p s (record s { place = past; draws = d }) w (loop (repeats_of p.stock count) (scope_at p.stock scope) past)
+    → Does p s (record s { operation = past; draws = d }) w (loop (repeats_of p.stock count) (scope_at p.stock scope) past)
 loop-skips p s w count scope past u d rounds can ut draws same none =
     let n = repeats_drawn (repeats_of p.stock count) (scope_at p.stock scope) w in
     let drawn = subst (λ (x : StockParts). DrawsTo x s.draws d rounds (repeats_drawn (repeats_of x count) (scope_at x scope))) ut draws in
@@ -305,7 +305,7 @@ loop-skips p s w count scope past u d rounds can ut draws same none =
         frames = frames-same p s d p.stock can.ready same refl;
         time = can.ready.time;
         note = can.ready.note;
-        few = few-held p (record s { place = past; draws = d }) (loop_opened n.value past n.after) stands can.within;
+        few = few-held p (record s { operation = past; draws = d }) (loop_opened n.value past n.after) stands can.within;
       };
       stands = stands;
       index = omega arith;
@@ -355,7 +355,7 @@ pub send-does : (p : PlanParts) (s : Player) (w : Standing) (pt : Point) (ch : �
     (d : Draws) (value : ℤ)
     → CanDo p s w (send pt ch (amount_of p.stock x) (scope_at p.stock scope)) → u ≡ p.stock
     → DrawsTo u s.draws d value (number_drawn (amount_of u x) (scope_at u scope)) → d.frames ≡ s.draws.frames
-    → Does p s (record s { place = s.place + 1; index = s.index + 1; draws = d }) w
+    → Does p s (record s { operation = s.operation + 1; index = s.index + 1; draws = d }) w
     (send pt ch (amount_of p.stock x) (scope_at p.stock scope))
 send-does p s w pt ch x scope u d value can ut draws frames =
     let v = number_drawn (amount_of p.stock x) (scope_at p.stock scope) w in
@@ -372,15 +372,15 @@ send-does p s w pt ch x scope u d value can ut draws frames =
       };
       stands = record {
         process = kept.process ∙ can.stands.process;
-        place = ap (λ n. n + 1) can.stands.place;
+        operation = ap (λ n. n + 1) can.stands.operation;
         index = ap (λ n. n + 1) can.stands.index;
-        draws = DrawsStand-same p d v.after (record v.after { place = w.place + 1; index = w.index + 1 }) (drawn.after w can.stands.draws)
+        draws = DrawsStand-same p d v.after (record v.after { operation = w.operation + 1; index = w.index + 1 }) (drawn.after w can.stands.draws)
             refl refl refl;
         time = record {
           position = can.stands.time.position ∙ sym kept.position;
           levels = can.stands.time.levels ∙ sym kept.levels;
         };
-        note = NoteStands-none s.process s.note w (record v.after { place = w.place + 1; index = w.index + 1 }) can.stands.note can.due
+        note = NoteStands-none s.process s.note w (record v.after { operation = w.operation + 1; index = w.index + 1 }) can.stands.note can.due
             (kept.due ∙ can.due);
       };
       index = omega arith;

@@ -105,7 +105,7 @@ ended-left p s course ended =
 
 -- the end of the program is the end of the steps
 pub none-ended : (p : PlanParts) (s : Player) → InCourse p s → pending_events s.process s.note ≡ []
-    → None ≡ slice_get (process_program p s.process).ops s.place → next_of p s ≡ over
+    → None ≡ slice_get (process_program p s.process).ops s.operation → next_of p s ≡ over
 none-ended p s course pending is = next-step p s None course pending is
 
 pub pending-sounds : (p : PlanParts) (s : Player) (t : ℕ) → InCourse p s → StartsAt t (pending_events s.process s.note)

@@ -81,17 +81,17 @@ step-sound : (p : PlanParts) (j : ℕ) (w : Standing) → Sound p.stock w → (s
     → (step (code_of p j) w ≡ stuck → ⊥) → Sound p.stock (left_by (step (code_of p j) w) w)
 step-sound p j w sound lives goes-on = at w.due refl
   where
-    found : w.due ≡ [] → (o : Option Op) → slice_get (process_program p j).ops w.place ≡ o
+    found : w.due ≡ [] → (o : Option Op) → slice_get (process_program p j).ops w.operation ≡ o
         → Sound p.stock (left_by (step (code_of p j) w) w)
     found due None none =
         absurd (lives (ap (step_from (code_of p j) w) due
-        ∙ ap (λ (a : Option Action). step_at a w) (get-action p.stock (process_program p j).ops w.place
+        ∙ ap (λ (a : Option Action). step_at a w) (get-action p.stock (process_program p j).ops w.operation
         ∙ ap (option_map (action_of p.stock)) none)))
     found due (Some o) is =
         let made : step (code_of p j) w ≡ step_at (Some (action_of p.stock o)) w =
         ap (step_from (code_of p j) w) due
         ∙ ap (λ (a : Option Action). step_at a w)
-        (get-action p.stock (process_program p j).ops w.place ∙ ap (option_map (action_of p.stock)) is) in
+        (get-action p.stock (process_program p j).ops w.operation ∙ ap (option_map (action_of p.stock)) is) in
         let can = op-goes (action_of p.stock o) w (λ bad. goes-on (made ∙ bad)) in
         subst (λ (x : Stepped). Sound p.stock (left_by x w)) (sym (made ∙ can.is))
         (let held = held_of (left_by (done (action_of p.stock o) w) w) can.within in
@@ -101,7 +101,7 @@ step-sound p j w sound lives goes-on = at w.due refl
     at (m ∷ ms) due =
         subst (λ (x : Stepped). Sound p.stock (left_by x w)) (sym (ap (step_from (code_of p j) w) due))
         (record { of = sound.of; few = sound.few; hold = sound.hold })
-    at [] due = found due (slice_get (process_program p j).ops w.place) refl
+    at [] due = found due (slice_get (process_program p j).ops w.operation) refl
 
 -- a process that starts in a sound state stays sound
 pub sound-standing : (p : PlanParts) (j n : ℕ) → PartsFit p → j < length p.programs → n ≤ steps_of p j → Sound p.stock (begun p j)
@@ -174,14 +174,14 @@ reopened t (l ∷ ls) is =
 
 -- the end of one of the processes is where they meet
 pub record Latest (played : List Played) (js : List ℕ) : Type 0 where
-  pub place : ℕ
-  pub within : place < length js
-  pub is : start_spot played js ≡ end_spot played (slice_index_or js place 0)
+  pub at : ℕ
+  pub within : at < length js
+  pub is : start_spot played js ≡ end_spot played (slice_index_or js at 0)
 
 latest : (played : List Played) (js : List ℕ) → 0 < length js → Latest played js
 latest played [] some = absurd (omega arith)
 latest played (j ∷ []) some = record {
-  place = 0;
+  at = 0;
   within = omega arith;
   is = ap (λ (b : Bool). if b then start_spot played [] else end_spot played j) (never (end_spot played j).position);
 }
@@ -194,12 +194,12 @@ latest played (j ∷ k ∷ ks) some = at (nat_lt (end_spot played j).position (s
     at : (b : Bool) → nat_lt (end_spot played j).position (start_spot played (k ∷ ks)).position ≡ b → Latest played (k ∷ ks)
         → Latest played (j ∷ k ∷ ks)
     at true is later = record {
-      place = suc later.place;
+      at = suc later.at;
       within = omega (arith, later.within);
       is = ap (λ (b : Bool). if b then start_spot played (k ∷ ks) else end_spot played j) is ∙ later.is;
     }
     at false is later = record {
-      place = 0;
+      at = 0;
       within = omega arith;
       is = ap (λ (b : Bool). if b then start_spot played (k ∷ ks) else end_spot played j) is;
     }
@@ -260,12 +260,12 @@ starts-as p j fits below more =
     let w = waits p j fits below in
     let ws = (process_program p j).predecessors in
     let l = latest (plan_played p) ws (w.some more) in
-    let q = slice_index_or ws l.place 0 in
-    let ends = list_all-at (λ q. ends_in (process_program p j).levels (process_run p j).start.origins (process_run p q)) ws l.place 0
+    let q = slice_index_or ws l.at 0 in
+    let ends = list_all-at (λ q. ends_in (process_program p j).levels (process_run p j).start.origins (process_run p q)) ws l.at 0
     w.ends l.within in
     record {
       before = q;
-      less = below_of q j (list_all-at (λ q. nat_lt q j) ws l.place 0 w.below l.within);
+      less = below_of q j (list_all-at (λ q. nat_lt q j) ws l.at 0 w.below l.within);
       start = (process-as p j below).start w.below ∙ l.is;
       warps = same-of _ _ (both (same_numbers (reverse (map (λ l. l.warp) (process_run p q).run.last.levels)) (process_program p j).levels)
           (same_numbers (spot_reached (process_run p q).run.last).origins (process_run p j).start.origins) ends).0;

@@ -145,7 +145,7 @@ step-due p s note e course pending is = makes-step p s (record s { note = note; 
     (subst (λ (x : Run.Stepped). Stands p (record s { note = note; made = s.made + 1 }) (left_by x (now_of p s))) (sym next)
     (record {
       process = course.stands.process;
-      place = course.stands.place;
+      operation = course.stands.operation;
       index = course.stands.index;
       draws = record {
         registers = course.stands.draws.registers;
@@ -168,13 +168,13 @@ step-due p s note e course pending is = makes-step p s (record s { note = note; 
 
 -- what the program does next, where nothing is pending
 pub next-step : (p : PlanParts) (s : Player) (o : Option Op) → InCourse p s → pending_events s.process s.note ≡ []
-    → o ≡ slice_get (process_program p s.process).ops s.place
+    → o ≡ slice_get (process_program p s.process).ops s.operation
     → next_of p s ≡ step_at (option_map (action_of p.stock) o) (now_of p s)
 next-step p s o course pending is =
     ap (step_from (code_of p s.process) (now_of p s)) (none-due s (now_of p s) course.stands.note pending)
     ∙ ap (λ (a : Option Action). step_at a (now_of p s))
-    (get-action p.stock (process_program p s.process).ops (now_of p s).place
-    ∙ ap (λ (k : ℕ). option_map (action_of p.stock) (slice_get (process_program p s.process).ops k)) (sym course.stands.place)
+    (get-action p.stock (process_program p s.process).ops (now_of p s).operation
+    ∙ ap (λ (k : ℕ). option_map (action_of p.stock) (slice_get (process_program p s.process).ops k)) (sym course.stands.operation)
     ∙ ap (option_map (action_of p.stock)) (sym is))
 
 -- the end of the program
@@ -194,12 +194,12 @@ step-ended p s course ended = record {
 -- the operation can be done
 pub record OpCan (p : PlanParts) (s : Player) (o : Op) : Type 0 where
   pub can : CanDo p s (now_of p s) (action_of p.stock o)
-  pub fits : op_fits p.stock (length (process_program p s.process).ops) s.place o ≡ true
+  pub fits : op_fits p.stock (length (process_program p s.process).ops) s.operation o ≡ true
   pub lives : next_of p s ≡ over → ⊥
   pub is : next_of p s ≡ done (action_of p.stock o) (now_of p s)
 
 pub step-can : (p : PlanParts) (s : Player) (o : Op) → InCourse p s → pending_events s.process s.note ≡ []
-    → Some o ≡ slice_get (process_program p s.process).ops s.place → s.place + 1 < 2 ^ 64 → OpCan p s o
+    → Some o ≡ slice_get (process_program p s.process).ops s.operation → s.operation + 1 < 2 ^ 64 → OpCan p s o
 step-can p s o course pending is place = record {
   can = record {
     fits = course.fits;
@@ -209,9 +209,9 @@ step-can p s o course pending is place = record {
     opened = can.opened;
     within = can.within;
     index = omega (arith, course.index, course.within, steps-most p s.process course.fits course.process);
-    place = place;
+    operation = place;
   };
-  fits = process-op p s.process s.place o course.fits course.process (sym is);
+  fits = process-op p s.process s.operation o course.fits course.process (sym is);
   lives = lives;
   is = next ∙ can.is;
 }
@@ -228,7 +228,7 @@ step-can p s o course pending is place = record {
 
 -- what the program does is the operation
 pub op-next : (p : PlanParts) (s : Player) (o : Op) → InCourse p s → pending_events s.process s.note ≡ []
-    → Some o ≡ slice_get (process_program p s.process).ops s.place → next_of p s ≡ done (action_of p.stock o) (now_of p s)
+    → Some o ≡ slice_get (process_program p s.process).ops s.operation → next_of p s ≡ done (action_of p.stock o) (now_of p s)
 op-next p s o course pending is = next ∙ can.is
   where
     next : next_of p s ≡ step_at (Some (action_of p.stock o)) (now_of p s)
@@ -243,7 +243,7 @@ op-next p s o course pending is = next ∙ can.is
 
 -- where an operation is there, the program is not at its end
 pub op-lives : (p : PlanParts) (s : Player) (o : Op) → InCourse p s → pending_events s.process s.note ≡ []
-    → Some o ≡ slice_get (process_program p s.process).ops s.place → next_of p s ≡ over → ⊥
+    → Some o ≡ slice_get (process_program p s.process).ops s.operation → next_of p s ≡ over → ⊥
 op-lives p s o course pending is = λ bad.
     step_at_over (action_of p.stock o) (now_of p s) (sym (next-step p s (Some o) course pending is) ∙ bad)
 
@@ -257,7 +257,7 @@ step-done p s mid o result course can does answers =
     (subst (λ (x : Run.Stepped). Stands p (record mid { made = mid.made + 1 }) (left_by x (now_of p s))) (sym can.is)
     (record {
       process = does.stands.process;
-      place = does.stands.place;
+      operation = does.stands.operation;
       index = does.stands.index;
       draws = does.stands.draws;
       time = does.stands.time;

@@ -31,7 +31,7 @@ use Rattle.fm_player.specs.Sounding.{IsPending, NoteStands}
 -- the fields are those of a state
 pub record Stands (p : PlanParts) (s : Player) (w : Standing) : Type 0 where
   pub process : w.process ≡ s.process
-  pub place : s.place ≡ w.place
+  pub operation : s.operation ≡ w.operation
   pub index : s.index ≡ w.index
   pub draws : DrawsStand p.stock s.draws w
   pub time : TimeStands p.stock.warps s.time w
@@ -72,7 +72,7 @@ pub record CanDo (p : PlanParts) (s : Player) (w : Standing) (a : Action) : Type
   pub opened : is_open a w ≡ true
   pub within : holds (left_by (done a w) w) ≡ true
   pub index : s.index ≤ 2 ^ 30
-  pub place : s.place + 1 < 2 ^ 64
+  pub operation : s.operation + 1 < 2 ^ 64
 
 -- the operation is done
 pub record Does (p : PlanParts) (old new : Player) (w : Standing) (a : Action) : Type 0 where

@@ -325,9 +325,9 @@ impl Draws {
         ensures stands { (s : Standing) (back : ℕ) → DrawsStand (stock_parts stock.now) self.old s
             → loops_back back s.frames ≡ true
             → DrawsStand (stock_parts stock.now) self.new (round_over back s s.frames) }
-        ensures place { (s : Standing) (back : ℕ) → DrawsStand (stock_parts stock.now) self.old s
+        ensures operation { (s : Standing) (back : ℕ) → DrawsStand (stock_parts stock.now) self.old s
             → loops_back back s.frames ≡ true
-            → (round_over back s s.frames).place ≡ if result then back else s.place + 1 }
+            → (round_over back s s.frames).operation ≡ if result then back else s.operation + 1 }
         ensures frames { All (IsFrame (stock_parts stock.now)) self.new.frames.items }
     {
         match self.frames.pop() {
@@ -355,9 +355,9 @@ fn shown_index(frames: &[Frame], stock: &Stock, frame: u32) -> u32
     ensures index { (fs : List OpenFrame) → FramesStand (stock_parts stock.now) frames.now fs
         → result ≡ index_at frame fs }
 {
-    let place = frame as usize;
-    if place < frames.len() {
-        frames[place].index(stock)
+    let at = frame as usize;
+    if at < frames.len() {
+        frames[at].index(stock)
     } else {
         0
     }
@@ -373,9 +373,9 @@ fn next_entry(frames: &mut [Frame], stock: &Stock, frame: u32) -> u32
     ensures moved { (fs : List OpenFrame) → FramesStand (stock_parts stock.now) frames.old fs
         → FramesStand (stock_parts stock.now) frames.new (cycle_moved frame fs) }
 {
-    let place = frame as usize;
-    if place < frames.len() {
-        frames[place].next(stock)
+    let at = frame as usize;
+    if at < frames.len() {
+        frames[at].next(stock)
     } else {
         0
     }

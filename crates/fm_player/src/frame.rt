@@ -11,9 +11,9 @@ use fm_program::Stock;
 /// An open loop or an open list.
 #[derive(Drop)]
 pub(crate) enum Frame {
-    /// A loop: its index, how many rounds follow, and the place at which its body begins.
+    /// A loop: its index, how many rounds follow, and the operation at which its body begins.
     Counting { index: u32, left: u32, back: usize },
-    /// A list of the stock, with the place of the entry that comes next.
+    /// A list of the stock, with the entry that comes next.
     Cycling { list: u32, cursor: Cursor },
 }
 

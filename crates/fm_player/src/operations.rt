@@ -23,12 +23,12 @@ use fm_pattern::end_of;
 use fm_program::{Count, Draw, Op, Plan, Point, Span, Turn};
 
 impl Player {
-    /// Does the operation at the place in the program.
+    /// Does the operation that comes next.
     pub(crate) fn operate(&mut self, plan: &Plan, op: Op) -> Stepped
         ghost state: { Standing }
         requires can { CanDo plan.now self.old state (action_of plan.now.stock op) }
         requires op { let size = length (process_program plan.now self.old.process).ops in
-            op_fits plan.now.stock size self.old.place op ≡ true }
+            op_fits plan.now.stock size self.old.operation op ≡ true }
         ensures does { Does plan.now self.old self.new state (action_of plan.now.stock op) }
         ensures note { (self.new.note ≡ self.old.note) ⊎ (self.new.note.given ≡ 0) }
         ensures answer { Answers (done (action_of plan.now.stock op) state) result }
@@ -136,7 +136,7 @@ impl Player {
         let events = 2 * note.keys.len() as u32;
         self.note = Pending::note(note.keys, channel, velocity, onset, ending, self.index);
         self.index += events;
-        self.place += 1;
+        self.operation += 1;
     }
 
     fn rest(&mut self, plan: &Plan, span: Span, scope: u32)
@@ -152,7 +152,7 @@ impl Player {
     {
         let ticks = self.draws.duration(plan.stock(), span, scope);
         self.time.advance(plan.warps(), ticks);
-        self.place += 1;
+        self.operation += 1;
     }
 
     // A message at the present position.
@@ -177,7 +177,7 @@ impl Player {
         let value = self.draws.number(plan.stock(), draw, scope);
         let index = self.index;
         self.index += 1;
-        self.place += 1;
+        self.operation += 1;
         Event::new(
             self.time.tick(),
             self.process,
@@ -200,7 +200,7 @@ impl Player {
         ensures note { self.new.note ≡ self.old.note }
     {
         self.draws.set(plan.stock(), register, expr, scope);
-        self.place += 1;
+        self.operation += 1;
     }
 
     fn test(&mut self, plan: &Plan, expr: u32, scope: u32, past: u32)
@@ -215,8 +215,8 @@ impl Player {
         ensures note { self.new.note ≡ self.old.note }
     {
         let value = self.draws.value(plan.stock(), expr, scope);
-        self.place = if value > 0 {
-            self.place + 1
+        self.operation = if value > 0 {
+            self.operation + 1
         } else {
             past as usize
         };
@@ -228,7 +228,7 @@ impl Player {
         ensures does { Does plan.now self.old self.new state (action.jump target) }
         ensures note { self.new.note ≡ self.old.note }
     {
-        self.place = target as usize;
+        self.operation = target as usize;
     }
 
     fn open_loop(&mut self, plan: &Plan, count: Count, scope: u32, past: u32)
@@ -245,10 +245,11 @@ impl Player {
     {
         let rounds = self.draws.count(plan.stock(), count, scope);
         if rounds == 0 {
-            self.place = past as usize;
+            self.operation = past as usize;
         } else {
-            self.place += 1;
-            self.draws.open_loop(plan.stock(), rounds - 1, self.place);
+            self.operation += 1;
+            self.draws
+                .open_loop(plan.stock(), rounds - 1, self.operation);
         }
     }
 
@@ -259,10 +260,10 @@ impl Player {
         ensures note { self.new.note ≡ self.old.note }
     {
         let goes_round = self.draws.goes_round(plan.stock());
-        self.place = if goes_round {
+        self.operation = if goes_round {
             back as usize
         } else {
-            self.place + 1
+            self.operation + 1
         };
     }
 
@@ -275,7 +276,7 @@ impl Player {
         ensures note { self.new.note ≡ self.old.note }
     {
         self.draws.open_list(plan.stock(), list);
-        self.place += 1;
+        self.operation += 1;
     }
 
     fn close(&mut self, plan: &Plan)
@@ -285,7 +286,7 @@ impl Player {
         ensures note { self.new.note ≡ self.old.note }
     {
         self.draws.close(plan.stock());
-        self.place += 1;
+        self.operation += 1;
     }
 
     fn enter(&mut self, plan: &Plan, warp: u32)
@@ -298,7 +299,7 @@ impl Player {
         ensures note { self.new.note ≡ self.old.note }
     {
         self.time.enter(plan.warps(), warp);
-        self.place += 1;
+        self.operation += 1;
     }
 
     fn leave(&mut self, plan: &Plan)
@@ -308,7 +309,7 @@ impl Player {
         ensures note { self.new.note ≡ self.old.note }
     {
         self.time.leave(plan.warps());
-        self.place += 1;
+        self.operation += 1;
     }
 }
 

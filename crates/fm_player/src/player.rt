@@ -26,8 +26,8 @@ pub struct Player {
     pub(crate) process: u32,
     /// How many steps were made.
     pub(crate) made: u32,
-    /// The place in the program.
-    pub(crate) place: usize,
+    /// The operation of the program that comes next.
+    pub(crate) operation: usize,
     /// The number of the next event.
     pub(crate) index: u32,
     pub(crate) draws: Draws,
@@ -57,7 +57,7 @@ impl Player {
         Player {
             process,
             made: 0,
-            place: 0,
+            operation: 0,
             index: 0,
             draws: Draws::new(plan.stock(), state, program.cycles.as_slice()),
             time: Timeline::new(plan.warps(), program.levels.as_slice(), place),
@@ -142,16 +142,16 @@ impl Player {
         Some(off)
     }
 
-    // The operation at the place in the program.
+    // The operation that comes next.
     fn next_op(&self, plan: &Plan) -> Option<Op>
         requires { self.now.process < length plan.now.programs }
         ensures op { result
-            ≡ slice_get (process_program plan.now self.now.process).ops self.now.place }
-        ensures small { IfSome result (λ _. self.now.place + 1 < 2 ^ 64) }
+            ≡ slice_get (process_program plan.now self.now.process).ops self.now.operation }
+        ensures small { IfSome result (λ _. self.now.operation + 1 < 2 ^ 64) }
     {
         let ops = plan.program(self.process).ops.as_slice();
-        if self.place < ops.len() {
-            Some(ops[self.place])
+        if self.operation < ops.len() {
+            Some(ops[self.operation])
         } else {
             None
         }

@@ -1,4 +1,4 @@
--- Worked files, byte by byte: what is read of them, or the first fault and its place.
+-- Worked files, byte by byte: what is read of them, or the first fault and its position.
 use Rattle.std.proofs.Common.{◌≡◌, ℕ, List, [], ◌∷◌, ◌++◌, Some, None, Ok, refl, take, map}
 use Rattle.fm_read.specs.declared.fault.ReadKind.TheVariants.{Truncated, FormatTwo, NoEnd}
 use Rattle.fm_read.specs.Reading.{Pair, quantity_from, read_quantity, past_data, past_message, past_text, past_meta, read_channel, read_event, read_entry}
@@ -6,7 +6,7 @@ use Rattle.fm_msg.specs.declared.msg.Msg.TheVariants.{On, Off}
 use Rattle.fm_read.specs.Tracks.{entries, entries_from}
 use Rattle.fm_read.specs.Decoded.{message_from, decoded}
 use Rattle.fm_read.specs.Written.{messages, time_after}
-use Rattle.fm_read.specs.Files.{tracks, read_chunk, chunk_fault, chunks_from, contents, place}
+use Rattle.fm_read.specs.Files.{tracks, read_chunk, chunk_fault, chunks_from, contents, position}
 
 -- the bytes before a track's length
 abbrev head : List ℕ
@@ -69,19 +69,19 @@ unfolding message_from
 note_is_decoded = refl
 
 -- without its last byte
-cut_file : place (take 41 note_file) (contents (take 41 note_file)) ≡ Some (Truncated, 41)
+cut_file : position (take 41 note_file) (contents (take 41 note_file)) ≡ Some (Truncated, 41)
 unfolding contents chunks_from read_chunk chunk_fault entries_from read_entry read_event read_channel
     past_meta past_text past_message past_data read_quantity quantity_from
 cut_file = refl
 
 -- a track of length 0
-empty_track : place (head ++ 0 ∷ 0 ∷ 0 ∷ 0 ∷ []) (contents (head ++ 0 ∷ 0 ∷ 0 ∷ 0 ∷ [])) ≡ Some (NoEnd, 22)
+empty_track : position (head ++ 0 ∷ 0 ∷ 0 ∷ 0 ∷ []) (contents (head ++ 0 ∷ 0 ∷ 0 ∷ 0 ∷ [])) ≡ Some (NoEnd, 22)
 unfolding contents chunks_from read_chunk chunk_fault entries_from read_entry read_event read_channel
     past_meta past_text past_message past_data read_quantity quantity_from
 empty_track = refl
 
 -- format 2
-second_format : place (take 9 note_file ++ 2 ∷ []) (contents (take 9 note_file ++ 2 ∷ [])) ≡ Some (FormatTwo, 8)
+second_format : position (take 9 note_file ++ 2 ∷ []) (contents (take 9 note_file ++ 2 ∷ [])) ≡ Some (FormatTwo, 8)
 unfolding contents chunks_from read_chunk chunk_fault entries_from read_entry read_event read_channel
     past_meta past_text past_message past_data read_quantity quantity_from
 second_format = refl

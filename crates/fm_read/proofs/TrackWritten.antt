@@ -147,7 +147,7 @@ no_filler writes None ticks m some = refl
 no_filler writes (Some s) ticks m some =
     let more : nat_eq (filler_count ticks) 0 ≡ false = grind (arith, nat_tests) in not_last writes (nat_eq s (status_of m)) _ more
 
--- an event at the place where a filler may stand before it
+-- an event at the position where a filler may stand before it
 shown_is_read : (short : Bool) (running : Option ℕ) (m : Msg) (rest : List ℕ) → is_in_range m ≡ true →
     (short ≡ true → running ≡ Some (status_of m)) →
     read_event running (drop (cond short 1 0) (message_bytes m) ++ rest) ≡ Ok (status_of m, rest)

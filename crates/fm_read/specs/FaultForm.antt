@@ -1,4 +1,4 @@
--- The faults of a track in the format's own words, apart from any reader: what stands at the place of each.
+-- The faults of a track in the format's own words, apart from any reader: what stands at the position of each.
 use Rattle.std.specs.Prelude.{◌≡◌, ◌≢◌, ◌⊎◌, ℕ, ◌<◌, ◌≤◌, false, List, [], ◌∷◌, ◌++◌, length, Option, Some, None}
 use Rattle.fm_read.specs.declared.fault.ReadKind.{ReadKind}
 use Rattle.fm_read.specs.declared.fault.ReadKind.TheVariants.{Truncated, BadQuantity, BadStatus, BadData, NoStatus, NoEnd, AfterEnd}
@@ -37,7 +37,7 @@ pub data BadByte (running : Option ℕ) (before : List ℕ) (byte : ℕ) (kind :
   no_status : (delta : ℕ) → Spells before delta → byte < 128 → running ≡ None → kind ≡ NoStatus →
       BadByte running before byte kind
 
--- the place is the end of the bytes, and they end too early
+-- the position is the end of the bytes, and they end too early
 abbrev pub cut_stop : Stop
 cut_stop = record { kind = Truncated; left = 0 }
 

@@ -1,4 +1,4 @@
--- The faults of a file in the format's own words, apart from any reader: what stands at the place of each.
+-- The faults of a file in the format's own words, apart from any reader: what stands at the position of each.
 use Rattle.std.specs.Prelude.{◌≡◌, ℕ, ◌+◌, ◌-◌, ◌<◌, ◌≤◌, true, false, codes, List, [], ◌++◌, length, None}
 use Rattle.fm_read.specs.declared.fault.ReadKind.TheVariants.{Wrapped, NotMidi, ShortHeader, FormatTwo, BadFormat, Smpte, NoTrack}
 use Rattle.fm_read.specs.declared.fault.Stop.{Stop}

@@ -1,4 +1,4 @@
--- A whole file: its header and its chunks. The first fault has the least place.
+-- A whole file: its header and its chunks. The first fault has the least position.
 use Rattle.std.specs.Prelude.{ℕ, zero, suc, ◌+◌, ◌-◌, Bool, true, false, not, ◌&&◌, ◌||◌, nat_lt, nat_le, ◌==◌, if◌then◌else◌}
 use Rattle.std.specs.Prelude.{List, [], ◌∷◌, codes, length, take, drop, Option, Some, None, Ok, Err}
 use Rattle.std.specs.Int.{w32, w16, from_be_bytes}
@@ -101,7 +101,7 @@ abbrev pub tracked : Read (List Part) → Read Bool
 tracked (Ok ps) = Ok (any_track ps)
 tracked (Err s) = Err s
 
--- the faults of a header chunk in the order of their places: a field counts where all its bytes are there
+-- the faults of a header chunk in the order of their positions: a field counts where all its bytes are there
 abbrev pub header_fault : List ℕ → Option Stop
 header_fault bytes =
     if has_kind (codes "RIFF") bytes then Some (record { kind = Wrapped; left = length bytes })
@@ -145,7 +145,7 @@ contents bytes =
       parts = parts;
     }))
 
--- the place of a fault in a file
-abbrev pub place : List ℕ → Read Contents → Option (ReadKind × ℕ)
-place bytes (Ok c) = None
-place bytes (Err s) = Some (s.kind, length bytes - s.left)
+-- the position of a fault in a file
+abbrev pub position : List ℕ → Read Contents → Option (ReadKind × ℕ)
+position bytes (Ok c) = None
+position bytes (Err s) = Some (s.kind, length bytes - s.left)

@@ -5,7 +5,7 @@ use Rattle.fm_read.specs.declared.fault.ReadKind.{ReadKind}
 use Rattle.fm_read.specs.declared.fault.ReadKind.TheVariants.{Truncated, BadQuantity, BadStatus, BadData, NoStatus}
 use Rattle.fm_read.specs.declared.fault.Stop.{Stop}
 
--- what a reader answers: a value, or the first fault with the number of bytes from its place on
+-- what a reader answers: a value, or the first fault with the number of bytes from its position on
 abbrev pub Read : Type 0 → Type 0
 Read A = Result A Stop
 
@@ -13,7 +13,7 @@ Read A = Result A Stop
 abbrev pub stop : {A : Type 0} → ReadKind → ℕ → Read A
 stop kind left = Err (record { kind = kind; left = left })
 
--- the bytes end too early: the place is their end
+-- the bytes end too early: the position is their end
 abbrev pub cut : {A : Type 0} → Read A
 cut = stop Truncated 0
 

@@ -5,7 +5,7 @@ ghost use Rattle.fm_read.specs.Fault.{kind_number, kind_text};
 use std::fmt;
 use thiserror::Error;
 
-/// What is wrong at a place of a file.
+/// What is wrong at a position of a file.
 #[derive(Clone, Copy, Debug, PartialEq, Eq, Drop)]
 pub enum ReadKind {
     /// The bytes begin with `RIFF`.
@@ -85,7 +85,7 @@ impl fmt::Display for ReadKind {
     }
 }
 
-/// The first fault of some bytes, and how many of them are left from its place on.
+/// The first fault of some bytes, and how many of them are left from its position on.
 #[derive(Clone, Copy, Debug, PartialEq, Eq)]
 pub struct Stop {
     pub kind: ReadKind,
@@ -98,10 +98,10 @@ pub const CUT: Stop = Stop {
     left: 0,
 };
 
-/// Why bytes are no file: the first fault, and its place in bytes from the start, from 0.
+/// Why bytes are no file: the first fault, and its position in bytes from the start, from 0.
 #[derive(Clone, Copy, Debug, PartialEq, Eq, Error)]
-#[error("byte {place}: {kind}")]
+#[error("byte {position}: {kind}")]
 pub struct ReadFault {
     pub kind: ReadKind,
-    pub place: u32,
+    pub position: u32,
 }

@@ -1,7 +1,7 @@
 //! A whole file.
 ghost use Rattle.std.specs.Prelude.{◌≡◌, ◌<◌, ◌≤◌, length, Some, Ok, Err, slice_get};
 ghost use Rattle.std.specs.Prelude.{IfSome, IfNone, IfOk, IfErr, OnOk};
-ghost use Rattle.fm_read.specs.Files.{chunks, tracks, contents, place};
+ghost use Rattle.fm_read.specs.Files.{chunks, tracks, contents, position};
 ghost use Rattle.fm_read.specs.Files.{header_fault, header_of, behind_header};
 ghost use Rattle.fm_read.specs.Tracks.{IsRead};
 ghost use Rattle.fm_read.specs.Kept.{HasHeader, contents_of, bytes_of};
@@ -203,19 +203,19 @@ fn open(bytes: &[u8]) -> File<'_>
     }
 }
 
-/// The file that the bytes are, or why they are none: the first fault and its place. The fault
-/// is the one with the least place, and at one place the one with the lowest number.
+/// The file that the bytes are, or why they are none: the first fault and its position. The fault
+/// is the one with the least position, and at one position the one with the lowest number.
 pub fn read(bytes: &[u8]) -> Result<File<'_>, ReadFault>
     requires { length bytes.now ≤ MAX_FILE }
     ensures ok { IfOk result (λ f. contents bytes.now ≡ Ok f) }
     ensures err { IfErr result
-        (λ e. place bytes.now (contents bytes.now) ≡ Some (e.kind, e.place)) }
+        (λ e. position bytes.now (contents bytes.now) ≡ Some (e.kind, e.position)) }
 {
     match judge(bytes) {
         Ok(()) => Ok(open(bytes)),
         Err(stop) => Err(ReadFault {
             kind: stop.kind,
-            place: (bytes.len() - stop.left) as u32,
+            position: (bytes.len() - stop.left) as u32,
         }),
     }
 }

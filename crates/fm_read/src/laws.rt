@@ -29,7 +29,7 @@ pub fn entries_are_few()
 {}
 
 /// A body is no track exactly where one of its faults is there, in the words of the format: at
-/// the place of the fault the bytes end too early, or stands a byte that can't stand there.
+/// the position of the fault the bytes end too early, or stands a byte that can't stand there.
 pub fn track_faults_have_their_form()
     ensures form { (running : Option ℕ) (body : List ℕ) (s : Halt)
         → entries running body ≡ Err s → NoBody running body s }

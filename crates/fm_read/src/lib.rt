@@ -1,5 +1,5 @@
 //! A reader of Standard MIDI Files with borrowed parts. `read` gives a `File`, or the first fault
-//! of the bytes and its place; a `File` gives its chunks, and the entries of each track as an
+//! of the bytes and its position; a `File` gives its chunks, and the entries of each track as an
 //! iterator. `read` is Ok exactly where the bytes are a file, as `specs/Files` reads them from
 //! left to right and `specs/FileForm` says in the format's own words. No call takes memory.
 #![tactic(auto)]

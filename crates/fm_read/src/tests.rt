@@ -21,7 +21,7 @@ const ENTRIES: &[(u32, u8, &[u8], &[u8])] = &[
     (48, 0xFF, &[0x30], &[0xFF, 0x2F, 0]),
 ];
 
-/// Bytes with the number of their fault and its place.
+/// Bytes with the number of their fault and its position.
 const FAULTS: &[(&[u8], (u8, u32))] = &[
     (b"RIFF", (21, 0)),
     (b"", (22, 0)),
@@ -113,14 +113,14 @@ fn end_of(track: Track<'_>) -> u64
     now
 }
 
-// The number of the first fault and its place, or zeros.
+// The number of the first fault and its position, or zeros.
 fn fault_of(bytes: &[u8]) -> (u8, u32) {
     if bytes.len() > MAX_FILE {
         return (35, 0);
     }
     match read(bytes) {
         Ok(_) => (0, 0),
-        Err(fault) => (fault.kind.number(), fault.place),
+        Err(fault) => (fault.kind.number(), fault.position),
     }
 }
 

@@ -27,7 +27,7 @@ has_magic bytes =
     nat_eq (byte_at bytes 0) 70
     && (nat_eq (byte_at bytes 1) 77 && (nat_eq (byte_at bytes 2) 82 && nat_eq (byte_at bytes 3) 49))
 
--- the place of the first field that is not whole or passes its limits; a byte that is not there is read as 0
+-- the position of the first field that is not whole or passes its limits; a byte that is not there is read as 0
 abbrev pub bad_field : List ℕ → Option ℕ
 bad_field bytes =
     if not (has_magic bytes) then Some 0

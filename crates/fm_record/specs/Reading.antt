@@ -4,19 +4,19 @@ use Rattle.std.specs.Option.{option_map}
 use Rattle.fm_core.specs.declared.step.Step.{Step}
 use Rattle.fm_core.specs.declared.step.Step.TheVariants.{Look, Claim, Start, Record, Recall, Give, Publish, Pace, Release}
 
--- the byte at a place
+-- the byte at a position
 abbrev pub byte_at : List ℕ → ℕ → ℕ
 byte_at bytes i = slice_index_or bytes i 0
 
--- the number in the two bytes from a place on
+-- the number in the two bytes from a position on
 abbrev pub two_at : List ℕ → ℕ → ℕ
 two_at bytes i = byte_at bytes i * 256 + byte_at bytes (i + 1)
 
--- the number in the four bytes from a place on
+-- the number in the four bytes from a position on
 abbrev pub four_at : List ℕ → ℕ → ℕ
 four_at bytes i = two_at bytes i * 65536 + two_at bytes (i + 2)
 
--- the number in the six bytes from a place on
+-- the number in the six bytes from a position on
 abbrev pub six_at : List ℕ → ℕ → ℕ
 six_at bytes i = two_at bytes i * 4294967296 + four_at bytes (i + 2)
 

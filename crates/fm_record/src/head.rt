@@ -28,11 +28,11 @@ pub struct Reel<'a> {
 
 /// The first field of a record that is not whole or passes its limits.
 #[derive(Clone, Copy, Debug, PartialEq, Eq, Drop, Error)]
-#[error("byte {place}: no record of a run begins like this")]
+#[error("byte {position}: no record of a run begins like this")]
 pub struct BadHeader {
-    /// The place of its first byte: 0 of the magic bytes, 4 of the seats, 5 of the room, 6 of the
+    /// The position of its first byte: 0 of the magic bytes, 4 of the seats, 5 of the room, 6 of the
     /// lead, 10 of the text's length.
-    pub place: u32,
+    pub position: u32,
 }
 
 /// The parts of a record of at most 67,108,864 bytes, or its first field that cannot stand.
@@ -42,10 +42,10 @@ pub fn header<'a>(bytes: &'a [u8]) -> Result<Reel<'a>, BadHeader>
         (λ reel. AreParts reel.seats reel.room reel.lead reel.text.now reel.steps.now) }
     ensures parts { IfOk result (λ reel. bytes.now
         ≡ head_bytes reel.seats reel.room reel.lead reel.text.now ++ reel.steps.now) }
-    ensures bad { IfErr result (λ fault. bad_field bytes.now ≡ Some fault.place) }
+    ensures bad { IfErr result (λ fault. bad_field bytes.now ≡ Some fault.position) }
 {
-    if let Some(place) = bad_field(bytes) {
-        return Err(BadHeader { place });
+    if let Some(position) = bad_field(bytes) {
+        return Err(BadHeader { position });
     }
     let end = 14 + four_at(bytes, 10) as usize;
     Ok(Reel {
@@ -57,7 +57,7 @@ pub fn header<'a>(bytes: &'a [u8]) -> Result<Reel<'a>, BadHeader>
     })
 }
 
-// The place of the first field that cannot stand.
+// The position of the first field that cannot stand.
 fn bad_field(bytes: &[u8]) -> Option<u32>
     requires { length bytes.now ≤ MAX_RECORD }
     ensures { result ≡ bad_field bytes.now }
@@ -96,11 +96,11 @@ fn has_magic(bytes: &[u8]) -> bool
         && byte_at(bytes, 3) == 0x31
 }
 
-// The byte at a place, or 0 behind the end.
-fn byte_at(bytes: &[u8], place: usize) -> u8
-    ensures { result ≡ byte_at bytes.now place }
+// The byte at a position, or 0 behind the end.
+fn byte_at(bytes: &[u8], position: usize) -> u8
+    ensures { result ≡ byte_at bytes.now position }
 {
-    match bytes.get(place) {
+    match bytes.get(position) {
         Some(byte) => *byte,
         None => 0,
     }

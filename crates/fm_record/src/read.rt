@@ -20,29 +20,29 @@ fn size_of(kind: u8) -> usize
     }
 }
 
-// The number in the two bytes from a place on.
-fn two_at(bytes: &[u8], place: usize) -> u32
-    requires { place + 2 ≤ length bytes.now }
-    ensures value { result ≡ two_at bytes.now place }
+// The number in the two bytes from a position on.
+fn two_at(bytes: &[u8], position: usize) -> u32
+    requires { position + 2 ≤ length bytes.now }
+    ensures value { result ≡ two_at bytes.now position }
     ensures small { result < 65536 }
 {
-    u32::from(bytes[place]) * 0x100 + u32::from(bytes[place + 1])
+    u32::from(bytes[position]) * 0x100 + u32::from(bytes[position + 1])
 }
 
-/// The number in the four bytes from a place on.
-pub(crate) fn four_at(bytes: &[u8], place: usize) -> u32
-    requires { place + 4 ≤ length bytes.now }
-    ensures value { result ≡ four_at bytes.now place }
+/// The number in the four bytes from a position on.
+pub(crate) fn four_at(bytes: &[u8], position: usize) -> u32
+    requires { position + 4 ≤ length bytes.now }
+    ensures value { result ≡ four_at bytes.now position }
 {
-    two_at(bytes, place) * 0x1_0000 + two_at(bytes, place + 2)
+    two_at(bytes, position) * 0x1_0000 + two_at(bytes, position + 2)
 }
 
-// The number in the six bytes from a place on.
-fn six_at(bytes: &[u8], place: usize) -> u64
-    requires { place + 6 ≤ length bytes.now }
-    ensures value { result ≡ six_at bytes.now place }
+// The number in the six bytes from a position on.
+fn six_at(bytes: &[u8], position: usize) -> u64
+    requires { position + 6 ≤ length bytes.now }
+    ensures value { result ≡ six_at bytes.now position }
 {
-    u64::from(two_at(bytes, place)) * 0x1_0000_0000 + u64::from(four_at(bytes, place + 2))
+    u64::from(two_at(bytes, position)) * 0x1_0000_0000 + u64::from(four_at(bytes, position + 2))
 }
 
 // The step that whole fields make.

@@ -88,7 +88,7 @@ fn a_step_is_read_from_the_front(rt: HostRuntime) {
     assert_eq!(rt; read_step(&STEPS[37..41]), None);
 }
 
-/// Bytes, and the place of the first field that cannot stand.
+/// Bytes, and the position of the first field that cannot stand.
 const HEADS: &[(&[u8], u32)] = &[
     (b"", 0),
     (b"FMR", 0),
@@ -102,11 +102,16 @@ const HEADS: &[(&[u8], u32)] = &[
 
 #[test]
 fn the_first_field_that_cannot_stand_is_told(rt: HostRuntime) {
-    for (bytes, place) in HEADS {
+    for (bytes, position) in HEADS {
         if bytes.len() > MAX_RECORD {
             continue;
         }
         let told = header(bytes).map(|reel| reel.room);
-        assert_eq!(rt; told, Err(BadHeader { place: *place }));
+        assert_eq!(rt;
+            told,
+            Err(BadHeader {
+                position: *position
+            })
+        );
     }
 }

@@ -27,12 +27,12 @@ waiting_kept p j old new ended waits = record {
 -- one process more has started or waits
 pub started_more : (p : PlanParts) (j : ℕ) (old new : List Slot) → Begins p j old new
     → ((slot new j).strand ≡ None → IsWaiting p new j) → AllStarted p old j → AllStarted p new (j + 1)
-started_more p j old new begins own before i below unborn = by_place (cases_eq i j)
+started_more p j old new begins own before i below unborn = by_index (cases_eq i j)
   where
-    by_place : (i ≡ j) ⊎ (i ≡ j → ⊥) → IsWaiting p new i
-    by_place (inl same) =
+    by_index : (i ≡ j) ⊎ (i ≡ j → ⊥) → IsWaiting p new i
+    by_index (inl same) =
         subst (IsWaiting p new) (sym same) (own (sym (ap (λ (k : ℕ). (slot new k).strand) same) ∙ unborn))
-    by_place (inr apart) =
+    by_index (inr apart) =
         waiting_kept p i old new begins.some.ended
         (before i (omega arith) (sym (ap (λ (s : Slot). s.strand) (begins.others i apart)) ∙ unborn))
 
@@ -42,15 +42,15 @@ pub await_more : (p : PlanParts) (w v : Watch) (fs : Vec (Vec ℕ Global) Global
     → ((k : ℕ) → 0 < link w.next.items k → 0 < link v.next.items k)
     → Takes q w.followers.items (Some x) fs.items → v.followers ≡ fs
     → AllAwait p w q old → AllAwait p v q new
-await_more p w v fs q x old new begins own same chained takes lists before j within unborn = by_place (cases_eq j x)
+await_more p w v fs q x old new begins own same chained takes lists before j within unborn = by_index (cases_eq j x)
   where
-    by_list : (j ≡ x → ⊥) → (a : Awaits p w q j) → (Contains (list_of v.followers.items (predecessor p j a.place)) j) ⊎ (j ≡ x)
+    by_list : (j ≡ x → ⊥) → (a : Awaits p w q j) → (Contains (list_of v.followers.items (predecessor p j a.index)) j) ⊎ (j ≡ x)
         → (IsWaiting p new j) ⊎ (Awaits p v q j)
     by_list apart a (inl there) = inr (record {
-      place = a.place;
+      index = a.index;
       there = a.there;
       from = a.from;
-      chained = chained (predecessor p j a.place) a.chained;
+      chained = chained (predecessor p j a.index) a.chained;
       listed = there;
     })
     by_list apart a (inr one) = absurd (apart one)
@@ -58,12 +58,12 @@ await_more p w v fs q x old new begins own same chained takes lists before j wit
     by_wait : (j ≡ x → ⊥) → (IsWaiting p old j) ⊎ (Awaits p w q j) → (IsWaiting p new j) ⊎ (Awaits p v q j)
     by_wait apart (inl waits) = inl (waiting_kept p j old new begins.some.ended waits)
     by_wait apart (inr a) =
-        by_list apart a (subst (λ (vs : Vec (Vec ℕ Global) Global). (Contains (list_of vs.items (predecessor p j a.place)) j) ⊎ (j ≡ x))
-        (sym lists) (takes_one q x w.followers.items fs.items takes (predecessor p j a.place) j a.listed))
+        by_list apart a (subst (λ (vs : Vec (Vec ℕ Global) Global). (Contains (list_of vs.items (predecessor p j a.index)) j) ⊎ (j ≡ x))
+        (sym lists) (takes_one q x w.followers.items fs.items takes (predecessor p j a.index) j a.listed))
 
-    by_place : (j ≡ x) ⊎ (j ≡ x → ⊥) → (IsWaiting p new j) ⊎ (Awaits p v q j)
-    by_place (inl is) = inl (subst (IsWaiting p new) (sym is) (own (sym (ap (λ (k : ℕ). (slot new k).strand) is) ∙ unborn)))
-    by_place (inr apart) =
+    by_index : (j ≡ x) ⊎ (j ≡ x → ⊥) → (IsWaiting p new j) ⊎ (Awaits p v q j)
+    by_index (inl is) = inl (subst (IsWaiting p new) (sym is) (own (sym (ap (λ (k : ℕ). (slot new k).strand) is) ∙ unborn)))
+    by_index (inr apart) =
         by_wait apart (before j (omega arith) (sym (ap (λ (s : Slot). s.strand) (begins.others j apart)) ∙ unborn))
 
 module _ (p : PlanParts) (w : Watch) (q : ℕ) (ss : List Slot) (before : AllAwait p w q ss) where
@@ -73,36 +73,36 @@ module _ (p : PlanParts) (w : Watch) (q : ℕ) (ss : List Slot) (before : AllAwa
       → list_of w.followers.items q ≡ [] → AllAwait p v (q + 1) ss
   await_past v next empty others none j within unborn = by_wait (before j within unborn)
     where
-      by_place : (a : Awaits p w q j) → (predecessor p j a.place ≡ q) ⊎ (predecessor p j a.place ≡ q → ⊥)
+      by_index : (a : Awaits p w q j) → (predecessor p j a.index ≡ q) ⊎ (predecessor p j a.index ≡ q → ⊥)
           → (IsWaiting p ss j) ⊎ (Awaits p v (q + 1) j)
-      by_place a (inl same) =
+      by_index a (inl same) =
           absurd (in_none j (subst (λ (xs : List ℕ). Contains xs j) none
           (subst (λ (n : ℕ). Contains (list_of w.followers.items n) j) same a.listed)))
-      by_place a (inr apart) = inr (record {
-        place = a.place;
+      by_index a (inr apart) = inr (record {
+        index = a.index;
         there = a.there;
         from = let from = a.from in omega arith;
-        chained = subst (λ (n : Vec ℕ Global). 0 < link n.items (predecessor p j a.place)) (sym next) a.chained;
-        listed = subst (λ (xs : List ℕ). Contains xs j) (sym (others (predecessor p j a.place) apart)) a.listed;
+        chained = subst (λ (n : Vec ℕ Global). 0 < link n.items (predecessor p j a.index)) (sym next) a.chained;
+        listed = subst (λ (xs : List ℕ). Contains xs j) (sym (others (predecessor p j a.index) apart)) a.listed;
       })
 
       by_wait : (IsWaiting p ss j) ⊎ (Awaits p w q j) → (IsWaiting p ss j) ⊎ (Awaits p v (q + 1) j)
       by_wait (inl waits) = inl waits
-      by_wait (inr a) = by_place a (cases_eq (predecessor p j a.place) q)
+      by_wait (inr a) = by_index a (cases_eq (predecessor p j a.index) q)
 
   -- q has not ended
   pub await_live : (slot ss q).ended ≡ false → AllAwait p w (q + 1) ss
   await_live live j within unborn = by_wait (before j within unborn)
     where
-      by_place : (a : Awaits p w q j) → (predecessor p j a.place ≡ q) ⊎ (predecessor p j a.place ≡ q → ⊥)
+      by_index : (a : Awaits p w q j) → (predecessor p j a.index ≡ q) ⊎ (predecessor p j a.index ≡ q → ⊥)
           → (IsWaiting p ss j) ⊎ (Awaits p w (q + 1) j)
-      by_place a (inl same) = inl (record {
-        at = a.place;
+      by_index a (inl same) = inl (record {
+        at = a.index;
         there = a.there;
         live = ap (λ (n : ℕ). (slot ss n).ended) same ∙ live;
       })
-      by_place a (inr apart) = inr (record {
-        place = a.place;
+      by_index a (inr apart) = inr (record {
+        index = a.index;
         there = a.there;
         from = let from = a.from in omega arith;
         chained = a.chained;
@@ -111,7 +111,7 @@ module _ (p : PlanParts) (w : Watch) (q : ℕ) (ss : List Slot) (before : AllAwa
 
       by_wait : (IsWaiting p ss j) ⊎ (Awaits p w q j) → (IsWaiting p ss j) ⊎ (Awaits p w (q + 1) j)
       by_wait (inl waits) = inl waits
-      by_wait (inr a) = by_place a (cases_eq (predecessor p j a.place) q)
+      by_wait (inr a) = by_index a (cases_eq (predecessor p j a.index) q)
 
   -- all are past
   pub await_none : IsChain w.next.items → length w.next.items ≡ length ss → length ss ≤ q → AllStarted p ss (length ss)
@@ -120,7 +120,7 @@ module _ (p : PlanParts) (w : Watch) (q : ℕ) (ss : List Slot) (before : AllAwa
       by_wait : (IsWaiting p ss j) ⊎ (Awaits p w q j) → IsWaiting p ss j
       by_wait (inl waits) = waits
       by_wait (inr a) =
-          let inside = chained_within w.next.items chain (predecessor p j a.place) a.chained in
+          let inside = chained_within w.next.items chain (predecessor p j a.index) a.chained in
           let from = a.from in absurd (omega arith)
 
 -- what is not in the chain needs no look
@@ -131,9 +131,9 @@ await_next p w q ss chain before j within unborn = by_wait (before j within unbo
     by_wait : (IsWaiting p ss j) ⊎ (Awaits p w (q + 1) j) → (IsWaiting p ss j) ⊎ (Awaits p w (link w.next.items q) j)
     by_wait (inl waits) = inl waits
     by_wait (inr a) = inr (record {
-      place = a.place;
+      index = a.index;
       there = a.there;
-      from = let from = a.from in none_between w.next.items chain q (predecessor p j a.place) a.chained (omega arith);
+      from = let from = a.from in none_between w.next.items chain q (predecessor p j a.index) a.chained (omega arith);
       chained = a.chained;
       listed = a.listed;
     })

@@ -180,7 +180,7 @@ module _ (p : PlanParts) (fits : PartsFit p) (w : Watch) (limit : ℕ) (old new 
           let kept = ap (λ (s : Slot). s.ended) (runs.idle (predecessor p j waits.at) there idle.rests) in
           let never : true ≡ false = sym now ∙ kept ∙ waits.live in cc
       by_end waits true now (inr on) = inr (record {
-        place = waits.at;
+        index = waits.at;
         there = waits.there;
         from = omega arith;
         chained = omega arith;

@@ -83,11 +83,11 @@ pub record Watched (p : PlanParts) (w : Watch) (ss : List Slot) : Type 0 where
 
 -- a predecessor of the process j, from `at` on, is in the chain, and has j in its list
 pub record Awaits (p : PlanParts) (w : Watch) (at j : ℕ) : Type 0 where
-  pub place : ℕ
-  pub there : place < length (predecessors p j)
-  pub from : at ≤ predecessor p j place
-  pub chained : 0 < link w.next.items (predecessor p j place)
-  pub listed : Contains (list_of w.followers.items (predecessor p j place)) j
+  pub index : ℕ
+  pub there : index < length (predecessors p j)
+  pub from : at ≤ predecessor p j index
+  pub chained : 0 < link w.next.items (predecessor p j index)
+  pub listed : Contains (list_of w.followers.items (predecessor p j index)) j
 
 -- who has not started waits for one that has not ended, or is in the list of one in the chain from `at` on
 abbrev pub AllAwait : PlanParts → Watch → ℕ → List Slot → Type 0

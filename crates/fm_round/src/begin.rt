@@ -131,8 +131,8 @@ fn begin_if_ready(plan: &Plan, process: u32, guesses: &mut Vec<usize>, slots: &m
     true
 }
 
-// A predecessor that has not ended, by its place, or none. It is looked for from a place on, and
-// then in front of it.
+// A predecessor that has not ended, by its index among the predecessors, or none. It is looked for
+// from an index on, and then in front of it.
 fn awaited(plan: &Plan, process: u32, guess: usize, slots: &[Slot]) -> Option<usize>
     requires fits { PartsFit plan.now }
     requires count { length slots.now ≡ length plan.now.programs }
@@ -148,7 +148,7 @@ fn awaited(plan: &Plan, process: u32, guess: usize, slots: &[Slot]) -> Option<us
     }
 }
 
-// The first one of these processes, from a place up to another, that has not ended.
+// The index of the first one of these processes, from an index up to another, that has not ended.
 fn first_live(processes: &[u32], from: usize, to: usize, slots: &[Slot]) -> Option<usize>
     requires range { (from ≤ to) × (to ≤ length processes.now) }
     requires there { AreThere processes.now slots.now }
@@ -157,9 +157,9 @@ fn first_live(processes: &[u32], from: usize, to: usize, slots: &[Slot]) -> Opti
     ensures none { IfNone result ((i : ℕ) → from ≤ i → i < to
         → ended_at processes.now slots.now i ≡ true) }
 {
-    for place in from..to {
-        if !slots[processes[place] as usize].ended {
-            return Some(place);
+    for index in from..to {
+        if !slots[processes[index] as usize].ended {
+            return Some(index);
         }
     }
     None

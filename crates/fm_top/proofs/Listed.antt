@@ -4,7 +4,7 @@ use Rattle.std.proofs.lemmas.Bool.{le-ltb}
 use Rattle.fm_edge.specs.Runs.{Puts, Breaks}
 use Rattle.fm_listing.specs.Listing.{listing}
 use Rattle.fm_read.specs.Fault.{kind_number}
-use Rattle.fm_read.specs.Files.{Contents, contents, place}
+use Rattle.fm_read.specs.Files.{Contents, contents, position}
 use Rattle.fm_read.specs.declared.fault.ReadKind.{ReadKind}
 use Rattle.fm_read.specs.declared.limits.TheConstants.{MAX_FILE}
 use Rattle.fm_top.specs.declared.run_fault.RunFault.{RunFault}
@@ -18,7 +18,7 @@ use Rattle.fm_top.proofs.Verdicts.{long_fault}
 
 -- the first fault of bytes within the limit
 pub found_fault : (bytes : List ℕ) (kind : ReadKind) (at number : ℕ) → length bytes ≤ MAX_FILE → number ≡ kind_number kind
-    → place bytes (contents bytes) ≡ Some (kind, at) → IsFaultOfFile bytes (run.File at number)
+    → position bytes (contents bytes) ≡ Some (kind, at) → IsFaultOfFile bytes (run.File at number)
 unfolding file_fault
 found_fault bytes kind at number short is found = rw (le-ltb MAX_FILE (length bytes) short, found, is) refl
 

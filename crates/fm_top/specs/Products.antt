@@ -16,7 +16,7 @@ use Rattle.fm_msg.specs.declared.profile.Profile.{Profile}
 use Rattle.fm_parts.specs.Format1.{format1}
 use Rattle.fm_position.specs.Told.{IsLocated}
 use Rattle.fm_read.specs.Fault.{kind_number}
-use Rattle.fm_read.specs.Files.{Contents, contents, place}
+use Rattle.fm_read.specs.Files.{Contents, contents, position}
 use Rattle.fm_read.specs.Written.{as_message}
 use Rattle.fm_read.specs.declared.limits.TheConstants.{MAX_FILE}
 use Rattle.fm_record.specs.Head.{head_bytes}
@@ -203,11 +203,11 @@ IsFaultOfPosition process text fault = ⊥
 abbrev pub too_large : ℕ
 too_large = 35
 
--- the first fault of some bytes as a file: its place, and its number
+-- the first fault of some bytes as a file: its position, and its number
 unfoldable pub file_fault : List ℕ → Option (ℕ × ℕ)
 file_fault bytes =
     if nat_lt MAX_FILE (length bytes) then Some (0, too_large)
-    else option_map (λ f. (f.1, kind_number f.0)) (place bytes (contents bytes))
+    else option_map (λ f. (f.1, kind_number f.0)) (position bytes (contents bytes))
 
 -- a fault of bytes that are no file
 abbrev pub IsFaultOfFile : List ℕ → RunFault → Type 0

@@ -23,7 +23,7 @@ place_text line column number =
     codes "formula: score refused: " ++ decimal line ++ codes ":" ++ decimal column
     ++ codes " fault " ++ decimal number ++ codes "\n"
 
--- the text for a refusal that has one number as its place, and the number of its fault
+-- the text for a refusal that has one number as its position, and the number of its fault
 abbrev pub placed_text : (front : List ℕ) (at number : ℕ) → List ℕ
 placed_text front at number = front ++ decimal at ++ codes " fault " ++ decimal number ++ codes "\n"
 

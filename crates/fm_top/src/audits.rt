@@ -50,7 +50,7 @@ pub fn audit_record<S: Source, K: Sink>(
         Err(ReadFault::Failed) => return Err(RunFault::Read),
         Err(ReadFault::TooLong) => {
             return Err(RunFault::Record {
-                place: 0,
+                position: 0,
                 number: TOO_LONG,
             });
         }
@@ -70,7 +70,7 @@ fn audit_bytes<K: Sink>(alloc: Global, bytes: &[u8], sink: &mut K) -> Result<(),
         Ok(reel) => reel,
         Err(fault) => {
             return Err(RunFault::Record {
-                place: fault.place,
+                position: fault.position,
                 number: BAD_HEAD,
             });
         }
@@ -92,16 +92,16 @@ fn fault_of(fault: AuditFault) -> RunFault
     ensures { IsToldOf fault result }
 {
     match fault {
-        AuditFault::BadStep { place } => RunFault::Record {
-            place,
+        AuditFault::BadStep { position } => RunFault::Record {
+            position,
             number: BAD_STEP,
         },
         AuditFault::Refused { step, .. } => RunFault::Record {
-            place: step,
+            position: step,
             number: REFUSED_STEP,
         },
         AuditFault::Unfinished { steps } => RunFault::Record {
-            place: steps,
+            position: steps,
             number: UNFINISHED_RUN,
         },
         AuditFault::Sink => RunFault::Write,

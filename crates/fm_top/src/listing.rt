@@ -38,7 +38,7 @@ pub fn list_file<S: Source, K: Sink>(
         Err(ReadFault::Failed) => return Err(RunFault::Read),
         Err(ReadFault::TooLong) => {
             return Err(RunFault::File {
-                place: 0,
+                position: 0,
                 number: TOO_LARGE,
             });
         }
@@ -60,7 +60,7 @@ fn read_file(bytes: &[u8]) -> Result<File<'_>, RunFault>
     match read(bytes) {
         Ok(file) => Ok(file),
         Err(fault) => Err(RunFault::File {
-            place: fault.place,
+            position: fault.position,
             number: fault.kind.number(),
         }),
     }

@@ -19,12 +19,12 @@ pub enum RunFault {
     Score { spot: Spot, number: u8 },
     /// The bytes are no Standard MIDI File: their first fault at this byte, counted from 0, with a
     /// number from 21 to 35.
-    #[error("file refused: byte {place} fault {number}")]
-    File { place: u32, number: u8 },
+    #[error("file refused: byte {position} fault {number}")]
+    File { position: u32, number: u8 },
     /// The bytes are no record of a run, or not one of a run to its end: their first fault at this
     /// byte, byte of the steps, step, or number of steps, with a number from 41 to 46.
-    #[error("record refused: {place} fault {number}")]
-    Record { place: u32, number: u8 },
+    #[error("record refused: {position} fault {number}")]
+    Record { position: u32, number: u8 },
     /// The accepted score has no process of the number.
     #[error("no such process")]
     NoProcess,

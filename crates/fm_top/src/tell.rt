@@ -57,14 +57,14 @@ fn text_at(line: u32, column: u32, number: u8) -> Text
     text
 }
 
-// The line of a refused file or record, with the place and the number of its fault.
-fn text_at_place(front: &[u8], place: u32, number: u8) -> Text
+// The line of a refused file or record, with the position and the number of its fault.
+fn text_at_position(front: &[u8], position: u32, number: u8) -> Text
     requires { length front.now ≤ 28 }
-    ensures { result.items ≡ placed_text front.now place number }
+    ensures { result.items ≡ placed_text front.now position number }
 {
     let mut text = Text::new();
     push_bytes(&mut text, front);
-    push_decimal(&mut text, place);
+    push_decimal(&mut text, position);
     push_bytes(&mut text, b" fault ");
     push_decimal(&mut text, u32::from(number));
     push_bytes(&mut text, b"\n");
@@ -90,11 +90,11 @@ fn text_of(fault: RunFault) -> Text
         RunFault::Words => fixed_text(b"formula: words refused\n"),
         RunFault::Read => fixed_text(b"formula: read fault\n"),
         RunFault::Score { spot, number } => text_at(spot.line, spot.column, number),
-        RunFault::File { place, number } => {
-            text_at_place(b"formula: file refused: byte ", place, number)
+        RunFault::File { position, number } => {
+            text_at_position(b"formula: file refused: byte ", position, number)
         }
-        RunFault::Record { place, number } => {
-            text_at_place(b"formula: record refused: ", place, number)
+        RunFault::Record { position, number } => {
+            text_at_position(b"formula: record refused: ", position, number)
         }
         RunFault::NoProcess => fixed_text(b"formula: no such process\n"),
         RunFault::Write => fixed_text(b"formula: write fault\n"),

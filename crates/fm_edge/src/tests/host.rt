@@ -40,27 +40,27 @@ impl Disk {
         Ok(())
     }
 
-    // Writes bytes at a place, at most three, and says how many.
-    fn write_at(&self, place: usize, buf: &[u8]) -> io::Result<usize>
+    // Writes bytes at a position, at most three, and says how many.
+    fn write_at(&self, position: usize, buf: &[u8]) -> io::Result<usize>
         ensures { IfOk result (λ n. n ≤ length buf.now) }
     {
         self.call()?;
         let mut bytes = self.bytes.get();
         let mut count = 0;
         for byte in buf.iter().take(CHUNK) {
-            if let Some(at) = bytes.get_mut(place.saturating_add(count)) {
+            if let Some(at) = bytes.get_mut(position.saturating_add(count)) {
                 *at = *byte;
                 count = count.saturating_add(1);
             }
         }
         self.bytes.set(bytes);
         self.length
-            .set(self.length.get().max(place.saturating_add(count)));
+            .set(self.length.get().max(position.saturating_add(count)));
         Ok(count.min(buf.len()))
     }
 
-    // Reads bytes at a place, at most three, and says how many.
-    fn read_at(&self, place: usize, buf: &mut [u8]) -> io::Result<usize>
+    // Reads bytes at a position, at most three, and says how many.
+    fn read_at(&self, position: usize, buf: &mut [u8]) -> io::Result<usize>
         ensures { IfOk result (λ n. n ≤ length buf.new) }
     {
         self.call()?;
@@ -68,11 +68,11 @@ impl Disk {
         let most = self
             .length
             .get()
-            .saturating_sub(place)
+            .saturating_sub(position)
             .min(CHUNK)
             .min(buf.len());
         for (k, at) in buf.iter_mut().take(most).enumerate() {
-            *at = bytes.get(place.saturating_add(k)).copied().unwrap_or(0);
+            *at = bytes.get(position.saturating_add(k)).copied().unwrap_or(0);
         }
         Ok(most)
     }
@@ -82,21 +82,21 @@ impl Disk {
 #[derive(Drop)]
 pub struct DiskFile<'d> {
     disk: &'d Disk,
-    place: usize,
+    position: usize,
 }
 
 impl<'d> Read for DiskFile<'d> {
     fn read(&mut self, buf: &mut [u8]) -> io::Result<usize> {
-        let count = self.disk.read_at(self.place, buf)?;
-        self.place = self.place.saturating_add(count);
+        let count = self.disk.read_at(self.position, buf)?;
+        self.position = self.position.saturating_add(count);
         Ok(count)
     }
 }
 
 impl<'d> Write for DiskFile<'d> {
     fn write(&mut self, buf: &[u8]) -> io::Result<usize> {
-        let count = self.disk.write_at(self.place, buf)?;
-        self.place = self.place.saturating_add(count);
+        let count = self.disk.write_at(self.position, buf)?;
+        self.position = self.position.saturating_add(count);
         Ok(count)
     }
 
@@ -107,11 +107,11 @@ impl<'d> Write for DiskFile<'d> {
 
 impl<'d> Seek for DiskFile<'d> {
     fn seek(&mut self, to: SeekFrom) -> io::Result<u64> {
-        self.place = match to {
-            SeekFrom::Start(place) => place as usize,
+        self.position = match to {
+            SeekFrom::Start(position) => position as usize,
             _ => self.disk.length.get(),
         };
-        Ok(self.place as u64)
+        Ok(self.position as u64)
     }
 }
 
@@ -151,7 +151,7 @@ impl<'d> Files for Host<'d> {
     fn open_file(&self, _how: &OpenOptions, _path: &str) -> io::Result<DiskFile<'d>> {
         Ok(DiskFile {
             disk: self.disk,
-            place: 0,
+            position: 0,
         })
     }
 

@@ -95,12 +95,12 @@ expand_fork-loop-branch-preserved t c = λ i a.
     let forked = c.in_ok-forked.forked in
     let lasts = c.loop-branch.lasts.items in
     let others = arms_of_blocks (map (λ b. block_view look b.items) (drop (c.loop-branch.branch-index + 1) c.args.branches.now)) in
-    let number : c.in_ok-place.field-0 ≡ length c.expand_steps.new.m.finished.items = search rules in
+    let number : c.in_ok-as_index.field-0 ≡ length c.expand_steps.new.m.finished.items = search rules in
     let joined_by : Arms → Joined = λ arms.
     (let j = expand_arms arms i forked (whole e) e.scopes in
     record { programs = j.programs; lasts = lasts ++ j.lasts; scopes = j.scopes }) in
     fork_on c.args.m.now c.loop-branch.m c.next_program.new.self c.expand_steps.new.m c.args.inside i
-    (block_view look c.deref.result.now) others forked c.in_ok-place.field-0 _ lasts _ _ (
+    (block_view look c.deref.result.now) others forked c.in_ok-as_index.field-0 _ lasts _ _ (
       h.0,
       h.1,
       h.2,

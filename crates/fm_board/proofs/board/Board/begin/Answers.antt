@@ -15,15 +15,15 @@ pub compare_exchange-found-requires-clause-may : goal.compare_exchange-found-req
 compare_exchange-found-requires-clause-may c =
     starts_at _ c.args.self.now.about _ _ _ _ c.args.process _ c.args.tick c.seat.inside.number _ c.args.seat.now c.args.self.now.same.0
     c.requires.ours
-    (ap (λ (x : Sight). x.mind) c.seat.view_is) c.place_of.ensures c.requires.there c.requires.idle c.requires.ended c.requires.tick
+    (ap (λ (x : Sight). x.mind) c.seat.view_is) c.index_of.ensures c.requires.there c.requires.idle c.requires.ended c.requires.tick
     c.seat.invariant.0 c.word_of-new.ensures
 
 pub seen_of-requires : goal.seen_of-requires
-seen_of-requires c = ((c.compare_exchange-found.ensures.told c.args.process c.place_of.ensures).1 c.if-found-ne0.true).word
+seen_of-requires c = ((c.compare_exchange-found.ensures.told c.args.process c.index_of.ensures).1 c.if-found-ne0.true).word
 
 pub invariant_of-seat : goal.invariant_of-seat
 invariant_of-seat c =
-    let found = (c.compare_exchange-found.ensures.told c.args.process c.place_of.ensures).1 c.if-found-ne0.true in
+    let found = (c.compare_exchange-found.ensures.told c.args.process c.index_of.ensures).1 c.if-found-ne0.true in
     let s = c.seen_of.result in
     let mind = found.mind s.tag s.clock s.seat c.seen_of.ensures.few c.seen_of.ensures.word in
     stays_tidy _ _ _ _ c.seat.inside.token.me c.compare_exchange-found.new.self.me c.seat.invariant (ap (λ (m : Mind). m.view.number) mind)
@@ -34,7 +34,7 @@ returns-then-found-ne0 c =
     let s = c.seen_of.result in
     record {
       found = found_as _ _ c.args.process _ c.seat.inside.token.me c.compare_exchange-found.new.self.me (λ (v : View) t n. v) s _
-          ((c.compare_exchange-found.ensures.told c.args.process c.place_of.ensures).1 c.if-found-ne0.true) c.seen_of.ensures.few
+          ((c.compare_exchange-found.ensures.told c.args.process c.index_of.ensures).1 c.if-found-ne0.true) c.seen_of.ensures.few
           c.seen_of.ensures.word
           c.compare_exchange-found.ensures.kept.0 c.seat.view_is;
       born = not_unborn s.tag s.clock s.seat _ s.fits c.seen_of.ensures.word c.if-found-ne0.true;
@@ -42,23 +42,23 @@ returns-then-found-ne0 c =
 
 pub exchange-requires-clause-out : goal.exchange-requires-clause-out
 exchange-requires-clause-out c =
-    let hit = (c.compare_exchange-found.ensures.told c.args.process c.place_of.ensures).0 c.if-found-ne0.false in
+    let hit = (c.compare_exchange-found.ensures.told c.args.process c.index_of.ensures).0 c.if-found-ne0.false in
     (Some hit.stock, is_out _ c.args.process _ _ hit.out)
 
 pub unreachable-requires : goal.unreachable-requires
 unreachable-requires c =
-    let hit = (c.compare_exchange-found.ensures.told c.args.process c.place_of.ensures).0 c.if-found-ne0.false in
+    let hit = (c.compare_exchange-found.ensures.told c.args.process c.index_of.ensures).0 c.if-found-ne0.false in
     let is = sym c.in-None.is ∙ taken_out _ c.args.process _ _ _ _ c.exchange.ensures.was hit.out in absurd (cc)
 
 pub invariant_of-seat-2 : goal.invariant_of-seat-2
 invariant_of-seat-2 c =
-    let hit = (c.compare_exchange-found.ensures.told c.args.process c.place_of.ensures).0 c.if-found-ne0.false in
+    let hit = (c.compare_exchange-found.ensures.told c.args.process c.index_of.ensures).0 c.if-found-ne0.false in
     begun_tidy _ c.args.process _ _ _ c.seat.inside.token.me _ _ c.seat.invariant
     (ap (λ (x : Sight). x.mind.view.holds) c.seat.view_is ∙ c.requires.idle) hit c.exchange.ensures.is
 
 pub returns : goal.returns
 returns c =
-    let hit = (c.compare_exchange-found.ensures.told c.args.process c.place_of.ensures).0 c.if-found-ne0.false in
+    let hit = (c.compare_exchange-found.ensures.told c.args.process c.index_of.ensures).0 c.if-found-ne0.false in
     let b = c.begin-strand.ensures in
     begun_as c.args.self.now.about _ _ _ _ c.args.process c.seat.inside.token.me _ _ _ c.in-Some.room c.begin-strand.result c.args.seat.now
     c.requires.ours hit

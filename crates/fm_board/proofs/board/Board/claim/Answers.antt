@@ -12,16 +12,16 @@ compare_exchange-found-requires-clause-may c =
     let e : Seen = c.args.expected.now in
     claims_at _ c.args.self.now.about c.args.self.now.table.shared.table_id _ _ _ c.args.process _ _ e.tag c.held_tag.result e.clock e.seat
     c.seat.inside.number _ c.args.seat.now
-    c.args.self.now.same.0 c.requires.ours (ap (λ (x : Sight). x.mind) c.seat.view_is) c.place_of.ensures c.requires.there c.requires.idle
+    c.args.self.now.same.0 c.requires.ours (ap (λ (x : Sight). x.mind) c.seat.view_is) c.index_of.ensures c.requires.there c.requires.idle
     c.requires.tag
     e.fits.few c.word_of-old.ensures c.held_tag.ensures c.seat.invariant.0 c.word_of-new.ensures
 
 pub seen_of-requires : goal.seen_of-requires
-seen_of-requires c = ((c.compare_exchange-found.ensures.told c.args.process c.place_of.ensures).1 c.if-found-old.true).word
+seen_of-requires c = ((c.compare_exchange-found.ensures.told c.args.process c.index_of.ensures).1 c.if-found-old.true).word
 
 pub invariant_of-seat : goal.invariant_of-seat
 invariant_of-seat c =
-    let found = (c.compare_exchange-found.ensures.told c.args.process c.place_of.ensures).1 c.if-found-old.true in
+    let found = (c.compare_exchange-found.ensures.told c.args.process c.index_of.ensures).1 c.if-found-old.true in
     let s = c.seen_of.result in
     let mind = found.mind s.tag s.clock s.seat c.seen_of.ensures.few c.seen_of.ensures.word in
     stays_tidy _ _ _ _ c.seat.inside.token.me c.compare_exchange-found.new.self.me c.seat.invariant (ap (λ (m : Mind). m.view.number) mind)
@@ -29,7 +29,7 @@ invariant_of-seat c =
 
 pub returns-then-found-old : goal.returns-then-found-old
 returns-then-found-old c =
-    let found = (c.compare_exchange-found.ensures.told c.args.process c.place_of.ensures).1 c.if-found-old.true in (
+    let found = (c.compare_exchange-found.ensures.told c.args.process c.index_of.ensures).1 c.if-found-old.true in (
       found_as _ _ c.args.process _ c.seat.inside.token.me c.compare_exchange-found.new.self.me (λ (v : View) t n. v) c.seen_of.result _
           found c.seen_of.ensures.few c.seen_of.ensures.word c.compare_exchange-found.ensures.kept.0 c.seat.view_is,
       (λ same. c.if-found-old.true (c.seen_of.ensures.word
@@ -39,14 +39,14 @@ returns-then-found-old c =
 pub exchange-requires-clause-out : goal.exchange-requires-clause-out
 exchange-requires-clause-out c =
     let e : Seen = c.args.expected.now in
-    let hit = (c.compare_exchange-found.ensures.told c.args.process c.place_of.ensures).0 c.if-found-old.false e.tag e.clock e.seat
+    let hit = (c.compare_exchange-found.ensures.told c.args.process c.index_of.ensures).0 c.if-found-old.false e.tag e.clock e.seat
     e.fits.few c.word_of-old.ensures in
     (Some (record { strand = Some hit.strand; outbox = hit.box }), is_out _ c.args.process _ _ hit.out)
 
 pub unreachable-requires : goal.unreachable-requires
 unreachable-requires c =
     let e : Seen = c.args.expected.now in
-    let hit = (c.compare_exchange-found.ensures.told c.args.process c.place_of.ensures).0 c.if-found-old.false e.tag e.clock e.seat
+    let hit = (c.compare_exchange-found.ensures.told c.args.process c.index_of.ensures).0 c.if-found-old.false e.tag e.clock e.seat
     e.fits.few c.word_of-old.ensures in
     no_strand _ c.in-Some.room hit.strand hit.box c.in-Some.is
     (taken_out _ c.args.process _ _ _ _ c.exchange.ensures.was hit.out) (sym c.runner.ensures ∙ c.in-None-runner.is)
@@ -54,14 +54,14 @@ unreachable-requires c =
 pub unreachable-requires-in-None : goal.unreachable-requires-in-None
 unreachable-requires-in-None c =
     let e : Seen = c.args.expected.now in
-    let hit = (c.compare_exchange-found.ensures.told c.args.process c.place_of.ensures).0 c.if-found-old.false e.tag e.clock e.seat
+    let hit = (c.compare_exchange-found.ensures.told c.args.process c.index_of.ensures).0 c.if-found-old.false e.tag e.clock e.seat
     e.fits.few c.word_of-old.ensures in
     let is = sym c.in-None.is ∙ taken_out _ c.args.process _ _ _ _ c.exchange.ensures.was hit.out in absurd (cc)
 
 pub invariant_of-seat-2 : goal.invariant_of-seat-2
 invariant_of-seat-2 c =
     let e : Seen = c.args.expected.now in
-    let hit = (c.compare_exchange-found.ensures.told c.args.process c.place_of.ensures).0 c.if-found-old.false e.tag e.clock e.seat
+    let hit = (c.compare_exchange-found.ensures.told c.args.process c.index_of.ensures).0 c.if-found-old.false e.tag e.clock e.seat
     e.fits.few c.word_of-old.ensures in
     held_tidy _ _ _ _ _ c.seat.inside.token.me _ _ c.args.process _ _ _ c.seat.invariant
     (ap (λ (x : Sight). x.mind.view.holds) c.seat.view_is ∙ c.requires.idle) hit
@@ -70,7 +70,7 @@ invariant_of-seat-2 c =
 pub returns : goal.returns
 returns c =
     let e : Seen = c.args.expected.now in
-    let hit = (c.compare_exchange-found.ensures.told c.args.process c.place_of.ensures).0 c.if-found-old.false e.tag e.clock e.seat
+    let hit = (c.compare_exchange-found.ensures.told c.args.process c.index_of.ensures).0 c.if-found-old.false e.tag e.clock e.seat
     e.fits.few c.word_of-old.ensures in
     hands_as _ c.args.self.now.table.shared.table_id _ _ _ c.args.process _ e c.seat.inside.token.me _ _ _ c.in-Some.room
     c.in-Some-runner.strand _

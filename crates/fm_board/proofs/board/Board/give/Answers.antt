@@ -25,7 +25,7 @@ store-requires-clause-may c =
     ∙ ap (λ (o : Option Strand). (me.0, (c.args.berth.process, Some (holding o c.args.berth.outbox)) ∷ rest me.1)) c.of.ensures in
     gives_at _ c.args.self.now.about _ _ _ c.args.berth.process _ c.len.result _ _ _ _ _ _ c.seat.inside.token.me _ c.args.berth.strand
     c.args.berth.outbox c.args.seat.now
-    c.args.self.now.same.0 (ap (λ (x : Sight). x.mind) c.seat.view_is) c.place_of.ensures c.requires.may c.len.ensures.bound.within
+    c.args.self.now.same.0 (ap (λ (x : Sight). x.mind) c.seat.view_is) c.index_of.ensures c.requires.may c.len.ensures.bound.within
     c.seat.invariant
     c.home_tag-tag.ensures c.len.ensures.value (c.clock-clock.ensures c.args.self.now.about.plan c.requires.may.strand.course)
     c.word_of-new.ensures brought
@@ -33,7 +33,7 @@ store-requires-clause-may c =
 pub invariant_of-seat : goal.invariant_of-seat
 invariant_of-seat c =
     gave_tidy _ c.args.berth.process _ _ _ _ _ c.seat.inside.token.me c.exchange.new.self.me _ _ c.seat.invariant c.exchange.ensures.is
-    (c.store.ensures.told c.args.berth.process c.home_tag-tag.result c.clock-clock.result 0 c.place_of.ensures
+    (c.store.ensures.told c.args.berth.process c.home_tag-tag.result c.clock-clock.result 0 c.index_of.ensures
     (omega arith) c.word_of-new.ensures)
 
 pub returns : goal.returns
@@ -41,7 +41,7 @@ returns c =
     gave_as c.args.self.now.about _ _ _ _ c.args.berth.process _ c.len.result _ _ _ _ c.seat.inside.token.me c.exchange.new.self.me _ _
     c.args.berth.strand c.args.berth.outbox _
     c.requires.may c.seat.invariant c.exchange.ensures.is
-    (c.store.ensures.told c.args.berth.process c.home_tag-tag.result c.clock-clock.result 0 c.place_of.ensures
+    (c.store.ensures.told c.args.berth.process c.home_tag-tag.result c.clock-clock.result 0 c.index_of.ensures
     (omega arith) c.word_of-new.ensures)
     c.home_tag-tag.ensures c.len.ensures.value (c.clock-clock.ensures c.args.self.now.about.plan c.requires.may.strand.course)
     c.store.ensures.kept.0 c.exchange.ensures.kept.0 c.seat.view_is

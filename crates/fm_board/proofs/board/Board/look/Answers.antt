@@ -10,14 +10,14 @@ pub load-found-requires-clause-may : goal.load-found-requires-clause-may
 load-found-requires-clause-may c =
     looks_at _ c.args.self.now.about c.args.self.now.table.shared.table_id _ _ _ c.args.process _ c.args.seat.now c.args.self.now.same.0
     c.requires.ours
-    (ap (λ (x : Sight). x.mind) c.seat.view_is) c.place_of.ensures c.requires.turn
+    (ap (λ (x : Sight). x.mind) c.seat.view_is) c.index_of.ensures c.requires.turn
 
 pub seen_of-seen-requires : goal.seen_of-seen-requires
-seen_of-seen-requires c = (c.load-found.ensures.told c.args.process c.place_of.ensures).word
+seen_of-seen-requires c = (c.load-found.ensures.told c.args.process c.index_of.ensures).word
 
 pub invariant_of-seat : goal.invariant_of-seat
 invariant_of-seat c =
-    let found = c.load-found.ensures.told c.args.process c.place_of.ensures in
+    let found = c.load-found.ensures.told c.args.process c.index_of.ensures in
     let s = c.seen_of-seen.result in
     let mind = found.mind s.tag s.clock s.seat c.seen_of-seen.ensures.few c.seen_of-seen.ensures.word in
     looked_tidy _ _ _ _ _ _ _ c.args.process s.clock _ s.tag c.seat.inside.token.me c.load-found.new.self.me c.args.seat.now.mind
@@ -29,6 +29,6 @@ pub returns : goal.returns
 returns c =
     found_as _ _ c.args.process _ c.seat.inside.token.me c.load-found.new.self.me
     (λ (v : View). looked v c.args.process) c.seen_of-seen.result _
-    (c.load-found.ensures.told c.args.process c.place_of.ensures) c.seen_of-seen.ensures.few c.seen_of-seen.ensures.word
+    (c.load-found.ensures.told c.args.process c.index_of.ensures) c.seen_of-seen.ensures.few c.seen_of-seen.ensures.word
     c.load-found.ensures.kept.0
     c.seat.view_is

@@ -9,14 +9,14 @@ pub load-found-requires-clause-may : goal.load-found-requires-clause-may
 load-found-requires-clause-may c =
     recalls_at _ c.args.self.now.about c.args.self.now.table.shared.table_id _ _ _ c.args.process _ c.args.seat.now c.args.self.now.same.0
     c.requires.ours
-    c.place_of.ensures c.requires.there
+    c.index_of.ensures c.requires.there
 
 pub seen_of-requires : goal.seen_of-requires
-seen_of-requires c = (c.load-found.ensures.told c.args.process c.place_of.ensures).word
+seen_of-requires c = (c.load-found.ensures.told c.args.process c.index_of.ensures).word
 
 pub invariant_of-seat : goal.invariant_of-seat
 invariant_of-seat c =
-    let found = c.load-found.ensures.told c.args.process c.place_of.ensures in
+    let found = c.load-found.ensures.told c.args.process c.index_of.ensures in
     let s = c.seen_of.result in
     let mind = found.mind s.tag s.clock s.seat c.seen_of.ensures.few c.seen_of.ensures.word in
     stays_tidy _ _ _ _ c.seat.inside.token.me c.load-found.new.self.me c.seat.invariant (ap (λ (m : Mind). m.view.number) mind)
@@ -25,10 +25,10 @@ invariant_of-seat c =
 pub returns-clause-found : goal.returns-clause-found
 returns-clause-found c =
     found_as _ _ c.args.process _ c.seat.inside.token.me c.load-found.new.self.me (λ (v : View) t n. v) c.seen_of.result _
-    (c.load-found.ensures.told c.args.process c.place_of.ensures) c.seen_of.ensures.few c.seen_of.ensures.word c.load-found.ensures.kept.0
+    (c.load-found.ensures.told c.args.process c.index_of.ensures) c.seen_of.ensures.few c.seen_of.ensures.word c.load-found.ensures.kept.0
     c.seat.view_is
 
 pub returns-clause-wide : goal.returns-clause-wide
 returns-clause-wide c =
     widths c.seat.inside.token.me.0 c.args.seat.now (ap (λ (x : Sight). x.mind) c.seat.view_is)
-    (c.load-found.ensures.told c.args.process c.place_of.ensures).wide
+    (c.load-found.ensures.told c.args.process c.index_of.ensures).wide

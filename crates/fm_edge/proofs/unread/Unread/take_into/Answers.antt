@@ -5,13 +5,13 @@ use Rattle.std.specs.List.{slice_range}
 use Rattle.fm_edge.proofs.unread.Unread.take_into.Goals as goal
 
 -- what was moved is the front of what was left
-moved_front : (xs ys piece rest : List ℕ) (place count : ℕ) → ys ≡ xs → piece ≡ slice_range ys place (place + count) →
+moved_front : (xs ys piece rest : List ℕ) (read count : ℕ) → ys ≡ xs → piece ≡ slice_range ys read (read + count) →
     length piece ≡ count →
-    drop place xs ≡ take count (piece ++ rest) ++ drop (place + count) xs
-moved_front xs ys piece rest place count same is len =
-    drop_split xs place (place + count) (omega arith)
-    ∙ ap (λ z. slice_range z place (place + count) ++ drop (place + count) xs) (sym same)
-    ∙ ap (λ z. z ++ drop (place + count) xs) (sym is ∙ sym (take-append_seam piece rest) ∙ ap (λ k. take k (piece ++ rest)) len)
+    drop read xs ≡ take count (piece ++ rest) ++ drop (read + count) xs
+moved_front xs ys piece rest read count same is len =
+    drop_split xs read (read + count) (omega arith)
+    ∙ ap (λ z. slice_range z read (read + count) ++ drop (read + count) xs) (sym same)
+    ∙ ap (λ z. z ++ drop (read + count) xs) (sym is ∙ sym (take-append_seam piece rest) ∙ ap (λ k. take k (piece ++ rest)) len)
 
 pub returns-clause-bytes : goal.returns-clause-bytes
 returns-clause-bytes c =

@@ -17,8 +17,8 @@ returns-else-left-eq0-clause-stands c = λ s back stands goes.
     stands.frames)
     goes more).0
 
-pub returns-else-left-eq0-clause-place : goal.returns-else-left-eq0-clause-place
-returns-else-left-eq0-clause-place c = λ s back stands goes.
+pub returns-else-left-eq0-clause-operation : goal.returns-else-left-eq0-clause-operation
+returns-else-left-eq0-clause-operation c = λ s back stands goes.
     let more : 0 < c.in-Some-Counting.left = grind (arith, c.if-left-eq0.false) in
     (round-goes (stock_parts c.args.stock.now) (record c.args.self.now { frames = c.push.new.self }) s s.frames c.pop.new.self.items
     _ _ _ back stands.registers stands.dice c.push.ensures.items
@@ -40,16 +40,16 @@ returns-then-left-eq0-clause-stands c = λ s back stands goes.
     stands.frames)
     goes c.if-left-eq0.true).0
 
-pub returns-then-left-eq0-clause-place : goal.returns-then-left-eq0-clause-place
-returns-then-left-eq0-clause-place c = λ s back stands goes.
+pub returns-then-left-eq0-clause-operation : goal.returns-then-left-eq0-clause-operation
+returns-then-left-eq0-clause-operation c = λ s back stands goes.
     (round-ends (stock_parts c.args.stock.now) (record c.args.self.now { frames = c.pop.new.self }) s s.frames c.pop.new.self.items
     _ _ _ back stands.registers stands.dice refl
     (subst (λ (xs : List Frame). FramesStand (stock_parts c.args.stock.now) xs s.frames) (c.in-Some-Counting.ensures.items ∙ ap (λ (x : Frame). c.pop.new.self.items ++ x ∷ []) c.in-Some-Counting.field-0-is)
     stands.frames)
     goes c.if-left-eq0.true).1
 
-pub returns-in-Some-Cycling-clause-place : goal.returns-in-Some-Cycling-clause-place
-returns-in-Some-Cycling-clause-place c = λ s back stands goes.
+pub returns-in-Some-Cycling-clause-operation : goal.returns-in-Some-Cycling-clause-operation
+returns-in-Some-Cycling-clause-operation c = λ s back stands goes.
     absurd (no_list-goes_back (stock_parts c.args.stock.now) _ _ back c.pop.new.self.items s.frames
     (subst (λ (xs : List Frame). FramesStand (stock_parts c.args.stock.now) xs s.frames) (c.in-Some-Cycling.ensures.items ∙ ap (λ (x : Frame). c.pop.new.self.items ++ x ∷ []) c.in-Some-Cycling.field-0-is)
     stands.frames) goes)
