@@ -151,8 +151,8 @@ SHAPES = {
     "comments": repeated(b"formula 1;", b"#\n", b""),
 }
 
-# The three shapes that the aim on 1 MiB is measured on.
-AIMED = ["flat", "deepest", "phrases"]
+# The shapes that the aim on 1 MiB is measured on.
+AIMED = ["flat", "deepest", "phrases", "names"]
 
 # At the end of the phrases: one of them is brought in, and stands for 2^40 others.
 BROUGHT_IN = b"do x40;"
