@@ -1,5 +1,5 @@
 -- What the code's values stand for while programs are made.
-use Rattle.std.specs.Prelude.{◌≡◌, ◌<◌, List, [], map, length, reverse, slice_index_or}
+use Rattle.std.specs.Prelude.{◌≡◌, ◌<◌, List, [], map, length, reverse, slice_index_or, vec_items}
 use Rattle.fm_program.specs.declared.op.Span.{Span}
 use Rattle.fm_program.specs.declared.op.Span.TheVariants as span
 use Rattle.fm_program.specs.declared.op.Turn.{Turn}
@@ -8,6 +8,7 @@ use Rattle.fm_meaning.specs.Rules.{usual_gate, usual_velocity}
 use Rattle.fm_meaning.specs.Resolved.{duration, articulation, loudness}
 use Rattle.fm_expansion.specs.Homes as homes
 use Rattle.fm_expansion.specs.Homes.{turn_for, span_at, frames_of, slots_of, cycles_of}
+use Rattle.fm_expansion.specs.Emission.{forks_in}
 use Rattle.fm_expansion.specs.Expansion.{Emitting, expansion}
 use Rattle.fm_outline.specs.declared.lasting.Lasting.{Lasting}
 use Rattle.fm_outline.specs.declared.lasting.Lasting.TheVariants as lasting
@@ -17,6 +18,7 @@ use Rattle.fm_outline.specs.declared.step.Step.{Step}
 use Rattle.fm_outline.specs.declared.outline.Outline.{Outline}
 use Rattle.fm_outline.specs.View.{Look, look_in, outline_view, phrases_view}
 use Rattle.fm_plan.specs.declared.emitter.Emitter.{Emitter}
+use Rattle.fm_plan.specs.declared.expanding.Earlier.{Earlier}
 use Rattle.fm_plan.specs.declared.inside.Inside.{Inside}
 
 -- the programs that an emitter holds
@@ -65,6 +67,14 @@ pub record Agrees (m : Emitter) (c : Inside) (i : homes.Inside) : Type 0 where
 -- what phrases stand for by their numbers
 abbrev pub look_at : List (List Step) → Look
 look_at earlier = look_in (phrases_view earlier)
+
+-- the same of those before a statement
+abbrev pub look_of : Earlier → Look
+look_of e = look_at (map vec_items e.bodies.now)
+
+-- it is said of each of them whether it forks
+abbrev pub IsKnown : Earlier → Type 0
+IsKnown e = e.forks.now ≡ map forks_in (phrases_view (map vec_items e.bodies.now))
 
 -- ---- plans
 

@@ -7,9 +7,9 @@ ghost use Rattle.fm_expansion.specs.Expansion as expansion;
 ghost use Rattle.fm_expansion.specs.Expansion.{straight, unrolled, with_scopes};
 ghost use Rattle.fm_program.specs.Parts.{program_parts};
 ghost use Rattle.fm_outline.specs.View.{arms_of_blocks, block_view, outline_view};
-ghost use Rattle.fm_outline.specs.View.{phrases_view, quality_view, step_view};
+ghost use Rattle.fm_outline.specs.View.{quality_view, step_view};
 ghost use Rattle.fm_plan.specs.Made.{made, made_in};
-ghost use Rattle.fm_plan.specs.Seen.{emitting_of, look_at, Agrees, Makes};
+ghost use Rattle.fm_plan.specs.Seen.{emitting_of, look_of, Agrees, IsKnown, Makes};
 
 use crate::emitter::Emitter;
 use crate::forks::{is_written_out, phrases_fork};
@@ -25,6 +25,13 @@ pub struct Expanded {
     pub scopes: Scopes,
 }
 
+/// The phrases before a statement, by their numbers: their statements, and whether they fork.
+#[derive(Clone, Copy)]
+pub(crate) struct Earlier<'a> {
+    pub(crate) bodies: &'a [Vec<Step>],
+    pub(crate) forks: &'a [bool],
+}
+
 // How often a loop goes round that is written out.
 fn written_rounds(count: Count) -> u32
     ensures { result ≡ expansion.written_rounds count }
@@ -35,20 +42,19 @@ fn written_rounds(count: Count) -> u32
     }
 }
 
-// A statement. It names phrases of `earlier`, of which `forks` says which fork; it is written out
-// where `forking` says that it may fork.
+// A statement, which may name the phrases before it. It is written out where `forking` says that it
+// may fork.
 #[cycle(expand)]
 fn expand_step(
     m: &mut Emitter,
-    earlier: &[Vec<Step>],
-    forks: &[bool],
+    earlier: Earlier<'_>,
     step: &Step,
     inside: Inside,
     forking: bool,
 ) -> Result<(), AllocError>
-    requires known { forks.now ≡ map emission.forks_in (phrases_view (map vec_items earlier.now)) }
+    requires known { IsKnown earlier }
     ensures { (i : Open) → Agrees m.old inside i → IfOk result (λ _. Makes m.old m.new
-        (made forking (step_view (look_at (map vec_items earlier.now)) step.now).what i
+        (made forking (step_view (look_of earlier.entry) step.now).what i
         (emitting_of m.old))) }
 {
     match &step.what {
@@ -76,49 +82,42 @@ fn expand_step(
             scope: inside.scope,
         }),
         Instruction::Choice { expr, yes, no } => {
-            expand_choice(m, earlier, forks, *expr, yes, no, inside)
+            expand_choice(m, earlier, *expr, yes, no, inside)
         }
         Instruction::Loop { count, body } => {
-            if is_written_out(body, step.before_fork, forks, forking) {
-                expand_rounds(m, earlier, forks, *count, body, inside)
+            if is_written_out(body, step.before_fork, earlier.forks, forking) {
+                expand_rounds(m, earlier, *count, body, inside)
             } else {
-                expand_loop(m, earlier, forks, *count, body, inside)
+                expand_loop(m, earlier, *count, body, inside)
             }
         }
         Instruction::Phrase { number } => match *number {
-            Some(n) => expand_phrase(m, earlier, forks, n as usize, inside, forking),
+            Some(n) => expand_phrase(m, earlier, n as usize, inside, forking),
             None => Ok(()),
         },
         Instruction::Par { branches } => {
             if forking {
-                expand_fork(m, earlier, forks, branches, inside)
+                expand_fork(m, earlier, branches, inside)
             } else {
                 Ok(())
             }
         }
         Instruction::Warp { number, body } => {
-            expand_warp(m, earlier, forks, *number, body, inside, forking)
+            expand_warp(m, earlier, *number, body, inside, forking)
         }
         Instruction::Channel { number, body } => {
-            expand_steps(m, earlier, forks, body, inside.on_channel(*number), forking)
+            expand_steps(m, earlier, body, inside.on_channel(*number), forking)
         }
         Instruction::Steady {
             quality,
             entry,
             body,
-        } => expand_steps(
-            m,
-            earlier,
-            forks,
-            body,
-            inside.steady(*quality, *entry),
-            forking,
-        ),
+        } => expand_steps(m, earlier, body, inside.steady(*quality, *entry), forking),
         Instruction::Under {
             quality,
             list,
             body,
-        } => expand_list(m, earlier, forks, *quality, *list, body, inside, forking),
+        } => expand_list(m, earlier, *quality, *list, body, inside, forking),
     }
 }
 
@@ -126,19 +125,18 @@ fn expand_step(
 #[cycle(expand)]
 fn expand_steps(
     m: &mut Emitter,
-    earlier: &[Vec<Step>],
-    forks: &[bool],
+    earlier: Earlier<'_>,
     steps: &[Step],
     inside: Inside,
     forking: bool,
 ) -> Result<(), AllocError>
-    requires known { forks.now ≡ map emission.forks_in (phrases_view (map vec_items earlier.now)) }
+    requires known { IsKnown earlier }
     ensures { (i : Open) → Agrees m.old inside i → IfOk result (λ _. Makes m.old m.new
-        (made_in forking (block_view (look_at (map vec_items earlier.now)) steps.now) i
+        (made_in forking (block_view (look_of earlier.entry) steps.now) i
         (emitting_of m.old))) }
 {
     for step in steps {
-        expand_step(m, earlier, forks, step, inside, forking)?;
+        expand_step(m, earlier, step, inside, forking)?;
     }
     Ok(())
 }
@@ -147,26 +145,23 @@ fn expand_steps(
 #[cycle(expand)]
 fn expand_phrase(
     m: &mut Emitter,
-    earlier: &[Vec<Step>],
-    forks: &[bool],
+    earlier: Earlier<'_>,
     number: usize,
     inside: Inside,
     forking: bool,
 ) -> Result<(), AllocError>
-    requires known { forks.now ≡ map emission.forks_in (phrases_view (map vec_items earlier.now)) }
+    requires known { IsKnown earlier }
     ensures { (i : Open) → Agrees m.old inside i → IfOk result (λ _. Makes m.old m.new
-        (made_in forking (look_at (map vec_items earlier.now) number) i (emitting_of m.old))) }
+        (made_in forking (look_of earlier.entry number) i (emitting_of m.old))) }
 {
-    if number < earlier.len() && number < forks.len() {
-        let body = earlier[number].as_slice();
-        expand_steps(
-            m,
-            &earlier[..number],
-            &forks[..number],
-            body,
-            inside,
-            forking,
-        )
+    let Earlier { bodies, forks } = earlier;
+    if number < bodies.len() && number < forks.len() {
+        let before = Earlier {
+            bodies: &bodies[..number],
+            forks: &forks[..number],
+        };
+        let body = bodies[number].as_slice();
+        expand_steps(m, before, body, inside, forking)
     } else {
         Ok(())
     }
@@ -176,17 +171,16 @@ fn expand_phrase(
 #[cycle(expand)]
 fn expand_choice(
     m: &mut Emitter,
-    earlier: &[Vec<Step>],
-    forks: &[bool],
+    earlier: Earlier<'_>,
     expr: u32,
     yes: &[Step],
     no: &[Step],
     inside: Inside,
 ) -> Result<(), AllocError>
-    requires known { forks.now ≡ map emission.forks_in (phrases_view (map vec_items earlier.now)) }
+    requires known { IsKnown earlier }
     ensures { (i : Open) → Agrees m.old inside i → IfOk result (λ _. Makes m.old m.new
-        (straight (plain.choice expr (block_view (look_at (map vec_items earlier.now)) yes.now)
-        (block_view (look_at (map vec_items earlier.now)) no.now)) i (emitting_of m.old))) }
+        (straight (plain.choice expr (block_view (look_of earlier.entry) yes.now)
+        (block_view (look_of earlier.entry) no.now)) i (emitting_of m.old))) }
 {
     let test = m.size();
     let scope = inside.scope;
@@ -195,11 +189,11 @@ fn expand_choice(
         scope,
         past: 0,
     })?;
-    expand_steps(m, earlier, forks, yes, inside, false)?;
+    expand_steps(m, earlier, yes, inside, false)?;
     let jump = m.size();
     m.push(Op::Jump { target: 0 })?;
     let middle = m.next()?;
-    expand_steps(m, earlier, forks, no, inside, false)?;
+    expand_steps(m, earlier, no, inside, false)?;
     let target = m.next()?;
     m.set(jump, Op::Jump { target });
     m.set(
@@ -217,15 +211,14 @@ fn expand_choice(
 #[cycle(expand)]
 fn expand_loop(
     m: &mut Emitter,
-    earlier: &[Vec<Step>],
-    forks: &[bool],
+    earlier: Earlier<'_>,
     count: Count,
     body: &[Step],
     inside: Inside,
 ) -> Result<(), AllocError>
-    requires known { forks.now ≡ map emission.forks_in (phrases_view (map vec_items earlier.now)) }
+    requires known { IsKnown earlier }
     ensures { (i : Open) → Agrees m.old inside i → IfOk result (λ _. Makes m.old m.new
-        (straight (plain.loop count (block_view (look_at (map vec_items earlier.now)) body.now)) i
+        (straight (plain.loop count (block_view (look_of earlier.entry) body.now)) i
         (emitting_of m.old))) }
 {
     let start = m.size();
@@ -243,7 +236,7 @@ fn expand_loop(
         },
     )?;
     let deeper = inside.in_loop(scope)?;
-    expand_steps(m, earlier, forks, body, deeper, false)?;
+    expand_steps(m, earlier, body, deeper, false)?;
     m.push(Op::Again { back })?;
     let past = m.next()?;
     m.set(
@@ -261,23 +254,22 @@ fn expand_loop(
 #[cycle(expand)]
 fn expand_rounds(
     m: &mut Emitter,
-    earlier: &[Vec<Step>],
-    forks: &[bool],
+    earlier: Earlier<'_>,
     count: Count,
     body: &[Step],
     inside: Inside,
 ) -> Result<(), AllocError>
-    requires known { forks.now ≡ map emission.forks_in (phrases_view (map vec_items earlier.now)) }
+    requires known { IsKnown earlier }
     ensures { (i : Open) → Agrees m.old inside i → IfOk result (λ _. Makes m.old m.new
         (unrolled (λ j f. expansion.expand_in
-        (block_view (look_at (map vec_items earlier.now)) body.now)
+        (block_view (look_of earlier.entry) body.now)
         (in_scope (loop_round j) (length f.scopes) i)
         (with_scopes (slots_of (loop_round j ∷ i.homes) ∷ []) f))
         (expansion.written_rounds count) 0 (emitting_of m.old))) }
 {
     for round in 0..written_rounds(count) {
         let scope = m.add_scope(inside.scope, Slot::Fixed { value: round })?;
-        expand_steps(m, earlier, forks, body, inside.in_round(scope), true)?;
+        expand_steps(m, earlier, body, inside.in_round(scope), true)?;
     }
     Ok(())
 }
@@ -286,15 +278,14 @@ fn expand_rounds(
 #[cycle(expand)]
 fn expand_fork(
     m: &mut Emitter,
-    earlier: &[Vec<Step>],
-    forks: &[bool],
+    earlier: Earlier<'_>,
     branches: &[Vec<Step>],
     inside: Inside,
 ) -> Result<(), AllocError>
-    requires known { forks.now ≡ map emission.forks_in (phrases_view (map vec_items earlier.now)) }
+    requires known { IsKnown earlier }
     ensures { (i : Open) → Agrees m.old inside i → IfOk result (λ _. Makes m.old m.new
         (expansion.expand (plain.par (arms_of_blocks
-        (map (λ b. block_view (look_at (map vec_items earlier.now)) b.items) branches.now))) i
+        (map (λ b. block_view (look_of earlier.entry) b.items) branches.now))) i
         (emitting_of m.old))) }
 {
     let forked = as_index(m.finished.len())?;
@@ -303,7 +294,7 @@ fn expand_fork(
         let mut parent = Vec::new(m.alloc);
         parent.push(forked)?;
         m.next_program(parent)?;
-        expand_steps(m, earlier, forks, branch, inside, true)?;
+        expand_steps(m, earlier, branch, inside, true)?;
         lasts.push(as_index(m.finished.len())?)?;
     }
     m.next_program(lasts)?;
@@ -314,21 +305,20 @@ fn expand_fork(
 #[cycle(expand)]
 fn expand_warp(
     m: &mut Emitter,
-    earlier: &[Vec<Step>],
-    forks: &[bool],
+    earlier: Earlier<'_>,
     number: u32,
     body: &[Step],
     inside: Inside,
     forking: bool,
 ) -> Result<(), AllocError>
-    requires known { forks.now ≡ map emission.forks_in (phrases_view (map vec_items earlier.now)) }
+    requires known { IsKnown earlier }
     ensures { (i : Open) → Agrees m.old inside i → IfOk result (λ _. Makes m.old m.new
         (made forking (plain.warp number
-        (block_view (look_at (map vec_items earlier.now)) body.now)) i (emitting_of m.old))) }
+        (block_view (look_of earlier.entry) body.now)) i (emitting_of m.old))) }
 {
     m.push(Op::Enter { warp: number })?;
     m.levels.push(number)?;
-    expand_steps(m, earlier, forks, body, inside, forking)?;
+    expand_steps(m, earlier, body, inside, forking)?;
     m.levels.pop();
     m.push(Op::Leave)?;
     Ok(())
@@ -338,23 +328,22 @@ fn expand_warp(
 #[cycle(expand)]
 fn expand_list(
     m: &mut Emitter,
-    earlier: &[Vec<Step>],
-    forks: &[bool],
+    earlier: Earlier<'_>,
     quality: Quality,
     list: u32,
     body: &[Step],
     inside: Inside,
     forking: bool,
 ) -> Result<(), AllocError>
-    requires known { forks.now ≡ map emission.forks_in (phrases_view (map vec_items earlier.now)) }
+    requires known { IsKnown earlier }
     ensures { (i : Open) → Agrees m.old inside i → IfOk result (λ _. Makes m.old m.new
         (made forking (plain.under (quality_view quality) list
-        (block_view (look_at (map vec_items earlier.now)) body.now)) i (emitting_of m.old))) }
+        (block_view (look_of earlier.entry) body.now)) i (emitting_of m.old))) }
 {
     let deeper = inside.in_list(quality)?;
     m.push(Op::Begin { list })?;
     m.cycles.push(list)?;
-    expand_steps(m, earlier, forks, body, deeper, forking)?;
+    expand_steps(m, earlier, body, deeper, forking)?;
     m.cycles.pop();
     m.push(Op::Close)?;
     Ok(())
@@ -371,14 +360,11 @@ pub fn expand(alloc: Global, outline: &Outline, processes: u32) -> Result<Expand
 {
     let forks = phrases_fork(alloc, &outline.phrases)?;
     let mut m = Emitter::new(alloc, processes)?;
-    expand_steps(
-        &mut m,
-        &outline.phrases,
-        &forks,
-        &outline.block,
-        Inside::outermost(),
-        true,
-    )?;
+    let all = Earlier {
+        bodies: &outline.phrases,
+        forks: &forks,
+    };
+    expand_steps(&mut m, all, &outline.block, Inside::outermost(), true)?;
     let Emitter {
         mut finished,
         current,

@@ -11,7 +11,7 @@ use Rattle.fm_expansion.specs.Expansion.{Joined, whole, with_scopes, straight, u
 use Rattle.fm_outline.specs.View.{arms_of_blocks, block_view, phrases_view, step_view, quality_view}
 use Rattle.fm_outline.specs.declared.step.Step.{the_lemmas}
 use Rattle.fm_plan.specs.Made.{made, made_in}
-use Rattle.fm_plan.specs.Seen.{emitting_of, look_at, Agrees, Makes}
+use Rattle.fm_plan.specs.Seen.{emitting_of, look_at, look_of, Agrees, Makes}
 use Rattle.fm_plan.proofs.MadeLemmas.{drop_at, map_twice, made_phrase, made_channel, made_steady}
 use Rattle.fm_plan.proofs.AgreesLemmas.{agrees_channel, agrees_steady}
 use Rattle.fm_plan.proofs.Weights.{total, step_weight, steps_weight, phrases_weight, element_weight, phrase_weight}
@@ -19,8 +19,8 @@ use Rattle.fm_plan.proofs.PhraseLemmas.{phrase_stands, phrases_length, phrase_pa
 use Rattle.fm_plan.proofs.ExpandLemmas.{nothing, loop_written, loop_framed, choice_made, loop_made, list_made, warp_made, steps_on}
 use Rattle.fm_plan.proofs.ExpandLemmas.{rounds_on, fork_on}
 use Rattle.fm_plan.proofs.expanding.+expand.Goals as goal
-use Rattle.fm_plan.proofs.expanding.+expand.Goals.{expand_phrase-else-number-earlier-via-then-number-earlier+else-number-forks}
-use Rattle.fm_plan.proofs.expanding.+expand.Goals.{expand_phrase-else-number-earlier-via-else-number-earlier}
+use Rattle.fm_plan.proofs.expanding.+expand.Goals.{expand_phrase-else-number-bodies-via-then-number-bodies+else-number-forks}
+use Rattle.fm_plan.proofs.expanding.+expand.Goals.{expand_phrase-else-number-bodies-via-else-number-bodies}
 
 pub expand_choice-returns : goal.expand_choice-returns
 expand_choice-returns t c = λ i a.
@@ -41,7 +41,7 @@ expand_list-returns t c = λ i a.
     let many = c.expand_steps.new.m.cycles in
     let last : c.pop.new.self.items ≡ take (length many.items - 1) many.items =
     c.pop.ensures.rest ∙ ap (λ n. take (n - 1) many.items) (search rules) in
-    let body = block_view (look_at (map vec_items c.args.earlier.now)) c.args.body.now in
+    let body = block_view (look_of c.args.earlier) c.args.body.now in
     list_made _ _ _ _ _ _ _ _ i c.args.forking _ _ body a c.in_ok-deeper.ensures c.in_ok-push.ensures
     c.in_ok-expand_steps.ensures c.in_ok-push-3.ensures
     refl c.in_ok-push-2.ensures.items refl refl last refl
@@ -51,7 +51,7 @@ expand_warp-returns t c = λ i a.
     let many = c.expand_steps.new.m.levels in
     let last : c.pop.new.self.items ≡ take (length many.items - 1) many.items =
     c.pop.ensures.rest ∙ ap (λ n. take (n - 1) many.items) (search rules) in
-    let body = block_view (look_at (map vec_items c.args.earlier.now)) c.args.body.now in
+    let body = block_view (look_of c.args.earlier) c.args.body.now in
     warp_made _ _ _ _ _ _ _ i c.args.forking _ body a c.in_ok-push.ensures
     c.in_ok-expand_steps.ensures c.in_ok-push-3.ensures
     refl refl c.in_ok-push-2.ensures.items refl refl last
@@ -61,7 +61,7 @@ expand_warp-returns t c = λ i a.
 pub expand_steps-loop-step-preserved : goal.expand_steps-loop-step-preserved
 expand_steps-loop-step-preserved t c = λ i a.
     let h = c.loop-step.invariant i a in
-    let look = look_at (map vec_items c.args.earlier.now) in
+    let look = look_of c.args.earlier in
     let at = drop_at c.args.steps.now c.loop-step.step-index c.step-item.result c.loop-step-test.true c.step-item.is in
     let x = step_view look c.step-item.result in
     steps_on c.args.m.now c.loop-step.m c.expand_step.new.m c.args.inside i c.args.forking _ x.spot x.what
@@ -72,7 +72,7 @@ expand_steps-loop-step-preserved t c = λ i a.
 pub expand_rounds-loop-round-preserved : goal.expand_rounds-loop-round-preserved
 expand_rounds-loop-round-preserved t c = λ i a.
     let h = c.loop-round.invariant i a in
-    let body = block_view (look_at (map vec_items c.args.earlier.now)) c.args.body.now in
+    let body = block_view (look_of c.args.earlier) c.args.body.now in
     let end = c.written_rounds-round-end.result in
     let round = c.loop-round.round in
     let count : end - round ≡ suc (end - (round + 1)) = omega (arith, c.loop-round-test.true) in
@@ -89,7 +89,7 @@ expand_rounds-loop-round-preserved t c = λ i a.
 pub expand_fork-loop-branch-preserved : goal.expand_fork-loop-branch-preserved
 expand_fork-loop-branch-preserved t c = λ i a.
     let h = c.loop-branch.invariant i a in
-    let look = look_at (map vec_items c.args.earlier.now) in
+    let look = look_of c.args.earlier in
     let at = drop_at c.args.branches.now c.loop-branch.branch-index c.branch-item.result c.loop-branch-test.true c.branch-item.is in
     let e = emitting_of c.loop-branch.m in
     let forked = c.in_ok-forked.forked in
@@ -120,7 +120,7 @@ expand_steps-expand_step-requires t c =
     let part : step_weight c.step-item.result ≤ all =
     subst (λ x. step_weight x ≤ all) (sym c.step-item.is)
     (element_weight step_weight c.args.steps.now c.loop-step.step-index c.step-item.result c.loop-step-test.true) in
-    let less : 4 * (phrases_weight (map vec_items c.args.earlier.now) + step_weight c.step-item.result) < t =
+    let less : 4 * (phrases_weight (map vec_items c.args.earlier.bodies.now) + step_weight c.step-item.result) < t =
     omega (arith, c.decreases, part) in
     (less, c.requires.known)
 
@@ -131,7 +131,7 @@ expand_fork-expand_steps-requires t c =
     subst (λ b. steps_weight b.items ≤ all) (sym c.branch-item.is)
     (element_weight (λ b. steps_weight b.items) c.args.branches.now c.loop-branch.branch-index c.branch-item.result
     c.loop-branch-test.true) in
-    let less : 4 * (phrases_weight (map vec_items c.args.earlier.now) + steps_weight c.deref.result.now) + 1 < t =
+    let less : 4 * (phrases_weight (map vec_items c.args.earlier.bodies.now) + steps_weight c.deref.result.now) + 1 < t =
     omega (arith, c.decreases, part, ap steps_weight c.deref.ensures.value) in
     (less, c.requires.known)
 
@@ -139,62 +139,62 @@ pub expand_step-expand_fork-requires : goal.expand_step-expand_fork-requires
 expand_step-expand_fork-requires t c =
     let own : step_weight c.args.step.now ≡ 1 + total (map (λ b. steps_weight b.items) c.in-Par.branches.items)
     = search (rules, the_lemmas, map_twice) in
-    let less : 4 * (phrases_weight (map vec_items c.args.earlier.now)
+    let less : 4 * (phrases_weight (map vec_items c.args.earlier.bodies.now)
     + total (map (λ b. steps_weight b.items) c.deref-then-forking.result.now)) + 2 < t =
     omega (arith, c.decreases, own, ap (λ l. total (map (λ b. steps_weight b.items) l)) c.deref-then-forking.ensures.value) in
     (less, c.requires.known)
 
 pub expand_phrase-expand_steps-requires : goal.expand_phrase-expand_steps-requires
 expand_phrase-expand_steps-requires t c =
-    let ps = map vec_items c.args.earlier.now in
+    let ps = map vec_items c.args.earlier.bodies.now in
     let n = c.args.number in
-    let p = c.index-earlier-number.result in
-    let within : n < length c.args.earlier.now = omega (arith, c.if-number-earlier.true) in
-    let inside : n < length ps = omega (arith, within, length-map c.args.earlier.now vec_items) in
+    let p = c.index-bodies-number.result in
+    let within : n < length c.args.earlier.bodies.now = omega (arith, c.if-number-bodies.true) in
+    let inside : n < length ps = omega (arith, within, length-map c.args.earlier.bodies.now vec_items) in
     let body : slice_index_or ps n (vec_items p) ≡ vec_items p =
-    map_at vec_items c.args.earlier.now n p (vec_items p) within c.index-earlier-number.is in
-    let less : 4 * (phrases_weight (map vec_items (take n c.args.earlier.now)) + steps_weight c.as_slice-body.result.now) + 1 < t =
+    map_at vec_items c.args.earlier.bodies.now n p (vec_items p) within c.index-bodies-number.is in
+    let less : 4 * (phrases_weight (map vec_items (take n c.args.earlier.bodies.now)) + steps_weight c.as_slice-body.result.now) + 1 < t =
     omega (
       arith,
       c.decreases,
       phrase_weight ps n (vec_items p) inside,
       ap steps_weight body,
-      ap phrases_weight (map_take vec_items c.args.earlier.now n),
+      ap phrases_weight (map_take vec_items c.args.earlier.bodies.now n),
       ap steps_weight c.as_slice-body.ensures.value,
     ) in (
       less,
-      forks_take c.args.forks.now ps n c.requires.known
-          ∙ ap (λ l. map forks_in (phrases_view l)) (map_take vec_items c.args.earlier.now n),
+      forks_take c.args.earlier.forks.now ps n c.requires.known
+          ∙ ap (λ l. map forks_in (phrases_view l)) (map_take vec_items c.args.earlier.bodies.now n),
     )
 
 -- ---- phrases
 
 pub expand_phrase-returns-then-number-forks : goal.expand_phrase-returns-then-number-forks
 expand_phrase-returns-then-number-forks t c = λ i a.
-    let ps = map vec_items c.args.earlier.now in
+    let ps = map vec_items c.args.earlier.bodies.now in
     let n = c.args.number in
-    let p = c.index-earlier-number.result in
-    let within : n < length c.args.earlier.now = omega (arith, c.if-number-earlier.true) in
-    let inside : n < length ps = omega (arith, within, length-map c.args.earlier.now vec_items) in
-    let stands : look_at ps n ≡ block_view (look_at (map vec_items (take n c.args.earlier.now))) c.as_slice-body.result.now =
+    let p = c.index-bodies-number.result in
+    let within : n < length c.args.earlier.bodies.now = omega (arith, c.if-number-bodies.true) in
+    let inside : n < length ps = omega (arith, within, length-map c.args.earlier.bodies.now vec_items) in
+    let stands : look_at ps n ≡ block_view (look_at (map vec_items (take n c.args.earlier.bodies.now))) c.as_slice-body.result.now =
     phrase_stands ps n inside
-    ∙ ap₂ (λ l b. block_view (look_at l) b) (map_take vec_items c.args.earlier.now n)
-    (map_at vec_items c.args.earlier.now n p [] within c.index-earlier-number.is ∙ sym c.as_slice-body.ensures.value) in
+    ∙ ap₂ (λ l b. block_view (look_at l) b) (map_take vec_items c.args.earlier.bodies.now n)
+    (map_at vec_items c.args.earlier.bodies.now n p [] within c.index-bodies-number.is ∙ sym c.as_slice-body.ensures.value) in
     subst (λ b. IfOk c.expand_steps.result (λ _. Makes c.args.m.now c.expand_steps.new.m
     (made_in c.args.forking b i (emitting_of c.args.m.now)))) (sym stands) (c.expand_steps.ensures i a)
 
-pub expand_phrase-returns-else-number-earlier : goal.expand_phrase-returns-else-number-earlier
-expand_phrase-returns-else-number-earlier t c = λ i a.
-    let ps = map vec_items c.args.earlier.now in
+pub expand_phrase-returns-else-number-bodies : goal.expand_phrase-returns-else-number-bodies
+expand_phrase-returns-else-number-bodies t c = λ i a.
+    let ps = map vec_items c.args.earlier.bodies.now in
     let n = c.args.number in
-    let as_many : length c.args.forks.now ≡ length c.args.earlier.now =
+    let as_many : length c.args.earlier.forks.now ≡ length c.args.earlier.bodies.now =
     ap length c.requires.known ∙ length-map (phrases_view ps) forks_in ∙ phrases_length ps
-    ∙ length-map c.args.earlier.now vec_items in
-    let past : length ps ≤ n = elim c.else-number-earlier.branch [
-      | expand_phrase-else-number-earlier-via-then-number-earlier+else-number-forks w ↦
-          omega (arith, w.if-number-forks.false, as_many, length-map c.args.earlier.now vec_items)
-      | expand_phrase-else-number-earlier-via-else-number-earlier w ↦
-          omega (arith, w.if-number-earlier.false, length-map c.args.earlier.now vec_items)
+    ∙ length-map c.args.earlier.bodies.now vec_items in
+    let past : length ps ≤ n = elim c.else-number-bodies.branch [
+      | expand_phrase-else-number-bodies-via-then-number-bodies+else-number-forks w ↦
+          omega (arith, w.if-number-forks.false, as_many, length-map c.args.earlier.bodies.now vec_items)
+      | expand_phrase-else-number-bodies-via-else-number-bodies w ↦
+          omega (arith, w.if-number-bodies.false, length-map c.args.earlier.bodies.now vec_items)
     ] in
     nothing c.args.forking c.args.m.now _ i (phrase_past ps n past)
 
@@ -204,7 +204,7 @@ pub expand_step-returns-in-Some : goal.expand_step-returns-in-Some
 expand_step-returns-in-Some t c = λ i a.
     let f = c.args.forking in
     let e = emitting_of c.args.m.now in
-    let look = look_at (map vec_items c.args.earlier.now) in
+    let look = look_of c.args.earlier in
     let seen : (step_view look c.args.step.now).what ≡ plain.phrase (look c.in-Some.n) = search (rules, the_lemmas) in
     subst (λ x. IfOk c.expand_phrase.result (λ _. Makes c.args.m.now c.expand_phrase.new.m x))
     (sym (ap (λ w. made f w i e) seen ∙ made_phrase f (look c.in-Some.n) i e)) (c.expand_phrase.ensures i a)
@@ -213,7 +213,7 @@ pub expand_step-returns-in-Channel : goal.expand_step-returns-in-Channel
 expand_step-returns-in-Channel t c = λ i a.
     let f = c.args.forking in
     let e = emitting_of c.args.m.now in
-    let look = look_at (map vec_items c.args.earlier.now) in
+    let look = look_of c.args.earlier in
     let n = c.in-Channel.number in
     let inside : homes.Inside = record i { channel = n } in
     let seen : (step_view look c.args.step.now).what ≡ plain.channel n (block_view look c.in-Channel.body.items)
@@ -228,7 +228,7 @@ pub expand_step-returns-in-Steady : goal.expand_step-returns-in-Steady
 expand_step-returns-in-Steady t c = λ i a.
     let f = c.args.forking in
     let e = emitting_of c.args.m.now in
-    let look = look_at (map vec_items c.args.earlier.now) in
+    let look = look_of c.args.earlier in
     let q = c.in-Steady.quality in
     let v = c.in-Steady.entry in
     let inside = at_home (list_of_one (quality_view q) v) i in
@@ -243,7 +243,7 @@ expand_step-returns-in-Steady t c = λ i a.
 pub expand_step-returns-then-forking : goal.expand_step-returns-then-forking
 expand_step-returns-then-forking t c = λ i a.
     let e = emitting_of c.args.m.now in
-    let look = look_at (map vec_items c.args.earlier.now) in
+    let look = look_of c.args.earlier in
     let seen : (step_view look c.args.step.now).what
     ≡ plain.par (arms_of_blocks (map (λ b. block_view look b.items) c.in-Par.branches.items))
     = search (rules, the_lemmas, map_twice) in
@@ -256,14 +256,14 @@ pub expand_step-returns-then-is_written_out : goal.expand_step-returns-then-is_w
 expand_step-returns-then-is_written_out t c = λ i a.
     let f = c.args.forking in
     let e = emitting_of c.args.m.now in
-    let ps = map vec_items c.args.earlier.now in
+    let ps = map vec_items c.args.earlier.bodies.now in
     let look = look_at ps in
     let count = c.in-Loop.count in
     let own = c.in-Loop.body.items in
     let seen : (step_view look c.args.step.now).what ≡ plain.loop count (block_view look own) = search (rules, the_lemmas) in
     let out : (f && forks_in (block_view look own)) ≡ true =
     ap (λ b. f && forks_in (block_view look b)) (sym c.deref-in-Loop.ensures.value)
-    ∙ sym (c.is_written_out.ensures look (forks_known c.args.forks.now ps c.requires.known)) ∙ c.if-is_written_out.true in
+    ∙ sym (c.is_written_out.ensures look (forks_known c.args.earlier.forks.now ps c.requires.known)) ∙ c.if-is_written_out.true in
     subst (λ x. IfOk c.expand_rounds.result (λ _. Makes c.args.m.now c.expand_rounds.new.m x))
     (sym (ap (λ w. made f w i e) seen ∙ loop_written f count (block_view look own) i e out
     ∙ ap (λ b. unrolled (λ j g. expand_in (block_view look b) (in_scope (loop_round j) (length g.scopes) i)
@@ -275,14 +275,14 @@ pub expand_step-returns-else-is_written_out : goal.expand_step-returns-else-is_w
 expand_step-returns-else-is_written_out t c = λ i a.
     let f = c.args.forking in
     let e = emitting_of c.args.m.now in
-    let ps = map vec_items c.args.earlier.now in
+    let ps = map vec_items c.args.earlier.bodies.now in
     let look = look_at ps in
     let count = c.in-Loop.count in
     let own = c.in-Loop.body.items in
     let seen : (step_view look c.args.step.now).what ≡ plain.loop count (block_view look own) = search (rules, the_lemmas) in
     let framed : (f && forks_in (block_view look own)) ≡ false =
     ap (λ b. f && forks_in (block_view look b)) (sym c.deref-in-Loop.ensures.value)
-    ∙ sym (c.is_written_out.ensures look (forks_known c.args.forks.now ps c.requires.known)) ∙ c.if-is_written_out.false in
+    ∙ sym (c.is_written_out.ensures look (forks_known c.args.earlier.forks.now ps c.requires.known)) ∙ c.if-is_written_out.false in
     subst (λ x. IfOk c.expand_loop.result (λ _. Makes c.args.m.now c.expand_loop.new.m x))
     (sym (ap (λ w. made f w i e) seen ∙ loop_framed f count (block_view look own) i e framed
     ∙ ap (λ b. straight (plain.loop count (block_view look b)) i e) (sym c.deref-else-is_written_out.ensures.value)))
