@@ -4,4 +4,3 @@ pub mod Conducting
 pub mod Filing
 pub mod Beginnings
 pub mod Tapes
-mod Slices

@@ -4,7 +4,6 @@ ghost use Rattle.fm_buffer.specs.declared.outbox.TheConstants.{MAX_ROOM};
 ghost use Rattle.fm_core.specs.declared.limits.TheConstants.{MAX_LEAD, MAX_SEATS};
 
 mod bounded;
-mod meeting;
 mod taped;
 
 use crate::{open, play};
