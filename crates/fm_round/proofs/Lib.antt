@@ -17,5 +17,4 @@ pub mod Passing
 pub mod Listing
 pub mod Following
 pub mod Watched
-pub mod Rows
 mod Numerals

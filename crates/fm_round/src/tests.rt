@@ -1,6 +1,10 @@
-//! Two voices that start together and end at different times, played in both ways.
+//! Three voices that start together and end at different times, played in both ways.
+ghost use Rattle.std.specs.Prelude.{◌≡◌, [], ◌∷◌, IfOk, pos};
+ghost use Rattle.fm_program.specs.Parts.{program_parts, stock_parts};
+ghost use Rattle.fm_program.specs.declared.op.Draw.TheVariants as draw;
+
 use crate::{Played, Rounds};
-use fm_edge::{MeetGate, MemorySink, OpenGate};
+use fm_edge::{MeetGate, MemorySink};
 use fm_msg::Profile;
 use fm_program::{Draw, Op, Plan, Program, Scopes, Span, Stock, Turn};
 use std::alloc::{AllocError, Global};
@@ -8,22 +12,16 @@ use std::process::Abort;
 use std::test::*;
 use std::thread::Threads;
 
-/// The file: two note-ons at 0, note-offs at 216 and 432, the end at 480.
-const FILE: [u8; 51] = [
-    0x4D, 0x54, 0x68, 0x64, 0, 0, 0, 6, 0, 0, 0, 1, 1, 0xE0, 0x4D, 0x54, 0x72, 0x6B, 0, 0, 0, 0x1D,
-    0, 0xFF, 0x51, 3, 7, 0xA1, 0x20, 0, 0x90, 0x3C, 0x40, 0, 0x90, 0x40, 0x40, 0x81, 0x58, 0x80,
-    0x40, 0x40, 0x81, 0x58, 0x80, 0x3C, 0x40, 0x30, 0xFF, 0x2F, 0,
-];
-
-/// The same with running status and 96 ticks a quarter note.
-const RUNNING: [u8; 49] = [
-    0x4D, 0x54, 0x68, 0x64, 0, 0, 0, 6, 0, 0, 0, 1, 0, 0x60, 0x4D, 0x54, 0x72, 0x6B, 0, 0, 0, 0x1B,
-    0, 0xFF, 0x51, 3, 7, 0xA1, 0x20, 0, 0x90, 0x3C, 0x40, 0, 0x40, 0x40, 0x81, 0x58, 0x80, 0x40,
-    0x40, 0x81, 0x58, 0x3C, 0x40, 0x30, 0xFF, 0x2F, 0,
+/// The file: three note-ons at 0, note-offs at 216, 432 and 864, the end at 960.
+const FILE: [u8; 60] = [
+    0x4D, 0x54, 0x68, 0x64, 0, 0, 0, 6, 0, 0, 0, 1, 1, 0xE0, 0x4D, 0x54, 0x72, 0x6B, 0, 0, 0, 0x26,
+    0, 0xFF, 0x51, 3, 7, 0xA1, 0x20, 0, 0x90, 0x3C, 0x40, 0, 0x90, 0x40, 0x40, 0, 0x90, 0x43, 0x40,
+    0x81, 0x58, 0x80, 0x40, 0x40, 0x81, 0x58, 0x80, 0x3C, 0x40, 0x83, 0x30, 0x80, 0x43, 0x40, 0x60,
+    0xFF, 0x2F, 0,
 ];
 
 /// A quarter note of the first chord.
-const LONG: Op = Op::Note {
+const QUARTER: Op = Op::Note {
     chord: 0,
     span: Span::Ticks { ticks: 480 },
     channel: 0,
@@ -33,7 +31,7 @@ const LONG: Op = Op::Note {
 };
 
 /// An eighth note of the second one.
-const SHORT: Op = Op::Note {
+const EIGHTH: Op = Op::Note {
     chord: 1,
     span: Span::Ticks { ticks: 240 },
     channel: 0,
@@ -42,99 +40,101 @@ const SHORT: Op = Op::Note {
     scope: 0,
 };
 
-// Two voices between two empty processes.
-fn plan_of_two_voices(alloc: Global, profile: Profile) -> Result<Plan, AllocError> {
+/// A half note of the third one.
+const HALF: Op = Op::Note {
+    chord: 2,
+    span: Span::Ticks { ticks: 960 },
+    channel: 0,
+    gate: Turn::Steady { value: 90 },
+    loud: Turn::Steady { value: 64 },
+    scope: 0,
+};
+
+// Three chords of one key each.
+fn three_chords(alloc: Global) -> Result<Stock, AllocError>
+    ensures { IfOk result (λ s. stock_parts s ≡ record {
+      exprs = [];
+      lists = [];
+      chords = (draw.Fixed (pos 60) ∷ []) ∷ (draw.Fixed (pos 64) ∷ [])
+          ∷ (draw.Fixed (pos 67) ∷ []) ∷ [];
+      scopes = [] ∷ [];
+      warps = [];
+    }) }
+{
     let first = vec![in alloc; Draw::Fixed { value: 60 }]?;
     let second = vec![in alloc; Draw::Fixed { value: 64 }]?;
-    let stock = Stock {
+    let third = vec![in alloc; Draw::Fixed { value: 67 }]?;
+    Ok(Stock {
         exprs: Vec::new(alloc),
         lists: Vec::new(alloc),
-        chords: vec![in alloc; first, second]?,
+        chords: vec![in alloc; first, second, third]?,
         scopes: Scopes::new(alloc),
         warps: Vec::new(alloc),
-    };
-    let root = Program {
-        ops: Vec::new(alloc),
-        cycles: Vec::new(alloc),
-        levels: Vec::new(alloc),
-        predecessors: Vec::new(alloc),
-    };
-    let long = Program {
-        ops: vec![in alloc; LONG]?,
-        cycles: Vec::new(alloc),
-        levels: Vec::new(alloc),
-        predecessors: vec![in alloc; 0]?,
-    };
-    let short = Program {
-        ops: vec![in alloc; SHORT]?,
-        cycles: Vec::new(alloc),
-        levels: Vec::new(alloc),
-        predecessors: vec![in alloc; 0]?,
-    };
-    let close = Program {
-        ops: Vec::new(alloc),
-        cycles: Vec::new(alloc),
-        levels: Vec::new(alloc),
-        predecessors: vec![in alloc; 1, 2]?,
-    };
-    let programs = vec![in alloc; root, long, short, close]?;
-    Ok(Plan::of(stock, programs, 0, profile))
+    })
 }
 
-// Plays the plan on one thread.
-fn plays_alone<R: Abort + AllocGlobal>(rt: &R, plan: Plan, file: &[u8]) -> Result<(), Fail> {
-    let alloc = rt.alloc();
-    let mut sink = MemorySink::new(alloc, 100, Vec::new(alloc))?;
-    let played = Rounds::open(alloc, plan, 1, 0)?.play_alone(&mut sink).ok();
-    has_played(rt, played, file.len());
-    assert_eq!(rt; sink.content(), file);
-    Ok(())
+// These operations behind these processes.
+fn behind(alloc: Global, predecessors: Vec<u32>, ops: Vec<Op>) -> Program
+    ensures { program_parts result ≡ record {
+      ops = ops.items;
+      cycles = [];
+      levels = [];
+      predecessors = predecessors.items;
+    } }
+{
+    Program {
+        ops,
+        cycles: Vec::new(alloc),
+        levels: Vec::new(alloc),
+        predecessors,
+    }
 }
 
-// Plays the plan on four threads.
-fn plays_shared<R: Abort + AllocGlobal + Threads + Sync>(
-    rt: &R,
-    plan: Plan,
-    file: &[u8],
-) -> Result<(), Fail> {
-    let alloc = rt.alloc();
-    let mut sink = MemorySink::new(alloc, 100, Vec::new(alloc))?;
-    let rounds = Rounds::open(alloc, plan, 64, 1_000_000)?;
-    let played = rounds.play(rt, 4, &OpenGate, &mut sink).ok();
-    has_played(rt, played, file.len());
-    assert_eq!(rt; sink.content(), file);
-    Ok(())
+// A note behind process 0.
+fn voice(alloc: Global, note: Op) -> Result<Program, AllocError>
+    ensures { IfOk result (λ p. program_parts p ≡ record {
+      ops = note ∷ [];
+      cycles = [];
+      levels = [];
+      predecessors = 0 ∷ [];
+    }) }
+{
+    let ops = vec![in alloc; note]?;
+    Ok(behind(alloc, vec![in alloc; 0]?, ops))
 }
 
-// Compares the size of the piece.
-fn has_played<R: Abort>(rt: &R, played: Option<Played>, bytes: usize) {
+// Three voices between two empty processes.
+fn plan_of_three_voices(alloc: Global) -> Result<Plan, AllocError> {
+    let root = behind(alloc, Vec::new(alloc), Vec::new(alloc));
+    let quarter = voice(alloc, QUARTER)?;
+    let eighth = voice(alloc, EIGHTH)?;
+    let half = voice(alloc, HALF)?;
+    let close = behind(alloc, vec![in alloc; 1, 2, 3]?, Vec::new(alloc));
+    let programs = vec![in alloc; root, quarter, eighth, half, close]?;
+    let stock = three_chords(alloc)?;
+    Ok(Plan::of(stock, programs, 0, Profile::first()))
+}
+
+// Compares what is told of the piece and what the sink holds.
+fn has_played<R: Abort>(rt: &R, played: Option<Played>, sink: &MemorySink) {
     assert_eq!(rt;
-        played.map(|p| (p.events, p.last, p.bytes)),
-        Some((4, 480, bytes as u64))
+        (played.map(|p| (p.events, p.last, p.bytes)), sink.content()),
+        (Some((6, 960, 60)), FILE.as_slice())
     );
 }
 
 #[test]
-fn two_voices_have_these_bytes(rt: HostRuntime) -> Result<(), Fail> {
+fn three_voices_have_these_bytes_on_one_thread(rt: HostRuntime) -> Result<(), Fail> {
     let alloc = rt.alloc();
-    let plan = plan_of_two_voices(alloc, Profile::first())?;
-    let copy = plan.copy(alloc)?;
-    plays_alone(&rt, plan, &FILE)?;
-    plays_shared(&rt, copy, &FILE)
+    let mut sink = MemorySink::new(alloc, 100, Vec::new(alloc))?;
+    let plan = plan_of_three_voices(alloc)?;
+    let played = Rounds::open(alloc, plan, 1, 0)?.play_alone(&mut sink).ok();
+    has_played(&rt, played, &sink);
+    Ok(())
 }
 
-#[test]
-fn a_plan_with_running_status_has_these_bytes(rt: HostRuntime) -> Result<(), Fail> {
-    let profile = Profile {
-        running: true,
-        division: 96,
-    };
-    let plan = plan_of_two_voices(rt.alloc(), profile)?;
-    plays_alone(&rt, plan, &RUNNING)
-}
-
-// Plays two voices on four threads and a gate that holds process 1 until process 2 has begun so
-// many slices, for so many turns. Says whether they met.
+// Plays them on four threads and a gate that holds process 1 until process 2 has begun so many
+// slices, for so many turns. Says whether they met.
 fn meets_in_rounds<R: Abort + AllocGlobal + Threads + Sync>(
     rt: &R,
     laps: u32,
@@ -142,24 +142,19 @@ fn meets_in_rounds<R: Abort + AllocGlobal + Threads + Sync>(
 ) -> Result<bool, Fail> {
     let alloc = rt.alloc();
     let gate = MeetGate::new(1, 2, laps, turns);
-    let plan = plan_of_two_voices(alloc, Profile::first())?;
     let mut sink = MemorySink::new(alloc, 100, Vec::new(alloc))?;
+    let plan = plan_of_three_voices(alloc)?;
     let rounds = Rounds::open(alloc, plan, 32, 7_680)?;
     let played = rounds.play(rt, 4, &gate, &mut sink).ok();
-    has_played(rt, played, FILE.len());
-    assert_eq!(rt; sink.content(), FILE.as_slice());
+    has_played(rt, played, &sink);
     Ok(gate.met())
 }
 
+// Two threads of one round meet. A round has one slice of each process, so a second one of process
+// 2 does not come while the first one of process 1 is held.
 #[test]
-fn threads_of_one_round_meet(rt: HostRuntime) -> Result<(), Fail> {
+fn a_round_has_one_slice_of_each_process(rt: HostRuntime) -> Result<(), Fail> {
     assert!(&rt; meets_in_rounds(&rt, 1, 67_108_864)?);
-    Ok(())
-}
-
-// A round has one slice of each process.
-#[test]
-fn no_process_has_two_slices_in_a_round(rt: HostRuntime) -> Result<(), Fail> {
     assert!(&rt; !meets_in_rounds(&rt, 2, 1_000)?);
     Ok(())
 }
