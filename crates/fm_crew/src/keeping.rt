@@ -20,7 +20,7 @@ ghost use Rattle.fm_board.specs.View.{InTurn, looked, noted, processes, publishe
 ghost use Rattle.fm_crew.specs.Keeping.{Keeps, claim_step, is_news, look_step, pace_step, start_step};
 
 use crate::Work;
-use crate::known::{Known, is_same_floor};
+use crate::known::Known;
 use fm_board::{Berth, Board, BoardSeat, Claim, Seen, Started};
 use fm_buffer::Gather;
 use fm_core::{Floor, MAX_SEATS, Step};
@@ -226,7 +226,7 @@ fn step_of_pace(seat: u32, before: Floor, floor: Floor) -> Option<Step>
     ensures step { result ≡ pace_step seat before floor }
     ensures fits { IfSome result HasFields }
 {
-    if is_same_floor(before, floor) {
+    if before.is_same(floor) {
         None
     } else {
         Some(Step::Pace { seat })
