@@ -2,9 +2,9 @@ ghost use Rattle.std.specs.Prelude.{◌≡◌, [], IfOk};
 
 mod breaks;
 mod damaged;
-mod lines;
 mod meets;
 mod runs;
+mod scores;
 mod scripted;
 mod tasks;
 mod texts;
@@ -166,4 +166,13 @@ fn repeated(
     }
     text.push_str(ends.1)?;
     Ok(text)
+}
+
+// The bytes as digits to the base 31, modulo 2^32.
+fn sum_of(bytes: &[u8]) -> u32 {
+    let mut sum = 0u32;
+    for byte in bytes {
+        sum = sum.wrapping_mul(31).wrapping_add(u32::from(*byte));
+    }
+    sum
 }

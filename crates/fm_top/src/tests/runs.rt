@@ -1,6 +1,7 @@
 //! Runs of each task, whole and with calls that fail, and what each leaves.
 
 use super::damaged::RECORD;
+use super::scores::STARTS;
 use super::tasks::TASKS;
 use super::{FILES, Faults, NOTE, QUARTER, SOUND, check_left, file_with, run_on};
 use std::alloc::{AllocError, Global};
@@ -212,7 +213,7 @@ fn check_row<R: Threads + Wait + Sync + Abort>(
 #[test]
 fn runs_leave_what_was_worked_out(rt: HostRuntime) -> Result<(), Fail> {
     let alloc = rt.alloc();
-    for rows in [PLAYED, TASKS, RECORDS] {
+    for rows in [PLAYED, TASKS, STARTS, RECORDS] {
         for row in rows {
             check_row(&rt, alloc, row)?;
         }

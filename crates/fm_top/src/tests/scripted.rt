@@ -1,7 +1,6 @@
 //! Small scores played by a conductor and one worker, whose time slices begin in the order that a
 //! script says.
-use super::lines::sum_of;
-use super::{CAPACITY, words_of};
+use super::{CAPACITY, sum_of, words_of};
 use crate::formula;
 use fm_edge::{Gate, MemorySink, Moment, SureSource};
 use std::alloc::{AllocError, Global};

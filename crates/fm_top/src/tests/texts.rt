@@ -1,5 +1,6 @@
 //! Texts that become files, and texts that are refused.
 
+use super::scores::SCORES;
 use super::{
     FILES, NOTE, QUARTER, SOUND, THREE_BRANCHES, THREE_TRACK, check_left, file_with, repeated,
     run_on,
@@ -12,7 +13,7 @@ use std::test::Fail;
 use std::thread::Threads;
 
 /// Words, a text that is played, and its track behind the tempo.
-type Piece = (&'static str, &'static [u8], &'static [u8]);
+pub type Piece = (&'static str, &'static [u8], &'static [u8]);
 
 /// Pieces with the bytes that are worked out for them.
 const PLAYED: &[Piece] = &[
@@ -261,8 +262,10 @@ fn check_refusal<R: Threads + Wait + Sync + Abort>(
 #[test]
 fn texts_become_files(rt: HostRuntime) -> Result<(), Fail> {
     let alloc = rt.alloc();
-    for piece in PLAYED {
-        check_file(&rt, alloc, piece)?;
+    for pieces in [PLAYED, SCORES] {
+        for piece in pieces {
+            check_file(&rt, alloc, piece)?;
+        }
     }
     Ok(())
 }

@@ -1,7 +1,12 @@
-//! Pieces under each way of playing.
+//! Pieces under each way of playing, and their plans.
 
-use super::lines::sum_of;
-use super::{THREE_BRANCHES, repeated, run_on};
+use super::tasks::MANY_PROCESSES;
+use super::{CAPACITY, FILES, NOTE, SOUND, THREE_BRANCHES, repeated, run_on, sum_of};
+use crate::run_fault::RunFault;
+use crate::score::read_score;
+use fm_edge::{MemorySink, SureSource};
+use fm_program::Plan;
+use fm_round::Rounds;
 use std::alloc::{AllocError, Global};
 use std::process::Abort;
 use std::sync::Wait;
@@ -130,5 +135,70 @@ fn a_length_of_which_three_bytes_are_written(rt: HostRuntime) -> Result<(), Fail
     let alloc = rt.alloc();
     let run = ("a.txt b.mid --workers 0", LONGEST);
     check_sum(&rt, alloc, run, &[(4_099, 3)], (4, FILE_OF_LONGEST))?;
+    Ok(())
+}
+
+/// Texts, and of their plans how many processes there are, how many events are played, the tick of
+/// the end and the bytes of the file.
+const TOTALS: &[(&[u8], Totals)] = &[
+    (NOTE, (1, 2, 480, 42)),
+    (PIECE, (6, 8_000, 403_440, 33_486)),
+    (MANY_PROCESSES, (4_096, 0, 0, 33)),
+];
+
+type Totals = (u32, u64, u64, u64);
+
+fn plan_of(alloc: Global, text: &[u8]) -> Result<Plan, RunFault> {
+    let mut source = SureSource::new(text.to_vec(alloc)?);
+    read_score(alloc, None, &mut source)
+}
+
+fn copy_of(alloc: Global, text: &[u8]) -> Result<Plan, RunFault> {
+    let plan = plan_of(alloc, text)?;
+    Ok(plan.copy(alloc)?)
+}
+
+// Plays a plan on the caller's thread. Gives its totals and the file.
+fn play_plan(alloc: Global, plan: Plan) -> Result<(Option<Totals>, MemorySink), AllocError> {
+    let processes = plan.processes();
+    let mut sink = MemorySink::new(alloc, CAPACITY, Vec::new(alloc))?;
+    let rounds = Rounds::open(alloc, plan, 32, 7_680)?;
+    let played = rounds.play_alone(&mut sink).ok();
+    Ok((played.map(|p| (processes, p.events, p.last, p.bytes)), sink))
+}
+
+// Compares what a plan plays with its totals, and with the file of its text.
+fn check_plan<R: Abort>(
+    rt: &R,
+    alloc: Global,
+    plan: Plan,
+    totals: Totals,
+    file: &[u8],
+) -> Result<(), AllocError> {
+    let (played, sink) = play_plan(alloc, plan)?;
+    assert_eq!(rt; (played, sink.content()), (Some(totals), file));
+    Ok(())
+}
+
+// Compares what the plan of a text plays, and what its copy does.
+fn check_plans<R: Abort + Threads + Wait + Sync>(
+    rt: &R,
+    alloc: Global,
+    text: &[u8],
+    totals: Totals,
+) -> Result<(), RunFault> {
+    let ran = run_on(rt, alloc, FILES, text, SOUND)?;
+    let file = ran.sink.content();
+    check_plan(rt, alloc, plan_of(alloc, text)?, totals, file)?;
+    check_plan(rt, alloc, copy_of(alloc, text)?, totals, file)?;
+    Ok(())
+}
+
+#[test]
+fn a_plan_and_its_copy_have_the_file_of_the_text(rt: HostRuntime) -> Result<(), Fail> {
+    let alloc = rt.alloc();
+    for (text, totals) in TOTALS {
+        check_plans(&rt, alloc, text, *totals)?;
+    }
     Ok(())
 }
