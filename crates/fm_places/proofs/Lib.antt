@@ -1,7 +1,4 @@
-pub mod BothLemmas
-pub mod LoopLemmas
-pub mod FirstLemmas
-pub mod TellsLemmas
-pub mod BlockTells
-pub mod PlayTells
-pub mod FirstPlaces
+pub mod NumberLemmas
+pub mod NeedsLemmas
+pub mod PassageLemmas
+pub mod PhraseLemmas

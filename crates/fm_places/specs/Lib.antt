@@ -1,3 +1,2 @@
 pub mod Needs
-pub mod Statements
 pub mod Found

@@ -1,9 +1,11 @@
 //! How many loops have to be open for the indices that are asked for.
 
-ghost use Rattle.std.specs.Prelude.{◌≡◌, ◌∷◌, [], map};
+ghost use Rattle.std.specs.Prelude.{◌≡◌, ◌||◌, ℕ, map, nat_lt};
+ghost use Rattle.std.specs.List.{list_any};
 ghost use Rattle.fm_expansion.specs.Outline.{expr_in, chord_in, source_of, length_of, rounds_of};
+ghost use Rattle.fm_meaning.specs.Places.{is_outside, has_outside, draw_outside};
+ghost use Rattle.fm_meaning.specs.Places.{span_outside, count_outside};
 ghost use Rattle.fm_outline.specs.View.{tables_view, lasting_view};
-ghost use Rattle.fm_places.specs.Needs.{loops_of, draw_loops, draws_loops, span_loops, count_loops};
 
 use fm_outline::{Lasting, Tables};
 use fm_program::{Count, Draw};
@@ -11,7 +13,7 @@ use fm_value::Node;
 
 // For a node.
 fn loops_of_node(node: Node) -> u32
-    ensures { result ≡ loops_of (node ∷ []) }
+    ensures { (l : ℕ) → nat_lt l result ≡ is_outside l node }
 {
     match node {
         Node::Index(index) => u32::from(index) + 1,
@@ -33,7 +35,7 @@ fn loops_of_node(node: Node) -> u32
 
 // For an expression.
 fn loops_of_nodes(nodes: &[Node]) -> u32
-    ensures { result ≡ loops_of nodes.now }
+    ensures { (l : ℕ) → nat_lt l result ≡ has_outside l nodes.now }
 {
     let mut loops = 0;
     for node in nodes {
@@ -44,7 +46,7 @@ fn loops_of_nodes(nodes: &[Node]) -> u32
 
 /// For an expression by its place in the table.
 pub(crate) fn loops_of_expr(tables: &Tables, expr: u32) -> u32
-    ensures { result ≡ loops_of (expr_in (tables_view tables.now) expr) }
+    ensures { (l : ℕ) → nat_lt l result ≡ has_outside l (expr_in (tables_view tables.now) expr) }
 {
     match tables.exprs.get(expr as usize) {
         Some(expr) => loops_of_nodes(&expr.nodes),
@@ -54,7 +56,8 @@ pub(crate) fn loops_of_expr(tables: &Tables, expr: u32) -> u32
 
 /// For a number of a message.
 pub(crate) fn loops_of_draw(tables: &Tables, draw: Draw) -> u32
-    ensures { result ≡ draw_loops (source_of (tables_view tables.now) draw) }
+    ensures { (l : ℕ) → nat_lt l result
+        ≡ draw_outside l (source_of (tables_view tables.now) draw) }
 {
     match draw {
         Draw::Fixed { .. } => 0,
@@ -64,7 +67,8 @@ pub(crate) fn loops_of_draw(tables: &Tables, draw: Draw) -> u32
 
 // For the pitches of a note.
 fn loops_of_draws(tables: &Tables, draws: &[Draw]) -> u32
-    ensures { result ≡ draws_loops (map (source_of (tables_view tables.now)) draws.now) }
+    ensures { (l : ℕ) → nat_lt l result
+        ≡ list_any (draw_outside l) (map (source_of (tables_view tables.now)) draws.now) }
 {
     let mut loops = 0;
     for draw in draws {
@@ -73,10 +77,10 @@ fn loops_of_draws(tables: &Tables, draws: &[Draw]) -> u32
     loops
 }
 
-/// For a chord by its place in the table.
-pub(crate) fn loops_of_chord(tables: &Tables, chord: u32) -> u32
-    ensures { result ≡ draws_loops (map (source_of (tables_view tables.now))
-        (chord_in (tables_view tables.now) chord)) }
+// For a chord by its place in the table.
+fn loops_of_chord(tables: &Tables, chord: u32) -> u32
+    ensures { (l : ℕ) → nat_lt l result ≡ list_any (draw_outside l)
+        (map (source_of (tables_view tables.now)) (chord_in (tables_view tables.now) chord)) }
 {
     match tables.chords.get(chord as usize) {
         Some(draws) => loops_of_draws(tables, draws),
@@ -86,8 +90,8 @@ pub(crate) fn loops_of_chord(tables: &Tables, chord: u32) -> u32
 
 /// For a duration.
 pub(crate) fn loops_of_lasting(tables: &Tables, lasting: Lasting) -> u32
-    ensures { result
-        ≡ span_loops (length_of (tables_view tables.now) (lasting_view lasting)) }
+    ensures { (l : ℕ) → nat_lt l result
+        ≡ span_outside l (length_of (tables_view tables.now) (lasting_view lasting)) }
 {
     match lasting {
         Lasting::Ticks { .. } | Lasting::Beat => 0,
@@ -95,9 +99,19 @@ pub(crate) fn loops_of_lasting(tables: &Tables, lasting: Lasting) -> u32
     }
 }
 
+/// For a note.
+pub(crate) fn loops_of_note(tables: &Tables, chord: u32, lasting: Lasting) -> u32
+    ensures { (l : ℕ) → nat_lt l result ≡ (list_any (draw_outside l)
+        (map (source_of (tables_view tables.now)) (chord_in (tables_view tables.now) chord))
+        || span_outside l (length_of (tables_view tables.now) (lasting_view lasting))) }
+{
+    loops_of_chord(tables, chord).max(loops_of_lasting(tables, lasting))
+}
+
 /// For a count.
 pub(crate) fn loops_of_count(tables: &Tables, count: Count) -> u32
-    ensures { result ≡ count_loops (rounds_of (tables_view tables.now) count) }
+    ensures { (l : ℕ) → nat_lt l result
+        ≡ count_outside l (rounds_of (tables_view tables.now) count) }
 {
     match count {
         Count::Fixed { .. } => 0,

@@ -1,12 +1,11 @@
 //! What statements ask of the blocks round them.
 
-ghost use Rattle.std.specs.Prelude.{◌≡◌, ◌<◌};
+ghost use Rattle.std.specs.Prelude.{◌≡◌, ◌<◌, ◌+◌, min};
+ghost use Rattle.fm_places.specs.Found.{depths_view};
 ghost use Rattle.fm_places.specs.Needs.{nothing, asks as asks_for, forked, both as both_of};
-ghost use Rattle.fm_places.specs.Needs.{in_block as block_of, in_either as either_of};
-ghost use Rattle.fm_places.specs.Needs.{in_rounds as rounds_of, in_deformation as deformation_of};
-ghost use Rattle.fm_places.specs.Needs.{in_entries as entries_of, deeper as deeper_than};
+ghost use Rattle.fm_places.specs.Needs.{outside as outside_of};
 
-use crate::depths::{MAX_BLOCKS, MAX_FRAMES, MAX_WARPS};
+use crate::depths::{Depths, MAX_BLOCKS, MAX_FRAMES, MAX_WARPS};
 
 /// What statements ask of the blocks that are open round them, whichever these are.
 #[derive(Clone, Copy, Debug, PartialEq, Eq)]
@@ -78,63 +77,25 @@ pub(crate) fn both(a: Needs, b: Needs) -> Needs
     }
 }
 
-// One level more, up to one more than there may be.
-fn deeper(most: u32, levels: u32) -> u32
+// So many levels more, up to one more than there may be.
+fn deeper(most: u32, levels: u32, more: u32) -> u32
     requires { most < 100 }
-    ensures { result ≡ deeper_than most levels }
+    ensures { result ≡ min (most + 1) (levels + more) }
 {
-    if levels < most { levels + 1 } else { most + 1 }
+    levels.saturating_add(more).min(most + 1)
 }
 
-/// What a block asks whose statements ask this.
-pub(crate) fn in_block(needs: Needs) -> Needs
-    ensures { result ≡ block_of needs }
+/// What a block asks that opens so much, from what its statements ask.
+pub(crate) fn outside(opens: Depths, needs: Needs) -> Needs
+    ensures { result ≡ outside_of (depths_view opens) needs }
 {
     Needs {
-        blocks: deeper(MAX_BLOCKS, needs.blocks),
-        ..needs
-    }
-}
-
-/// A choice.
-pub(crate) fn in_either(needs: Needs) -> Needs
-    ensures { result ≡ either_of needs }
-{
-    Needs {
-        fork_in_choice: needs.forks || needs.fork_in_choice,
-        ..in_block(needs)
-    }
-}
-
-/// A loop, whose count may be computed.
-pub(crate) fn in_rounds(is_computed: bool, needs: Needs) -> Needs
-    ensures { result ≡ rounds_of is_computed needs }
-{
-    Needs {
-        fork_in_choice: (is_computed && needs.forks) || needs.fork_in_choice,
-        loops: needs.loops.saturating_sub(1),
-        frames: deeper(MAX_FRAMES, needs.frames),
-        ..in_block(needs)
-    }
-}
-
-/// A warp.
-pub(crate) fn in_warp(needs: Needs) -> Needs
-    ensures { result ≡ deformation_of needs }
-{
-    Needs {
-        warps: deeper(MAX_WARPS, needs.warps),
-        ..in_block(needs)
-    }
-}
-
-/// A list, which may be a rhythm.
-pub(crate) fn in_list(is_rhythm: bool, needs: Needs) -> Needs
-    ensures { result ≡ entries_of is_rhythm needs }
-{
-    Needs {
-        rhythm: needs.rhythm && !is_rhythm,
-        frames: deeper(MAX_FRAMES, needs.frames),
-        ..in_block(needs)
+        forks: needs.forks,
+        fork_in_choice: needs.fork_in_choice || (needs.forks && opens.in_choice),
+        rhythm: needs.rhythm && !opens.in_rhythm,
+        loops: needs.loops.saturating_sub(opens.loops),
+        warps: deeper(MAX_WARPS, needs.warps, opens.warps),
+        frames: deeper(MAX_FRAMES, needs.frames, opens.frames),
+        blocks: deeper(MAX_BLOCKS, needs.blocks, opens.blocks),
     }
 }

@@ -1,142 +1,201 @@
 //! Statements: what they ask, and the first fault among them.
 
-ghost use Rattle.std.specs.Prelude.{◌≡◌};
-ghost use Rattle.fm_expansion.specs.Outline.{play_in, passage_in};
-ghost use Rattle.fm_fault.specs.Found.{found};
-ghost use Rattle.fm_meaning.specs.Faults.{first_found};
-ghost use Rattle.fm_outline.specs.View.{Look, tables_view, step_view, block_view};
-ghost use Rattle.fm_places.specs.Found.{depths_view, KnowsNeeds};
-ghost use Rattle.fm_places.specs.Needs.{needs_of, needs_in};
-ghost use Rattle.fm_places.specs.Statements.{inner_needs, play_places, inner_places, passage_places};
-ghost use Rattle.fm_places.specs.Statements.{IsWithin};
+ghost use Rattle.std.specs.Prelude.{◌≡◌, ◌++◌};
+ghost use Rattle.fm_expansion.specs.Outline.{Tables as PlainTables, play_in, passage_in};
+ghost use Rattle.fm_expansion.specs.Outline.{length_of, rounds_of};
+ghost use Rattle.fm_meaning.specs.Places.{is_beat as beat_of, is_computed as computed_of};
+ghost use Rattle.fm_meaning.specs.Places.{Depths as PlainDepths, is_duration, depth_faults};
+ghost use Rattle.fm_meaning.specs.Places.{place_faults, passage_faults};
+ghost use Rattle.fm_meaning.specs.Resolved.{Passage, phrase};
+ghost use Rattle.fm_lex.specs.declared.spot.Spot.{Spot};
+ghost use Rattle.fm_outline.specs.View.{Look, tables_view, lasting_view, quality_view};
+ghost use Rattle.fm_outline.specs.View.{step_view, block_view, phrase_at};
+ghost use Rattle.fm_places.specs.Found.{depths_view, Faults, Opens, Tells, Asks, Finds};
+ghost use Rattle.fm_places.specs.Found.{KnowsNeeds};
 
-use crate::depths::Depths;
-use crate::needs::{Needs, both, no_needs};
-use crate::own::{needs_of_phrase, outside, own_needs};
-use crate::place::check_own;
-use fm_fault::Fault;
-use fm_outline::{Instruction, Step, Tables};
+use crate::depths::{Depths, block, branches, choice, inside, list, rounds, warp};
+use crate::found::{Found, asked, nothing_found, round, then};
+use crate::indices::{
+    loops_of_count, loops_of_draw, loops_of_expr, loops_of_lasting, loops_of_note,
+};
+use crate::needs::{Needs, asks, fork, no_needs, outside};
+use fm_lex::Spot;
+use fm_outline::{Instruction, Lasting, Quality, Step, Tables};
+use fm_program::Count;
 
-// What the statements inside a statement ask.
-#[cycle(needs)]
-fn needs_inside(tables: &Tables, phrases: &[Needs], step: &Step) -> Needs
+// Whether a duration is the next of the rhythm.
+fn is_beat(lasting: Lasting) -> bool
+    ensures { (t : PlainTables) → result ≡ beat_of (length_of t (lasting_view lasting)) }
+{
+    match lasting {
+        Lasting::Ticks { .. } | Lasting::Computed { .. } => false,
+        Lasting::Beat => true,
+    }
+}
+
+// Whether a count is computed.
+fn is_computed(count: Count) -> bool
+    ensures { (t : PlainTables) → result ≡ computed_of (rounds_of t count) }
+{
+    match count {
+        Count::Fixed { .. } => false,
+        Count::Drawn { .. } => true,
+    }
+}
+
+// Whether a list gives durations.
+fn is_rhythm(quality: Quality) -> bool
+    ensures { result ≡ is_duration (quality_view quality) }
+{
+    match quality {
+        Quality::Duration => true,
+        Quality::Articulation | Quality::Loudness => false,
+    }
+}
+
+// What the phrase of a number asks.
+#[tactic(auto, using(crate::proofs::PhraseLemmas::asked_by_phrase))]
+fn needs_of_phrase(phrases: &[Needs], number: Option<u32>) -> Needs
+    ensures { (t : PlainTables) (look : Look) → KnowsNeeds t phrases.now look →
+        Tells (passage_faults (passage_in t (phrase_at look number))) result }
+{
+    match number {
+        Some(n) => match phrases.get(n as usize) {
+            Some(needs) => *needs,
+            None => no_needs(),
+        },
+        None => no_needs(),
+    }
+}
+
+// What a statement asks that brings in a phrase which asks this.
+fn brought_in(needs: Needs) -> Needs
+    ensures { (spot : Spot) (p : Passage) → Tells (passage_faults p) needs →
+        Asks spot (place_faults spot (phrase p)) result }
+{
+    outside(block(), needs)
+}
+
+// What is found of a statement where so much is open.
+#[cycle(found)]
+fn look_at(tables: &Tables, phrases: &[Needs], step: &Step, depths: Depths) -> Found
     ensures { (look : Look) → KnowsNeeds (tables_view tables.now) phrases.now look →
-        result ≡ inner_needs (play_in (tables_view tables.now) (step_view look step.now).what) }
+        Finds (place_faults step.now.spot
+        (play_in (tables_view tables.now) (step_view look step.now).what)) (depths_view depths) result }
 {
     match &step.what {
-        Instruction::Choice { yes, no, .. } => both(
-            needs_of_steps(tables, phrases, yes),
-            needs_of_steps(tables, phrases, no),
+        Instruction::Note { chord, lasting } => asked(
+            step.spot,
+            asks(is_beat(*lasting), loops_of_note(tables, *chord, *lasting)),
+            depths,
         ),
-        Instruction::Loop { body, .. } => needs_of_steps(tables, phrases, body),
-        Instruction::Phrase { number } => needs_of_phrase(phrases, *number),
-        Instruction::Par { branches } => {
-            let mut needs = no_needs();
-            for branch in branches {
-                needs = both(needs, needs_of_steps(tables, phrases, branch));
-            }
-            needs
+        Instruction::Rest { lasting } => asked(
+            step.spot,
+            asks(is_beat(*lasting), loops_of_lasting(tables, *lasting)),
+            depths,
+        ),
+        Instruction::Send { draw, .. } => {
+            asked(step.spot, asks(false, loops_of_draw(tables, *draw)), depths)
         }
-        Instruction::Warp { body, .. } => needs_of_steps(tables, phrases, body),
-        Instruction::Channel { body, .. } => needs_of_steps(tables, phrases, body),
-        Instruction::Steady { body, .. } => needs_of_steps(tables, phrases, body),
-        Instruction::Under { body, .. } => needs_of_steps(tables, phrases, body),
-        Instruction::Note { .. }
-        | Instruction::Rest { .. }
-        | Instruction::Send { .. }
-        | Instruction::Set { .. } => no_needs(),
+        Instruction::Set { expr, .. } => {
+            asked(step.spot, asks(false, loops_of_expr(tables, *expr)), depths)
+        }
+        Instruction::Choice { expr, yes, no } => {
+            let own = asks(false, loops_of_expr(tables, *expr));
+            let inner = inside(choice(), depths);
+            let body = then(
+                look_through(tables, phrases, yes, inner),
+                look_through(tables, phrases, no, inner),
+            );
+            round(step.spot, own, choice(), depths, inner, body)
+        }
+        Instruction::Loop { count, body } => {
+            let own = asks(false, loops_of_count(tables, *count));
+            let opens = rounds(is_computed(*count));
+            look_inside(tables, phrases, step.spot, own, opens, depths, body)
+        }
+        Instruction::Phrase { number } => {
+            let needs = needs_of_phrase(phrases, *number);
+            asked(step.spot, brought_in(needs), depths)
+        }
+        Instruction::Par { branches: arms } => {
+            let inner = inside(branches(), depths);
+            let mut body = nothing_found();
+            for arm in arms {
+                body = then(body, look_through(tables, phrases, arm, inner));
+            }
+            round(step.spot, fork(), branches(), depths, inner, body)
+        }
+        Instruction::Warp { body, .. } => {
+            look_inside(tables, phrases, step.spot, no_needs(), warp(), depths, body)
+        }
+        Instruction::Channel { body, .. } => {
+            look_inside(
+                tables,
+                phrases,
+                step.spot,
+                no_needs(),
+                block(),
+                depths,
+                body,
+            )
+        }
+        Instruction::Steady { body, .. } => {
+            look_inside(
+                tables,
+                phrases,
+                step.spot,
+                no_needs(),
+                block(),
+                depths,
+                body,
+            )
+        }
+        Instruction::Under { quality, body, .. } => {
+            let opens = list(is_rhythm(*quality));
+            look_inside(tables, phrases, step.spot, no_needs(), opens, depths, body)
+        }
     }
 }
 
-// What a statement asks.
-#[cycle(needs)]
-fn needs_of_step(tables: &Tables, phrases: &[Needs], step: &Step) -> Needs
-    ensures { (look : Look) → KnowsNeeds (tables_view tables.now) phrases.now look →
-        result ≡ needs_of (play_in (tables_view tables.now) (step_view look step.now).what) }
-{
-    both(
-        own_needs(tables, step),
-        outside(step, needs_inside(tables, phrases, step)),
-    )
-}
-
-/// What the statements of a block ask.
-#[cycle(needs)]
-pub(crate) fn needs_of_steps(tables: &Tables, phrases: &[Needs], steps: &[Step]) -> Needs
-    ensures { (look : Look) → KnowsNeeds (tables_view tables.now) phrases.now look →
-        result ≡ needs_in (passage_in (tables_view tables.now) (block_view look steps.now)) }
-{
-    let mut needs = no_needs();
-    for step in steps {
-        needs = both(needs, needs_of_step(tables, phrases, step));
-    }
-    needs
-}
-
-// The first fault of the statements inside a statement.
-#[cycle(places)]
-fn check_inside(
+// The same of one that asks this itself, and opens so much round its statements.
+#[cycle(found)]
+fn look_inside(
     tables: &Tables,
     phrases: &[Needs],
-    step: &Step,
+    spot: Spot,
+    own: Needs,
+    opens: Depths,
     depths: Depths,
-) -> Result<(), Fault>
-    requires { IsWithin (depths_view depths) }
+    steps: &[Step],
+) -> Found
     ensures { (look : Look) → KnowsNeeds (tables_view tables.now) phrases.now look →
-        found result ≡ first_found (inner_places
-        (play_in (tables_view tables.now) (step_view look step.now).what) (depths_view depths)) }
+        (a : Faults) (within : PlainDepths → PlainDepths) → Asks spot a own →
+        Opens (depths_view opens) within →
+        Finds (λ e. (a e ++ depth_faults spot (within e))
+        ++ passage_faults (passage_in (tables_view tables.now) (block_view look steps.now)) (within e))
+        (depths_view depths) result }
 {
-    match &step.what {
-        Instruction::Choice { yes, no, .. } => {
-            check_steps(tables, phrases, yes, depths)?;
-            check_steps(tables, phrases, no, depths)
-        }
-        Instruction::Loop { body, .. } => check_steps(tables, phrases, body, depths),
-        Instruction::Par { branches } => {
-            for branch in branches {
-                check_steps(tables, phrases, branch, depths)?;
-            }
-            Ok(())
-        }
-        Instruction::Warp { body, .. } => check_steps(tables, phrases, body, depths),
-        Instruction::Channel { body, .. } => check_steps(tables, phrases, body, depths),
-        Instruction::Steady { body, .. } => check_steps(tables, phrases, body, depths),
-        Instruction::Under { body, .. } => check_steps(tables, phrases, body, depths),
-        Instruction::Note { .. }
-        | Instruction::Rest { .. }
-        | Instruction::Send { .. }
-        | Instruction::Set { .. }
-        | Instruction::Phrase { .. } => Ok(()),
-    }
+    let inner = inside(opens, depths);
+    let body = look_through(tables, phrases, steps, inner);
+    round(spot, own, opens, depths, inner, body)
 }
 
-// The first fault of a statement and of those inside it.
-#[cycle(places)]
-fn check_step(tables: &Tables, phrases: &[Needs], step: &Step, depths: Depths) -> Result<(), Fault>
-    requires { IsWithin (depths_view depths) }
-    ensures { (look : Look) → KnowsNeeds (tables_view tables.now) phrases.now look →
-        found result ≡ first_found (play_places (step_view look step.now).spot
-        (play_in (tables_view tables.now) (step_view look step.now).what) (depths_view depths)) }
-{
-    let inner = check_own(tables, phrases, step, depths)?;
-    check_inside(tables, phrases, step, inner)
-}
-
-/// The first fault of the statements of a block.
-#[cycle(places)]
-pub(crate) fn check_steps(
+/// What is found of the statements of a block where so much is open.
+#[cycle(found)]
+pub(crate) fn look_through(
     tables: &Tables,
     phrases: &[Needs],
     steps: &[Step],
     depths: Depths,
-) -> Result<(), Fault>
-    requires { IsWithin (depths_view depths) }
+) -> Found
     ensures { (look : Look) → KnowsNeeds (tables_view tables.now) phrases.now look →
-        found result ≡ first_found (passage_places
-        (passage_in (tables_view tables.now) (block_view look steps.now)) (depths_view depths)) }
+        Finds (passage_faults (passage_in (tables_view tables.now) (block_view look steps.now)))
+        (depths_view depths) result }
 {
+    let mut found = nothing_found();
     for step in steps {
-        check_step(tables, phrases, step, depths)?;
+        found = then(found, look_at(tables, phrases, step, depths));
     }
-    Ok(())
+    found
 }

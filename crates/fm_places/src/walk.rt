@@ -9,7 +9,7 @@ ghost use Rattle.fm_places.specs.Found.{KnowsNeeds};
 
 use crate::depths::nothing_open;
 use crate::needs::Needs;
-use crate::statement::{check_steps, needs_of_steps};
+use crate::statement::look_through;
 use fm_fault::Fault;
 use fm_outline::{Outline, Step, Tables};
 use std::alloc::{AllocError, Global};
@@ -25,8 +25,8 @@ fn needs_of_phrases(
 {
     let mut needs = Vec::with_capacity(alloc, phrases.len())?;
     for phrase in phrases {
-        let own = needs_of_steps(tables, needs.as_slice(), phrase);
-        needs.push(own)?;
+        let found = look_through(tables, needs.as_slice(), phrase, nothing_open());
+        needs.push(found.needs)?;
     }
     Ok(needs)
 }
@@ -38,8 +38,6 @@ pub fn first_place_fault(alloc: Global, outline: &Outline) -> Result<Option<Faul
     ensures { IfOk result (λ f. IsFirst f (third_walk (passage_of_outline outline.now))) }
 {
     let phrases = needs_of_phrases(alloc, &outline.tables, &outline.phrases)?;
-    match check_steps(&outline.tables, &phrases, &outline.block, nothing_open()) {
-        Ok(()) => Ok(None),
-        Err(fault) => Ok(Some(fault)),
-    }
+    let found = look_through(&outline.tables, &phrases, &outline.block, nothing_open());
+    Ok(found.first)
 }

@@ -1,10 +1,10 @@
-use Rattle.std.proofs.Common.{◌≡◌, map, take}
+use Rattle.std.proofs.Common.{map, take}
 use Rattle.std.specs.Prelude.{vec_items}
 use Rattle.fm_outline.specs.View.{tables_view, phrases_view}
-use Rattle.fm_places.specs.Found.{needs_of_blocks}
+use Rattle.fm_places.proofs.PhraseLemmas.{AreKnown}
 use Rattle.fm_places.proofs.walk.needs_of_phrases.Given as goal
 
 -- what the phrases so far ask
 abbrev pub invariant-loop-phrase : goal.invariant-loop-phrase
 invariant-loop-phrase l =
-    l.needs.items ≡ needs_of_blocks (tables_view l.tables) (phrases_view (map vec_items (take l.phrase-index l.phrases)))
+    AreKnown (tables_view l.tables) l.needs.items (phrases_view (map vec_items (take l.phrase-index l.phrases)))

@@ -1,0 +1,89 @@
+-- The numbers of the faults in a list.
+use Rattle.std.proofs.Common.{◌≡◌, ℕ, Bool, true, false, ◌&&◌, ◌||◌, nat_eq, List, ◌++◌, refl, sym, ap₂, ◌∙◌, arith}
+use Rattle.std.proofs.lemmas.Grind.{common_steps}
+use Rattle.std.proofs.lemmas.List.Folds.{list_any-append}
+use Rattle.fm_lex.specs.declared.spot.Spot.{Spot}
+use Rattle.fm_meaning.specs.Fault.{NumberedFault, fault_if, fork_in_choice, play_outside_rhythm, index_outside_loop, too_deep}
+use Rattle.fm_meaning.specs.Places.{gathered}
+use Rattle.fm_places.specs.Needs.{four}
+use Rattle.fm_places.specs.Found.{has}
+
+pub has_append : (m : ℕ) (a b : List NumberedFault) → has m (a ++ b) ≡ (has m a || has m b)
+has_append m a b = list_any-append (λ f. nat_eq f.number m) a b
+
+has_if : (m : ℕ) (t : Bool) (s : Spot) (n : ℕ) → has m (fault_if t s n) ≡ (t && nat_eq n m)
+has_if m true s n = grind (arith, common_steps)
+has_if m false s n = refl
+
+has_four : (m : ℕ) (s : Spot) (a b c e : Bool)
+    → has m (four s a b c e)
+    ≡ ((((a && nat_eq fork_in_choice m) || (b && nat_eq play_outside_rhythm m)) || (c && nat_eq index_outside_loop m))
+    || (e && nat_eq too_deep m))
+has_four m s a b c e =
+    has_append m _ (fault_if e s too_deep)
+    ∙ ap₂ (λ x y. x || y)
+    (has_append m _ (fault_if c s index_outside_loop)
+    ∙ ap₂ (λ x y. x || y)
+    (has_append m _ (fault_if b s play_outside_rhythm)
+    ∙ ap₂ (λ x y. x || y) (has_if m a s fork_in_choice) (has_if m b s play_outside_rhythm))
+    (has_if m c s index_outside_loop))
+    (has_if m e s too_deep)
+
+-- the spot plays no part
+pub any_spot : (m : ℕ) (s z : Spot) (a b c e : Bool) → has m (four s a b c e) ≡ has m (four z a b c e)
+any_spot m s z a b c e = has_four m s a b c e ∙ sym (has_four m z a b c e)
+
+pub or_pairs : (a b i j : Bool) → ((a || b) || (i || j)) ≡ ((a || i) || (b || j))
+or_pairs a b i j = grind (arith, common_steps)
+
+and_pair : (a i p : Bool) → ((a && p) || (i && p)) ≡ ((a || i) && p)
+and_pair a i p = grind (arith, common_steps)
+
+-- the numbers of two lists
+pub four_both : (m : ℕ) (s : Spot) (a b c e i j k l : Bool)
+    → (has m (four s a b c e) || has m (four s i j k l)) ≡ has m (four s (a || i) (b || j) (c || k) (e || l))
+four_both m s a b c e i j k l =
+    let p = nat_eq fork_in_choice m in
+    let q = nat_eq play_outside_rhythm m in
+    let r = nat_eq index_outside_loop m in
+    let t = nat_eq too_deep m in
+    ap₂ (λ x y. x || y) (has_four m s a b c e) (has_four m s i j k l)
+    ∙ or_pairs (((a && p) || (b && q)) || (c && r)) (e && t) (((i && p) || (j && q)) || (k && r)) (l && t)
+    ∙ ap₂ (λ x y. x || y)
+    (or_pairs ((a && p) || (b && q)) (c && r) ((i && p) || (j && q)) (k && r)
+    ∙ ap₂ (λ x y. x || y)
+    (or_pairs (a && p) (b && q) (i && p) (j && q) ∙ ap₂ (λ x y. x || y) (and_pair a i p) (and_pair b j q))
+    (and_pair c k r))
+    (and_pair e l t)
+    ∙ sym (has_four m s (a || i) (b || j) (c || k) (e || l))
+
+pub same_four : (s : Spot) (a b c e i j k l : Bool) → a ≡ i → b ≡ j → c ≡ k → e ≡ l → four s a b c e ≡ four s i j k l
+same_four s a b c e i j k l p q r t =
+    ap₂ (λ x y. four s x y c e) p q ∙ ap₂ (λ x y. four s i j x y) r t
+
+-- lists with faults of the same numbers, at one spot
+pub gathered_same : (s : Spot) (a b : List NumberedFault) → ((m : ℕ) → has m a ≡ has m b) → gathered s a ≡ gathered s b
+gathered_same s a b h = same_gathered (h fork_in_choice) (h play_outside_rhythm) (h index_outside_loop) (h too_deep)
+  where
+    same_gathered : has fork_in_choice a ≡ has fork_in_choice b → has play_outside_rhythm a ≡ has play_outside_rhythm b
+        → has index_outside_loop a ≡ has index_outside_loop b → has too_deep a ≡ has too_deep b
+        → gathered s a ≡ gathered s b
+    same_gathered p q r t = cc
+
+pub gathered_four : (s : Spot) (a b c e : Bool) → gathered s (four s a b c e) ≡ four s a b c e
+gathered_four s true true true true = refl
+gathered_four s true true true false = refl
+gathered_four s true true false true = refl
+gathered_four s true true false false = refl
+gathered_four s true false true true = refl
+gathered_four s true false true false = refl
+gathered_four s true false false true = refl
+gathered_four s true false false false = refl
+gathered_four s false true true true = refl
+gathered_four s false true true false = refl
+gathered_four s false true false true = refl
+gathered_four s false true false false = refl
+gathered_four s false false true true = refl
+gathered_four s false false true false = refl
+gathered_four s false false false true = refl
+gathered_four s false false false false = refl
