@@ -24,58 +24,6 @@ capped_lt m n low =
     ⊎_elim (λ above. lt-ltb m (capped n) (omega arith) ∙ sym (lt-ltb m n above))
     (λ within. le-ltb m (capped n) (omega arith) ∙ sym (le-ltb m n within)) (cases_lt m n)
 
--- ---- the first of five faults
-
--- the faults of five tests
-abbrev five : (p o l e s : Bool) → Spot → List NumberedFault
-five p o l e s spot =
-    fault_if p spot too_many_processes ++ fault_if o spot too_many_operations ++ fault_if l spot too_long
-    ++ fault_if e spot too_many_events ++ fault_if s spot too_many_steps
-
-first_of : (p o l e s : Bool) (spot : Spot) → p ≡ true
-    → first_found (five p o l e s spot) ≡ Some (fault_at spot TooManyProcesses)
-first_of true o l e s spot is = refl
-first_of false o l e s spot is = cc
-
-second_of : (p o l e s : Bool) (spot : Spot) → p ≡ false → o ≡ true
-    → first_found (five p o l e s spot) ≡ Some (fault_at spot TooManyOperations)
-second_of false true l e s spot not_p is = refl
-second_of true o l e s spot not_p is = cc
-second_of false false l e s spot not_p is = cc
-
-third_of : (p o l e s : Bool) (spot : Spot) → p ≡ false → o ≡ false → l ≡ true
-    → first_found (five p o l e s spot) ≡ Some (fault_at spot TooLong)
-third_of false false true e s spot not_p not_o is = refl
-third_of true o l e s spot not_p not_o is = cc
-third_of false true l e s spot not_p not_o is = cc
-third_of false false false e s spot not_p not_o is = cc
-
-fourth_of : (p o l e s : Bool) (spot : Spot) → p ≡ false → o ≡ false → l ≡ false → e ≡ true
-    → first_found (five p o l e s spot) ≡ Some (fault_at spot TooManyEvents)
-fourth_of false false false true s spot not_p not_o not_l is = refl
-fourth_of true o l e s spot not_p not_o not_l is = cc
-fourth_of false true l e s spot not_p not_o not_l is = cc
-fourth_of false false true e s spot not_p not_o not_l is = cc
-fourth_of false false false false s spot not_p not_o not_l is = cc
-
-last_of : (p o l e s : Bool) (spot : Spot) → p ≡ false → o ≡ false → l ≡ false → e ≡ false → s ≡ true
-    → first_found (five p o l e s spot) ≡ Some (fault_at spot TooManySteps)
-last_of false false false false true spot not_p not_o not_l not_e is = refl
-last_of true o l e s spot not_p not_o not_l not_e is = cc
-last_of false true l e s spot not_p not_o not_l not_e is = cc
-last_of false false true e s spot not_p not_o not_l not_e is = cc
-last_of false false false true s spot not_p not_o not_l not_e is = cc
-last_of false false false false false spot not_p not_o not_l not_e is = cc
-
-none_of : (p o l e s : Bool) (spot : Spot) → p ≡ false → o ≡ false → l ≡ false → e ≡ false → s ≡ false
-    → first_found (five p o l e s spot) ≡ None
-none_of false false false false false spot not_p not_o not_l not_e is = refl
-none_of true o l e s spot not_p not_o not_l not_e is = cc
-none_of false true l e s spot not_p not_o not_l not_e is = cc
-none_of false false true e s spot not_p not_o not_l not_e is = cc
-none_of false false false true s spot not_p not_o not_l not_e is = cc
-none_of false false false false true spot not_p not_o not_l not_e is = cc
-
 -- the tests of a score's totals
 abbrev over_processes : VersionRules → Totals → Bool
 over_processes rules a = nat_lt rules.most_processes a.processes
@@ -91,51 +39,6 @@ over_events a = nat_lt most_events a.events
 
 abbrev over_steps : Totals → Bool
 over_steps a = nat_lt most_steps a.steps
-
-pub too_many_processes_found : (rules : VersionRules) (spot : Spot) (a : Totals) → over_processes rules a ≡ true
-    → first_found (limit_faults rules spot a) ≡ Some (fault_at spot TooManyProcesses)
-too_many_processes_found rules spot a is =
-    first_of (over_processes rules a) (over_operations a) (over_length a) (over_events a) (over_steps a) spot is
-
-pub too_many_operations_found : (rules : VersionRules) (spot : Spot) (a : Totals) → over_processes rules a ≡ false
-    → over_operations a ≡ true → first_found (limit_faults rules spot a) ≡ Some (fault_at spot TooManyOperations)
-too_many_operations_found rules spot a p is =
-    second_of (over_processes rules a) (over_operations a) (over_length a) (over_events a) (over_steps a) spot p is
-
-pub too_long_found : (rules : VersionRules) (spot : Spot) (a : Totals) → over_processes rules a ≡ false
-    → over_operations a ≡ false → over_length a ≡ true
-    → first_found (limit_faults rules spot a) ≡ Some (fault_at spot TooLong)
-too_long_found rules spot a p o is =
-    third_of (over_processes rules a) (over_operations a) (over_length a) (over_events a) (over_steps a) spot p o is
-
-pub too_many_events_found : (rules : VersionRules) (spot : Spot) (a : Totals) → over_processes rules a ≡ false
-    → over_operations a ≡ false → over_length a ≡ false → over_events a ≡ true
-    → first_found (limit_faults rules spot a) ≡ Some (fault_at spot TooManyEvents)
-too_many_events_found rules spot a p o l is =
-    fourth_of (over_processes rules a) (over_operations a) (over_length a) (over_events a) (over_steps a) spot p o l is
-
-pub too_many_steps_found : (rules : VersionRules) (spot : Spot) (a : Totals) → over_processes rules a ≡ false
-    → over_operations a ≡ false → over_length a ≡ false → over_events a ≡ false → over_steps a ≡ true
-    → first_found (limit_faults rules spot a) ≡ Some (fault_at spot TooManySteps)
-too_many_steps_found rules spot a p o l e is =
-    last_of (over_processes rules a) (over_operations a) (over_length a) (over_events a) (over_steps a) spot p o l e is
-
-pub nothing_found : (rules : VersionRules) (spot : Spot) (a : Totals) → over_processes rules a ≡ false
-    → over_operations a ≡ false → over_length a ≡ false → over_events a ≡ false → over_steps a ≡ false
-    → first_found (limit_faults rules spot a) ≡ None
-nothing_found rules spot a p o l e is =
-    none_of (over_processes rules a) (over_operations a) (over_length a) (over_events a) (over_steps a) spot p o l e is
-
--- for `grind`: the first fault of totals up to the ceiling
-pub ruleset limits = (
-  capped_lt,
-  too_many_processes_found,
-  too_many_operations_found,
-  too_long_found,
-  too_many_events_found,
-  too_many_steps_found,
-  nothing_found,
-)
 
 -- ---- totals without a fault
 

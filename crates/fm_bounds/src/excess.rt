@@ -30,7 +30,7 @@ fn passes(total: u64, limit: u64) -> bool
 
 /// The first total of a whole score that passes its limit, if one does. The version of the score
 /// has so many processes at most.
-#[tactic(auto, using(crate::proofs::LimitLemmas::limits))]
+#[tactic(auto, using(crate::proofs::LimitLemmas::capped_lt))]
 pub(crate) fn first_excess(most_processes: u32, whole: Sums) -> Option<Why>
     ensures { (rules : VersionRules) (spot : Spot) (a : Totals) (f : Bool) →
         rules.most_processes ≡ most_processes → whole ≡ saturated a f →
