@@ -11,8 +11,6 @@ use Rattle.fm_meaning.specs.Fault.{too_many_operations, too_long, too_many_event
 use Rattle.fm_meaning.specs.Faults.{first_found}
 use Rattle.fm_meaning.specs.Bounds.{Totals, limit_faults}
 use Rattle.fm_bounds.specs.declared.sums.TheConstants.{CEILING}
-use Rattle.fm_fault.specs.declared.why.Why.TheVariants.{TooManyProcesses, TooManyOperations, TooLong, TooManyEvents, TooManySteps}
-use Rattle.fm_fault.specs.Why.{fault_at}
 use Rattle.fm_bounds.specs.Saturation.{capped}
 use Rattle.fm_bounds.specs.Reached.{AreWithin}
 use Rattle.fm_version.proofs.RangeLemmas.{none_first, none_second}

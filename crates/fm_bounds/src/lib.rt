@@ -2,8 +2,8 @@
 //! of a score, or the first statement with which one of them passes its limit.
 //!
 //! The totals are those of the definition, up to a ceiling above each limit (`specs/Saturation`).
-//! What a phrase adds is found once, where it is defined, so the walk takes a time that grows with
-//! the text, however long the score is that the text stands for. Ranges and names, and where
+//! What a phrase adds is found once, and kept by its number, so the walk takes a time that grows
+//! with the text, however long the score is that the text stands for. Ranges and names, and where
 //! statements may stand, are left to other walks.
 #![tactic(auto)]
 

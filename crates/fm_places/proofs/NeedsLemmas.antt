@@ -21,6 +21,7 @@ fork_both a b c d i = grind (arith, common_steps)
 rhythm_both : (a b r : Bool) → ((a && not r) || (b && not r)) ≡ ((a || b) && not r)
 rhythm_both a b r = grind (arith, common_steps)
 
+-- more than one number or the other
 pub lt_max : (l a b : ℕ) → (nat_lt l a || nat_lt l b) ≡ nat_lt l (max a b)
 lt_max l a b = grind (arith, nat_tests)
 
@@ -80,9 +81,11 @@ level w f b = grind (arith, nat_tests)
 no_lt : (l : ℕ) → nat_lt l 0 ≡ false
 no_lt l = grind (arith, nat_tests)
 
+-- where nothing is asked
 pub nothing_missing : (s : Spot) (d : Depths) → missing s nothing d ≡ depth_faults s d
 nothing_missing s d = same_four s _ _ _ _ false false false _ refl refl (no_lt d.loops) (level d.warps d.frames d.blocks)
 
+-- where no limit is passed
 pub shallow : (d : Depths) → IsWithin d → is_too_deep d.warps d.frames d.blocks ≡ false
 shallow d h = go d.warps d.frames d.blocks h.warps h.frames h.blocks
   where
@@ -115,11 +118,14 @@ asks_of s fs n h = record {
     or_swapped : (a b : Bool) → (a || b) ≡ (b || a)
     or_swapped a b = grind (arith, common_steps)
 
+-- a rhythm and an index
 pub asks_told : (s : Spot) (r : Bool) (n : ℕ) (x : ℕ → Bool) → ((l : ℕ) → nat_lt l n ≡ x l)
     → Asks s (λ d. fault_if (r && not d.in_rhythm) s play_outside_rhythm ++ fault_if (x d.loops) s index_outside_loop) (asks r n)
 asks_told s r n x h =
-    asks_of s _ _ (λ d. same_four s _ _ _ _ false (r && not d.in_rhythm) (x d.loops) _ refl refl (h d.loops) (level d.warps d.frames d.blocks))
+    asks_of s _ _ (λ d. same_four s _ _ _ _ false (r && not d.in_rhythm) (x d.loops) _ refl refl (h d.loops)
+    (level d.warps d.frames d.blocks))
 
+-- a fork
 pub fork_told : (s : Spot) → Asks s (λ d. fault_if d.in_choice s fork_in_choice) forked
 fork_told s =
     asks_of s _ _ (λ d. same_four s _ _ _ _ d.in_choice false false _ refl refl (no_lt d.loops) (level d.warps d.frames d.blocks)
@@ -129,6 +135,7 @@ fork_told s =
     fork_alone true x = refl
     fork_alone false x = refl
 
+-- nothing
 pub nothing_told : (s : Spot) → Asks s (λ d. []) nothing
 nothing_told s = asks_of s _ _ (nothing_missing s)
 
@@ -155,12 +162,14 @@ phrase_told s p n all o opens told is = rw is (record {
 
 -- ---- statements in turn, and in blocks
 
+-- no statements
 pub nothing_tells : Tells (λ d. []) nothing
 nothing_tells = record { same = λ s d m. ap (has m) (append-nil (depth_faults s d) ∙ sym (nothing_missing s d)) }
 
 or_doubled : (a b c : Bool) → (a || (b || c)) ≡ ((a || b) || (a || c))
 or_doubled a b c = grind (arith, common_steps)
 
+-- two parts
 pub both_tells : (a b : Faults) (n m : Needs) → Tells a n → Tells b m → Tells (λ d. a d ++ b d) (both n m)
 both_tells a b n m h g = record {
   same = λ s d k.
@@ -176,6 +185,7 @@ both_tells a b n m h g = record {
 or_parted : (a b c e : Bool) → (a || ((b || c) || e)) ≡ ((a || b) || (c || e))
 or_parted a b c e = grind (arith, common_steps)
 
+-- a block
 pub block_tells : (s : Spot) (a b : Faults) (own n : Needs) (o : Depths) (inside : Depths → Depths) → Opens o inside
     → Asks s a own → Tells b n
     → Tells (λ d. (a d ++ depth_faults s (inside d)) ++ b (inside d)) (both own (outside o n))
@@ -207,7 +217,7 @@ still_within s a o inside d opens w e =
     none_last (x ∷ a) b e = cc
 
     go : (w f b l x y z m : ℕ) → is_too_deep (w + x) (f + y) (b + z) ≡ false → l ≤ f → m ≤ y
-        → IsWithin (record { in_choice = d.in_choice || o.in_choice; in_rhythm = d.in_rhythm || o.in_rhythm; loops = l + m; warps = w + x; frames = f + y; blocks = b + z })
+        → IsWithin (record (added o d) { loops = l + m; warps = w + x; frames = f + y; blocks = b + z })
     go w f b l x y z m e h g = record {
       warps = grind (arith, nat_tests);
       frames = grind (arith, nat_tests);

@@ -8,6 +8,7 @@ use Rattle.fm_meaning.specs.Places.{gathered}
 use Rattle.fm_places.specs.Needs.{four}
 use Rattle.fm_places.specs.Found.{has}
 
+-- in two lists
 pub has_append : (m : ℕ) (a b : List NumberedFault) → has m (a ++ b) ≡ (has m a || has m b)
 has_append m a b = list_any-append (λ f. nat_eq f.number m) a b
 
@@ -33,7 +34,8 @@ has_four m s a b c e =
 pub any_spot : (m : ℕ) (s z : Spot) (a b c e : Bool) → has m (four s a b c e) ≡ has m (four z a b c e)
 any_spot m s z a b c e = has_four m s a b c e ∙ sym (has_four m z a b c e)
 
-pub or_pairs : (a b i j : Bool) → ((a || b) || (i || j)) ≡ ((a || i) || (b || j))
+-- of four tests
+or_pairs : (a b i j : Bool) → ((a || b) || (i || j)) ≡ ((a || i) || (b || j))
 or_pairs a b i j = grind (arith, common_steps)
 
 and_pair : (a i p : Bool) → ((a && p) || (i && p)) ≡ ((a || i) && p)
@@ -57,6 +59,7 @@ four_both m s a b c e i j k l =
     (and_pair e l t)
     ∙ sym (has_four m s (a || i) (b || j) (c || k) (e || l))
 
+-- the same tests
 pub same_four : (s : Spot) (a b c e i j k l : Bool) → a ≡ i → b ≡ j → c ≡ k → e ≡ l → four s a b c e ≡ four s i j k l
 same_four s a b c e i j k l p q r t =
     ap₂ (λ x y. four s x y c e) p q ∙ ap₂ (λ x y. four s i j x y) r t
@@ -70,6 +73,7 @@ gathered_same s a b h = same_gathered (h fork_in_choice) (h play_outside_rhythm)
         → gathered s a ≡ gathered s b
     same_gathered p q r t = cc
 
+-- faults at one spot already
 pub gathered_four : (s : Spot) (a b c e : Bool) → gathered s (four s a b c e) ≡ four s a b c e
 gathered_four s true true true true = refl
 gathered_four s true true true false = refl

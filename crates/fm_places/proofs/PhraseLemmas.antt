@@ -17,6 +17,7 @@ pub record AreKnown (t : Tables) (needs : List Needs) (blocks : List Block) : Ty
   pub same : length needs ≡ length blocks
   pub knows : KnowsNeeds t needs (look_in blocks)
 
+-- no phrase yet
 pub none_known : (t : Tables) → AreKnown t [] []
 none_known t = record { same = refl; knows = record { of_phrase = λ n. nothing_tells } }
 
@@ -32,6 +33,7 @@ match_more R (a ∷ xs) (b ∷ ys) x d y e same h here (suc n) =
 match_more R [] (b ∷ ys) x d y e same h here n = absurd (omega (arith, same))
 match_more R (a ∷ xs) [] x d y e same h here n = absurd (omega (arith, same))
 
+-- one block more
 known_more : (t : Tables) (needs : List Needs) (blocks : List Block) (own : Needs) (b : Block) → AreKnown t needs blocks
     → Tells (passage_faults (passage_in t b)) own → AreKnown t (needs ++ own ∷ []) (blocks ++ b ∷ [])
 known_more t needs blocks own b known told = record {

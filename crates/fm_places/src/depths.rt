@@ -1,9 +1,9 @@
 //! The blocks that are open round a statement.
 
 ghost use Rattle.std.specs.Prelude.{◌≡◌};
-ghost use Rattle.fm_meaning.specs.Places.{Depths as PlainDepths, outermost, is_computed as computed_of};
-ghost use Rattle.fm_meaning.specs.Places.{is_duration, in_one, in_branching, in_loop, in_warp};
-ghost use Rattle.fm_meaning.specs.Places.{in_list, in_fork};
+ghost use Rattle.fm_meaning.specs.Places.{Depths as PlainDepths, is_computed as computed_of};
+ghost use Rattle.fm_meaning.specs.Places.{is_duration, outermost, in_one, in_branching, in_loop};
+ghost use Rattle.fm_meaning.specs.Places.{in_warp, in_list, in_fork};
 ghost use Rattle.fm_meaning.specs.Resolved.{RoundSource, Quality};
 ghost use Rattle.fm_places.specs.Found.{depths_view, IsWithin, Opens};
 

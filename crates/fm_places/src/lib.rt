@@ -3,8 +3,8 @@
 //!
 //! The main clause says that it is the first fault of the third walk, as the meaning of a score
 //! lists them once phrases stand in their places (`third_walk`). What a phrase asks of the blocks
-//! round it is found once, and kept by its number (`specs/Needs`). Names, numbers and totals are left
-//! to the crates beside this one.
+//! round it is found once, and kept by its number (`specs/Needs`). Names, numbers and totals are
+//! left to the crates beside this one.
 #![tactic(auto)]
 
 mod depths;

@@ -81,7 +81,8 @@ fn brought_in(needs: Needs) -> Needs
 fn look_at(tables: &Tables, phrases: &[Needs], step: &Step, depths: Depths) -> Found
     ensures { (look : Look) → KnowsNeeds (tables_view tables.now) phrases.now look →
         Finds (place_faults step.now.spot
-        (play_in (tables_view tables.now) (step_view look step.now).what)) (depths_view depths) result }
+        (play_in (tables_view tables.now) (step_view look step.now).what)) (depths_view depths)
+        result }
 {
     match &step.what {
         Instruction::Note { chord, lasting } => asked(
@@ -172,8 +173,8 @@ fn look_inside(
     ensures { (look : Look) → KnowsNeeds (tables_view tables.now) phrases.now look →
         (a : Faults) (within : PlainDepths → PlainDepths) → Asks spot a own →
         Opens (depths_view opens) within →
-        Finds (λ e. (a e ++ depth_faults spot (within e))
-        ++ passage_faults (passage_in (tables_view tables.now) (block_view look steps.now)) (within e))
+        let p = passage_in (tables_view tables.now) (block_view look steps.now) in
+        Finds (λ e. (a e ++ depth_faults spot (within e)) ++ passage_faults p (within e))
         (depths_view depths) result }
 {
     let inner = inside(opens, depths);
