@@ -15,7 +15,7 @@ use fm_smf::{MAX_TIME, SinkFault, Writer};
 use std::marker::Model;
 
 /// The most events of an excerpt.
-pub const MAX_EVENTS: u32 = 1 << 29;
+pub const MAX_EXCERPT_EVENTS: u32 = 1 << 29;
 
 /// A file that was begun, and how many events it has.
 #[derive(Drop)]
@@ -54,7 +54,7 @@ impl Output {
         requires range { IsTrue (is_in_range msg) }
         requires later { self.old.written.state.last ≤ tick }
         requires in_time { tick ≤ MAX_TIME }
-        requires few { self.old.count < MAX_EVENTS }
+        requires few { self.old.count < MAX_EXCERPT_EVENTS }
         requires at_end { IfSome (K.content sink.old) (λ c. length c ≡ self.old.written.put) }
         ensures ok { OnOk result (Writes K.content K.sure K.faults sink.old sink.new
             (as_event (tick, msg) ∷ []) self.old.written self.new.written) }
@@ -71,7 +71,7 @@ impl Output {
     pub fn finish<K: Sink>(self, end: u64, sink: &mut K) -> Result<u64, SinkFault>
         requires later { self.written.state.last ≤ end }
         requires in_time { end ≤ MAX_TIME }
-        requires few { self.count ≤ MAX_EVENTS }
+        requires few { self.count ≤ MAX_EXCERPT_EVENTS }
         requires at_end { IfSome (K.content sink.old) (λ c. length c ≡ self.written.put) }
         ensures ok { let bytes = end_bytes self.written.state.last end in OnOk result (Finishes
             K.content K.sure K.faults sink.old sink.new bytes

@@ -15,7 +15,7 @@ ghost use Rattle.fm_excerpt.specs.Excerpt.{excerpt_events, excerpt_end, stop_of}
 ghost use Rattle.fm_excerpt.specs.Table.{Holds};
 ghost use Rattle.fm_excerpt.specs.Written.{HasExcerpts, first_entries, first_excerpt, first_end};
 
-use crate::output::{MAX_EVENTS, Output};
+use crate::output::{MAX_EXCERPT_EVENTS, Output};
 use crate::state::{State, state_before};
 use crate::window::{put_endings, put_state, put_window};
 use fm_edge::Sink;
@@ -56,7 +56,7 @@ fn put_parts<K: Sink>(
     ensures err { let list = excerpt_of begin until (decoded 0 track.entry) end in
         OnErr result (Breaks K.content K.sure K.faults
         sink.old sink.new (events_bytes out.old.written.state (map as_event list))) }
-    ensures few { OnOk result (out.new.count ≤ MAX_EVENTS) }
+    ensures few { OnOk result (out.new.count ≤ MAX_EXCERPT_EVENTS) }
     ensures last { OnOk result
         (out.new.written.state.last ≤ excerpt_end begin until end) }
 {

@@ -12,7 +12,7 @@ ghost use Rattle.fm_excerpt.specs.Excerpt.{stop_of};
 ghost use Rattle.fm_excerpt.specs.Table.{messages_of, Sounds, endings_of};
 
 use crate::counts::{ALL_KEYS, Counts};
-use crate::output::{MAX_EVENTS, Output};
+use crate::output::{MAX_EXCERPT_EVENTS, Output};
 use crate::state::{SLOTS, State};
 use fm_edge::Sink;
 use fm_msg::{DATA_VALUES, Msg};
@@ -103,7 +103,7 @@ fn put_offs<K: Sink>(
     requires range { IsTrue (is_in_range msg) }
     requires later { out.old.written.state.last ≤ tick }
     requires in_time { tick ≤ MAX_TIME }
-    requires room { out.old.count + count ≤ MAX_EVENTS }
+    requires room { out.old.count + count ≤ MAX_EXCERPT_EVENTS }
     requires at_end { IfSome (K.content sink.old) (λ c. length c ≡ out.old.written.put) }
     ensures ok { OnOk result (Writes K.content K.sure K.faults sink.old sink.new
         (map as_event (at_tick tick (replicate count msg))) out.old.written out.new.written) }
@@ -127,13 +127,13 @@ pub fn put_endings<K: Sink>(
 ) -> Result<(), SinkFault>
     requires later { out.old.written.state.last ≤ tick }
     requires in_time { tick ≤ MAX_TIME }
-    requires room { out.old.count + length (endings_of counts.now) ≤ MAX_EVENTS }
+    requires room { out.old.count + length (endings_of counts.now) ≤ MAX_EXCERPT_EVENTS }
     requires at_end { IfSome (K.content sink.old) (λ c. length c ≡ out.old.written.put) }
     ensures ok { OnOk result (Writes K.content K.sure K.faults sink.old sink.new
         (map as_event (at_tick tick (endings_of counts.now))) out.old.written out.new.written) }
     ensures err { OnErr result (Breaks K.content K.sure K.faults sink.old sink.new (events_bytes
         out.old.written.state (map as_event (at_tick tick (endings_of counts.now))))) }
-    ensures few { OnOk result (out.new.count ≤ MAX_EVENTS) }
+    ensures few { OnOk result (out.new.count ≤ MAX_EXCERPT_EVENTS) }
     ensures last { OnOk result (out.new.written.state.last ≤ tick) }
 {
     for index in 0..ALL_KEYS {
