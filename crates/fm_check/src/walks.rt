@@ -16,7 +16,6 @@ use fm_fault::{CheckFault, refused};
 use fm_grammar::Score;
 use fm_outline::{Outline, outline_of};
 use fm_places::first_place_fault;
-use fm_ranges::first_range_fault;
 use std::alloc::Global;
 
 /// An accepted score with nothing left to look up, and its static totals.
@@ -28,8 +27,7 @@ pub struct Checked {
 
 /// The outline of a score with its static totals, or its first fault: of names and numbers, then of
 /// where statements stand, then of totals. A later walk is made only where those before it found
-/// nothing. The first goes over the text; the outline is made behind it, and the others go over
-/// that.
+/// nothing. The first makes the outline, and the others go over that.
 pub fn check_outline(alloc: Global, score: &Score) -> Result<Checked, CheckFault>
     ensures outline { IfOk result (λ c. IsOutlineOf c.outline (score_view score.now)) }
     ensures bounds { IfOk result
@@ -38,9 +36,6 @@ pub fn check_outline(alloc: Global, score: &Score) -> Result<Checked, CheckFault
     ensures refused { (why : Reason) (spot : Spot) → result ≡ Err (CheckFault.Refused why spot) →
         first_found (score_faults (score_view score.now)) ≡ Some (fault_at spot why) }
 {
-    if let Some(fault) = first_range_fault(alloc, score)? {
-        return Err(refused(fault));
-    }
     let outline = outline_of(alloc, score)?;
     if let Some(fault) = first_place_fault(alloc, &outline)? {
         return Err(refused(fault));

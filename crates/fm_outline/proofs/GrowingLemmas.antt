@@ -1,5 +1,5 @@
 -- Blocks and branches that grow, and the tables behind them.
-use Rattle.std.proofs.Common.{◌≡◌, ℕ, suc, ◌+◌, ◌<◌, List, [], ◌∷◌, ◌++◌, map, drop, length, get_or, refl, ap, sym, ◌∙◌, add-one, rules, Result, Ok, Err, IfOk}
+use Rattle.std.proofs.Common.{◌≡◌, ℕ, suc, ◌+◌, ◌<◌, List, [], ◌∷◌, ◌++◌, map, drop, length, get_or, refl, ap, sym, ◌∙◌, add-one, rules}
 use Rattle.std.proofs.Math.Seq.{drop-cons}
 use Rattle.std.proofs.lemmas.List.{map-append}
 use Rattle.fm_lex.specs.declared.spot.Spot.{Spot}
@@ -23,13 +23,12 @@ before_more [] p b = refl
 before_more (q ∷ ps) p b = ap (plain.item q.spot q.what) (before_more ps p b)
 
 -- the statements from one on
-block_from : (k : Catalogue) (xs : List Item) (i : ℕ) (x : Item) (t : plain.Tables) → i < length xs → x ≡ get_or xs i x
-    → block_of k (items_view (drop i xs)) t
-    ≡ block_of k (text.then (item_view x).spot (item_view x).what (items_view (drop (i + 1) xs))) t
-block_from k xs i x t within is =
-    ap (λ l. block_of k (items_view l) t) (drop-cons xs i x within)
-    ∙ ap (λ y. block_of k (text.then (item_view y).spot (item_view y).what (items_view (drop (suc i) xs))) t) (sym is)
-    ∙ ap (λ n. block_of k (text.then (item_view x).spot (item_view x).what (items_view (drop n xs))) t) (sym (add-one i))
+pub items_from : (xs : List Item) (i : ℕ) (x : Item) → i < length xs → x ≡ get_or xs i x
+    → items_view (drop i xs) ≡ text.then (item_view x).spot (item_view x).what (items_view (drop (i + 1) xs))
+items_from xs i x within is =
+    ap items_view (drop-cons xs i x within)
+    ∙ ap (λ y. text.then (item_view y).spot (item_view y).what (items_view (drop (suc i) xs))) (sym is)
+    ∙ ap (λ n. text.then (item_view x).spot (item_view x).what (items_view (drop n xs))) (sym (add-one i))
 
 -- a statement at a spot
 abbrev pub placed : Spot → plain.Instruction → Placed
@@ -61,7 +60,7 @@ steps_more k look xs i x steps grown s w t u within is spot pushed so_far here =
     = step_seen look s
     ∙ ap (λ p. placed p (instruction_view look s.what)) (spot ∙ sym (item_spot x)) in
     so_far
-    ∙ ap (followed (map (step_view look) steps)) (block_from k xs i x t within is)
+    ∙ ap (followed (map (step_view look) steps)) (ap (λ b. block_of k b t) (items_from xs i x within is))
     ∙ placed_more (block_of k rest) (item_view x).spot (map (step_view look) steps) (instruction_view look s.what)
     (instruction_of k (item_view x).what t) u here
     ∙ ap (λ p. followed (map (step_view look) steps ++ p ∷ []) (block_of k rest u)) (sym seen)
@@ -75,14 +74,12 @@ arms_before_more [] b a = refl
 arms_before_more (d ∷ bs) b a = ap (plain.arm d) (arms_before_more bs b a)
 
 -- the branches from one on
-arms_from : {A : Type 0} (view : A → text.Body) (k : Catalogue) (xs : List A) (i : ℕ) (x : A) (t : plain.Tables)
-    → i < length xs → x ≡ get_or xs i x
-    → arms_of k (branches_of (map view (drop i xs))) t
-    ≡ arms_of k (text.branch (view x) (branches_of (map view (drop (i + 1) xs)))) t
-arms_from view k xs i x t within is =
-    ap (λ l. arms_of k (branches_of (map view l)) t) (drop-cons xs i x within)
-    ∙ ap (λ y. arms_of k (text.branch (view y) (branches_of (map view (drop (suc i) xs)))) t) (sym is)
-    ∙ ap (λ n. arms_of k (text.branch (view x) (branches_of (map view (drop n xs)))) t) (sym (add-one i))
+pub arms_from : {A : Type 0} (view : A → text.Body) (xs : List A) (i : ℕ) (x : A) → i < length xs → x ≡ get_or xs i x
+    → branches_of (map view (drop i xs)) ≡ text.branch (view x) (branches_of (map view (drop (i + 1) xs)))
+arms_from view xs i x within is =
+    ap (λ l. branches_of (map view l)) (drop-cons xs i x within)
+    ∙ ap (λ y. text.branch (view y) (branches_of (map view (drop (suc i) xs)))) (sym is)
+    ∙ ap (λ n. text.branch (view x) (branches_of (map view (drop n xs)))) (sym (add-one i))
 
 -- one branch more is done
 pub arms_more : {A B : Type 0} (view : A → text.Body) (seen : B → plain.Block) (k : Catalogue) (xs : List A) (i : ℕ)
@@ -94,7 +91,7 @@ pub arms_more : {A B : Type 0} (view : A → text.Body) (seen : B → plain.Bloc
 arms_more view seen k xs i x bs grown b w t u within is pushed so_far here =
     let rest = branches_of (map view (drop (i + 1) xs)) in
     so_far
-    ∙ ap (joined_behind (map seen bs)) (arms_from view k xs i x t within is)
+    ∙ ap (joined_behind (map seen bs)) (ap (λ b. arms_of k b t) (arms_from view xs i x within is))
     ∙ ap
     (λ y. numbered (arms_before (map seen bs) (plain.arm y.value (arms_of k rest y.tables).value)) (arms_of k rest y.tables).tables)
     (sym here)
@@ -139,8 +136,3 @@ under_numbered k q list b y p t t1 t2 at added inside =
     ∙ ap
     (λ i. numbered (plain.under q i (block_of k b (list_added list t)).value) (block_of k b (list_added list t)).tables)
     at
-
--- what follows of an answer that is there
-pub if_ok : {A E : Type 0} {P Q : A → Type 0} (r : Result A E) → ((x : A) → P x → Q x) → IfOk r P → IfOk r Q
-if_ok (Ok x) f h = f x h
-if_ok (Err e) f h = h

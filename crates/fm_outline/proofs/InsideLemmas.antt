@@ -1,165 +1,101 @@
--- What stands inside a statement without faults has none.
-use Rattle.std.proofs.Common.{◌≡◌, ℕ, zero, suc, ◌<◌, List, [], ◌∷◌, ◌++◌, length, get_or, map, ap, sym, ◌∙◌, arith, rules}
+-- What a statement says itself, before what stands inside it.
+use Rattle.std.proofs.Common.{◌≡◌, ℕ, List, [], ◌++◌, Option, Some, None, Ok, is_some, ap, sym, ◌∙◌, rules}
 use Rattle.std.specs.Prelude.{pos, neg_ℤ, ◌-ℤ◌}
-use Rattle.fm_grammar.specs.declared.item.Item.{Item}
-use Rattle.fm_grammar.specs.declared.length.Length.{Length}
-use Rattle.fm_grammar.specs.declared.number.Number.{Number}
+use Rattle.std.specs.List.{list_any}
+use Rattle.std.specs.Str.{bytes_eq}
 use Rattle.fm_grammar.specs.Score as text
-use Rattle.fm_grammar.specs.View.{item_view, items_view, branches_of}
-use Rattle.fm_pattern.specs.declared.cursor.TheConstants.{MAX_ENTRIES}
-use Rattle.fm_meaning.specs.Rules.{most_rounds, most_data, most_gate, bend_centre, most_bend}
-use Rattle.fm_meaning.specs.Ranges.{stmt_faults, body_faults, branches_faults, expr_faults, number_faults, numbers_faults}
-use Rattle.fm_meaning.specs.Ranges.{each_faults, length_faults, length_spot, pitches_faults, duration_faults, amount_faults}
-use Rattle.fm_outline.specs.InRange.{AmountFits, StmtInRange, BodyInRange, BranchesInRange}
-use Rattle.fm_version.proofs.RangeLemmas.{none_first, none_second}
-
--- the pitches of a note
-pub note_pitches : {ticks : ℕ} (ps : List text.Pitch) (d : text.Duration) → StmtInRange ticks (text.note ps d) → pitches_faults ps ≡ []
-note_pitches ps d r = none_first (pitches_faults ps) (duration_faults r.names.whole d) r.faultless
-
--- its duration
-pub note_duration : {ticks : ℕ} (ps : List text.Pitch) (d : text.Duration) → StmtInRange ticks (text.note ps d)
-    → duration_faults ticks d ≡ []
-note_duration ps d r =
-    ap (λ w. duration_faults w d) (sym r.whole)
-    ∙ none_second (pitches_faults ps) (duration_faults r.names.whole d) r.faultless
-
--- the duration of a rest
-pub rest_duration : {ticks : ℕ} (d : text.Duration) → StmtInRange ticks (text.rest d) → duration_faults ticks d ≡ []
-rest_duration d r = ap (λ w. duration_faults w d) (sym r.whole) ∙ r.faultless
+use Rattle.fm_meaning.specs.Fault.{NumberedFault}
+use Rattle.fm_meaning.specs.Faults.{first_found}
+use Rattle.fm_meaning.specs.Rules.{most_rounds, most_channel, most_data, most_gate, bend_centre, most_bend}
+use Rattle.fm_meaning.specs.Ranges.{stmt_faults, body_faults, amount_faults, expr_faults, number_faults, numbers_faults, unknown_faults}
+use Rattle.fm_expansion.specs.Numbering.{Catalogue}
+use Rattle.fm_ranges.specs.Own.{own_faults}
+use Rattle.fm_outline.specs.InRange.{AmountFits}
+use Rattle.fm_outline.specs.Knows.{labels, names_of, number_or_told}
+use Rattle.fm_outline.proofs.RefusalLemmas.{before, behind, no_first, number_clean}
 
 -- a number of seven bits fits
-data_fits : (a : text.Amount) → amount_faults (pos 0) (pos most_data) a ≡ [] → AmountFits a
+pub data_fits : (a : text.Amount) → amount_faults (pos 0) (pos most_data) a ≡ [] → AmountFits a
 data_fits (text.literal v spot) none = search rules
 data_fits (text.Amount.computed e) none = tt
 
 -- so does a bend
-bend_fits : (a : text.Amount) → amount_faults (neg_ℤ (pos bend_centre)) (pos most_bend -ℤ pos bend_centre) a ≡ []
+pub bend_fits : (a : text.Amount) → amount_faults (neg_ℤ (pos bend_centre)) (pos most_bend -ℤ pos bend_centre) a ≡ []
     → AmountFits a
 bend_fits (text.literal v spot) none = search rules
 bend_fits (text.Amount.computed e) none = tt
 
--- the number of a controller
-pub control_number : {ticks : ℕ} (n : Number) (a : text.Amount) → StmtInRange ticks (text.control n a) → number_faults 0 most_data n ≡ []
-control_number n a r = none_first (number_faults 0 most_data n) (amount_faults (pos 0) (pos most_data) a) r.faultless
+-- no fault of its own, of what it is
+pub own_clean : {x s : text.Stmt} (whole : ℕ) → x ≡ s → None ≡ first_found (own_faults whole x) → own_faults whole s ≡ []
+own_clean {s = s} whole seen own =
+    no_first (own_faults whole s) (own ∙ ap (λ y. first_found (own_faults whole y)) seen)
 
--- and its value
-pub control_amount : {ticks : ℕ} (n : Number) (a : text.Amount) → StmtInRange ticks (text.control n a) → AmountFits a
-control_amount n a r =
-    data_fits a (none_second (number_faults 0 most_data n) (amount_faults (pos 0) (pos most_data) a) r.faultless)
+-- all that it says is its own
+pub leaf_clean : {whole : ℕ} {x s : text.Stmt} (k : Catalogue) → x ≡ s → k.whole ≡ whole
+    → stmt_faults (names_of k) s ≡ own_faults k.whole s → None ≡ first_found (own_faults whole x)
+    → first_found (stmt_faults (names_of k) x) ≡ None
+leaf_clean {whole = whole} {s = s} k seen same all own =
+    ap (λ y. first_found (stmt_faults (names_of k) y)) seen ∙ ap first_found all
+    ∙ ap (λ w. first_found (own_faults w s)) same
+    ∙ ap first_found (own_clean whole seen own)
 
--- the number of a program
-pub program_amount : {ticks : ℕ} (a : text.Amount) → StmtInRange ticks (text.program a) → AmountFits a
-program_amount a r = data_fits a r.faultless
+-- the first fault is that of what stands behind its own
+pub behind_own : {whole : ℕ} {x s : text.Stmt} (k : Catalogue) (rest : List NumberedFault) → x ≡ s → k.whole ≡ whole
+    → stmt_faults (names_of k) s ≡ own_faults k.whole s ++ rest → None ≡ first_found (own_faults whole x)
+    → first_found (stmt_faults (names_of k) x) ≡ first_found rest
+behind_own {whole = whole} {s = s} k rest seen same all own =
+    ap (λ y. first_found (stmt_faults (names_of k) y)) seen ∙ ap first_found all
+    ∙ ap (λ w. first_found (own_faults w s ++ rest)) same
+    ∙ ap (λ fs. first_found (fs ++ rest)) (own_clean whole seen own)
 
--- a bend
-pub bend_amount : {ticks : ℕ} (a : text.Amount) → StmtInRange ticks (text.bend a) → AmountFits a
-bend_amount a r = bend_fits a r.faultless
+-- a fault of its own comes first
+own_first : (k : Catalogue) (s : text.Stmt) (f : NumberedFault) → first_found (own_faults k.whole s) ≡ Some f
+    → first_found (stmt_faults (names_of k) s) ≡ Some f
+own_first k (text.choice e a b) f is =
+    before (expr_faults e ++ body_faults (names_of k) a) (body_faults (names_of k) b) f
+    (before (expr_faults e) (body_faults (names_of k) a) f is)
+own_first k (text.repeat n b) f is = before (number_faults 0 most_rounds n) (body_faults (names_of k) b) f is
+own_first k (text.again e n b) f is =
+    before (expr_faults e ++ number_faults 0 most_rounds n) (body_faults (names_of k) b) f is
+own_first k (text.par bs) f is = cc
+own_first k (text.call name) f is = cc
+own_first k (text.warp name b) f is = cc
+own_first k (text.channel n b) f is = before (number_faults 0 most_channel n) (body_faults (names_of k) b) f is
+own_first k (text.volume n b) f is = before (number_faults 1 most_data n) (body_faults (names_of k) b) f is
+own_first k (text.gate n b) f is = before (number_faults 0 most_gate n) (body_faults (names_of k) b) f is
+own_first k (text.rhythm ls b) f is =
+    before (own_faults k.whole (text.rhythm ls b)) (body_faults (names_of k) b) f is
+own_first k (text.artic ns b) f is = before (numbers_faults 0 most_gate ns) (body_faults (names_of k) b) f is
+own_first k (text.loud ns b) f is = before (numbers_faults 1 most_data ns) (body_faults (names_of k) b) f is
+own_first k s f is = is
 
--- the first block
-pub first_block : {ticks : ℕ} (e : text.Postfix) (a b : text.Body) → StmtInRange ticks (text.choice e a b) → BodyInRange ticks a
-first_block e a b r = record {
-  names = r.names;
-  whole = r.whole;
-  faultless =
-      none_second (expr_faults e) (body_faults r.names a)
-      (none_first (expr_faults e ++ body_faults r.names a) (body_faults r.names b) r.faultless);
-}
+pub own_told : {whole : ℕ} (k : Catalogue) (s : text.Stmt) (f : NumberedFault) → k.whole ≡ whole
+    → first_found (own_faults whole s) ≡ Some f → first_found (stmt_faults (names_of k) s) ≡ Some f
+own_told k s f same is = own_first k s f (ap (λ w. first_found (own_faults w s)) same ∙ is)
 
--- the second block
-pub second_block : {ticks : ℕ} (e : text.Postfix) (a b : text.Body) → StmtInRange ticks (text.choice e a b) → BodyInRange ticks b
-second_block e a b r = record {
-  names = r.names;
-  whole = r.whole;
-  faultless =
-      none_second (expr_faults e ++ body_faults r.names a) (body_faults r.names b) r.faultless;
-}
+-- a fault of the first of two blocks
+pub first_block : {x : text.Stmt} (whole : ℕ) (k : Catalogue) (e : text.Postfix) (a b : text.Body) (f : NumberedFault)
+    → x ≡ text.choice e a b → None ≡ first_found (own_faults whole x) → first_found (body_faults (names_of k) a) ≡ Some f
+    → first_found (stmt_faults (names_of k) x) ≡ Some f
+first_block whole k e a b f seen own told =
+    ap (λ y. first_found (stmt_faults (names_of k) y)) seen
+    ∙ before (expr_faults e ++ body_faults (names_of k) a) (body_faults (names_of k) b) f
+    (ap (λ fs. first_found (fs ++ body_faults (names_of k) a)) (own_clean whole seen own) ∙ told)
 
--- the statements of a loop with a count that is computed
-pub again_body : {ticks : ℕ} (e : text.Postfix) (n : Number) (b : text.Body) → StmtInRange ticks (text.again e n b) → BodyInRange ticks b
-again_body e n b r = record {
-  names = r.names;
-  whole = r.whole;
-  faultless =
-      none_second (expr_faults e ++ number_faults 0 most_rounds n) (body_faults r.names b) r.faultless;
-}
+-- the first has none
+pub second_block : {x : text.Stmt} (whole : ℕ) (k : Catalogue) (e : text.Postfix) (a b : text.Body)
+    → x ≡ text.choice e a b → None ≡ first_found (own_faults whole x) → first_found (body_faults (names_of k) a) ≡ None
+    → first_found (stmt_faults (names_of k) x) ≡ first_found (body_faults (names_of k) b)
+second_block whole k e a b seen own none =
+    ap (λ y. first_found (stmt_faults (names_of k) y)) seen
+    ∙ behind (expr_faults e ++ body_faults (names_of k) a) (body_faults (names_of k) b)
+    (sym (ap (λ fs. first_found (fs ++ body_faults (names_of k) a)) (own_clean whole seen own) ∙ none))
 
--- the lengths of a rhythm
-pub rhythm_lengths : {ticks : ℕ} (ls : List Length) (b : text.Body) → StmtInRange ticks (text.rhythm ls b)
-    → each_faults (length_faults ticks) length_spot MAX_ENTRIES ls ≡ []
-rhythm_lengths ls b r =
-    ap (λ w. each_faults (length_faults w) length_spot MAX_ENTRIES ls) (sym r.whole)
-    ∙ none_first (each_faults (length_faults r.names.whole) length_spot MAX_ENTRIES ls) (body_faults r.names b)
-    r.faultless
-
--- the statements under it
-pub rhythm_body : {ticks : ℕ} (ls : List Length) (b : text.Body) → StmtInRange ticks (text.rhythm ls b) → BodyInRange ticks b
-rhythm_body ls b r = record {
-  names = r.names;
-  whole = r.whole;
-  faultless =
-      none_second (each_faults (length_faults r.names.whole) length_spot MAX_ENTRIES ls) (body_faults r.names b)
-      r.faultless;
-}
-
--- the statements under a list of articulations
-pub artic_body : {ticks : ℕ} (ns : List Number) (b : text.Body) → StmtInRange ticks (text.artic ns b) → BodyInRange ticks b
-artic_body ns b r = record {
-  names = r.names;
-  whole = r.whole;
-  faultless = none_second (numbers_faults 0 most_gate ns) (body_faults r.names b) r.faultless;
-}
-
--- the statements under a list of velocities
-pub loud_body : {ticks : ℕ} (ns : List Number) (b : text.Body) → StmtInRange ticks (text.loud ns b) → BodyInRange ticks b
-loud_body ns b r = record {
-  names = r.names;
-  whole = r.whole;
-  faultless = none_second (numbers_faults 1 most_data ns) (body_faults r.names b) r.faultless;
-}
-
--- the branches of a fork
-pub par_branches : {ticks : ℕ} (bs : text.Branches) → StmtInRange ticks (text.par bs) → BranchesInRange ticks bs
-par_branches bs r = record { names = r.names; whole = r.whole; faultless = r.faultless }
-
--- the branch at a place
-pub branch_at : {ticks : ℕ} {A : Type 0} (view : A → text.Body) (xs : List A) → BranchesInRange ticks (branches_of (map view xs))
-    → (i : ℕ) (x : A) → i < length xs → x ≡ get_or xs i x → BodyInRange ticks (view x)
-branch_at view [] r i x within is = absurd (omega arith)
-branch_at view (y ∷ xs) r zero x within is =
-    let same : x ≡ y = is in
-    rw same (record {
-      names = r.names;
-      whole = r.whole;
-      faultless =
-          none_first (body_faults r.names (view y)) (branches_faults r.names (branches_of (map view xs))) r.faultless;
-    })
-branch_at view (y ∷ xs) r (suc i) x within is =
-    branch_at view xs
-    (record {
-      names = r.names;
-      whole = r.whole;
-      faultless =
-          none_second (body_faults r.names (view y)) (branches_faults r.names (branches_of (map view xs))) r.faultless;
-    }) i x (omega arith) is
-
--- the statement at a place
-pub item_at : {ticks : ℕ} (xs : List Item) → BodyInRange ticks (items_view xs) → (i : ℕ) (x : Item) → i < length xs
-    → x ≡ get_or xs i x → StmtInRange ticks (item_view x).what
-item_at [] r i x within is = absurd (omega arith)
-item_at (y ∷ xs) r zero x within is =
-    let same : x ≡ y = is in
-    rw same (record {
-      names = r.names;
-      whole = r.whole;
-      faultless =
-          none_first (stmt_faults r.names (item_view y).what) (body_faults r.names (items_view xs)) r.faultless;
-    })
-item_at (y ∷ xs) r (suc i) x within is =
-    item_at xs
-    (record {
-      names = r.names;
-      whole = r.whole;
-      faultless =
-          none_second (stmt_faults r.names (item_view y).what) (body_faults r.names (items_view xs)) r.faultless;
-    }) i x (omega arith) is
+-- under a deformation that is known
+pub under_known : {x : text.Stmt} (k : Catalogue) (name : text.Leaf) (b : text.Body) (o : Option ℕ) (n : ℕ)
+    → x ≡ text.warp name b → is_some o ≡ list_any (bytes_eq name.text) (labels k.shapes) → Ok n ≡ number_or_told name o
+    → first_found (stmt_faults (names_of k) x) ≡ first_found (body_faults (names_of k) b)
+under_known k name b o n seen known is =
+    ap (λ y. first_found (stmt_faults (names_of k) y)) seen
+    ∙ behind (unknown_faults name (labels k.shapes)) (body_faults (names_of k) b)
+    (number_clean name (labels k.shapes) o n known is)

@@ -1,4 +1,5 @@
 pub mod RangeLemmas
+pub mod RefusalLemmas
 pub mod InsideLemmas
 pub mod SeenLemmas
 pub mod GrowingLemmas

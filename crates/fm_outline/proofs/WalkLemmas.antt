@@ -1,9 +1,12 @@
 -- The walk over the entries, one more at a time.
-use Rattle.std.proofs.Common.{◌≡◌, ℕ, zero, suc, ◌+◌, ◌<◌, ◌≤◌, List, [], ◌∷◌, ◌++◌, map, drop, length, get_or, refl, ap, ap₂, sym, ◌∙◌, add-one, arith, Bool, true, false, cond, Option, Some, None, drop_of_length-le, subst, Vec, Global}
+use Rattle.std.proofs.Common.{◌≡◌, ℕ, zero, suc, ◌+◌, ◌<◌, ◌≤◌, List, [], ◌∷◌, ◌++◌, map, drop, length, get_or, refl, ap, ap₂, sym, ◌∙◌, add-one, arith, Bool, true, false, ◌||◌, cond, Option, Some, None, is_some, drop_of_length-le, subst, Vec, Global}
 use Rattle.std.specs.Prelude.{if◌then◌else◌, unwrap_or}
+use Rattle.std.specs.List.{list_any}
 use Rattle.std.specs.Str.{bytes_eq}
 use Rattle.std.proofs.Math.Seq.{drop-cons}
 use Rattle.std.proofs.lemmas.List.{map-append, length-append}
+use Rattle.std.proofs.lemmas.List.Folds.{list_any-append}
+use Rattle.std.proofs.lemmas.Slice.Eq.{bytes_eq-Decides}
 use Rattle.fm_lex.specs.declared.spot.Spot.{Spot}
 use Rattle.fm_names.specs.Named.{named}
 use Rattle.fm_names.specs.declared.names.Names as table
@@ -14,52 +17,24 @@ use Rattle.fm_grammar.specs.declared.part_text.PartText.{PartText}
 use Rattle.fm_grammar.specs.Score as text
 use Rattle.fm_grammar.specs.View.{entry_view}
 use Rattle.fm_meaning.specs.Resolve.{part_of, meaning_of, named_as}
+use Rattle.fm_meaning.specs.Fault.{NumberedFault, fault_if, double_name}
+use Rattle.fm_meaning.specs.Faults.{first_found}
 use Rattle.fm_meaning.specs.Ranges.{Names, stmt_faults, body_faults, double_faults, each_faults, part_faults, part_length, length_spot, head_faults, entries_faults, second_walk}
 use Rattle.fm_meaning.specs.Rules.{score_rules}
 use Rattle.fm_expansion.specs.Outline as plain
 use Rattle.fm_expansion.specs.Numbering.{Catalogue, numbered, instruction_of, block_of, outline, outline_from, warp_added, no_tables}
 use Rattle.fm_outline.specs.declared.known.Known.{Known}
+use Rattle.fm_outline.specs.declared.known.Meaning.{Meaning}
+use Rattle.fm_outline.specs.declared.known.Meaning.TheVariants.{Shape, Phrase}
 use Rattle.fm_outline.specs.declared.step.Step.{Step}
-use Rattle.fm_outline.specs.InRange.{StmtInRange, BodyInRange}
 use Rattle.fm_outline.specs.View.{Look, phrase_at, look_in, phrases_behind, phrases_view, instruction_view, step_view, block_view}
 use Rattle.fm_outline.specs.Growing.{followed}
-use Rattle.fm_outline.specs.Knows.{Knows}
+use Rattle.fm_outline.specs.Knows.{Knows, labels, names_of, phrase_number, shape_place}
 use Rattle.fm_outline.specs.Walked.{Extends, WalkedBy}
-use Rattle.fm_version.proofs.RangeLemmas.{none_first, none_second}
 use Rattle.fm_outline.proofs.PhraseLemmas.{phrases_more, get_mapped}
+use Rattle.fm_outline.proofs.RefusalLemmas.{before, behind, no_first}
 use Rattle.fm_outline.proofs.SeenLemmas.{step_seen}
 use Rattle.fm_outline.proofs.GrowingLemmas.{placed, placed_more}
-
--- ---- what has no fault
-
--- a statement that is played
-pub play_in_range : {ticks : ℕ} (names : Names) (spot : Spot) (stmt : text.Stmt) (rest : List text.Entry)
-    → names.whole ≡ ticks → entries_faults names (text.plays spot stmt ∷ rest) ≡ [] → StmtInRange ticks stmt
-play_in_range names spot stmt rest whole none =
-    record { names = names; whole = whole; faultless = none_first (stmt_faults names stmt) (entries_faults names rest) none }
-
--- the statements of a phrase
-pub phrase_in_range : {ticks : ℕ} (names : Names) (name : text.Leaf) (body : text.Body) (rest : List text.Entry)
-    → names.whole ≡ ticks → entries_faults names (text.phrase name body ∷ rest) ≡ [] → BodyInRange ticks body
-phrase_in_range names name body rest whole none = record {
-  names = names;
-  whole = whole;
-  faultless =
-      none_second (double_faults name names) (body_faults names body)
-      (none_first (double_faults name names ++ body_faults names body)
-      (entries_faults (record names { phrases = name.text ∷ names.phrases }) rest) none);
-}
-
--- the parts of a shape
-pub shape_in_range : {ticks : ℕ} (names : Names) (name : text.Leaf) (parts : List PartText) (rest : List text.Entry)
-    → names.whole ≡ ticks → entries_faults names (text.shape name parts ∷ rest) ≡ []
-    → each_faults (part_faults ticks) (λ p. length_spot (part_length p)) MAX_PARTS parts ≡ []
-shape_in_range names name parts rest whole none =
-    let faults = λ (w : ℕ). each_faults (part_faults w) (λ p. length_spot (part_length p)) MAX_PARTS parts in
-    ap faults (sym whole)
-    ∙ none_second (double_faults name names) (faults names.whole)
-    (none_first (double_faults name names ++ faults names.whole)
-    (entries_faults (record names { shapes = name.text ∷ names.shapes }) rest) none)
 
 -- ---- phrases
 
@@ -102,31 +77,78 @@ extends_last blocks b look more =
 
 -- ---- one of two meanings
 
-either_number : (b : Bool) (p n m : ℕ) (o : Option ℕ) → p ≡ n → unwrap_or o 0 ≡ m
-    → unwrap_or (cond b (Some p) o) 0 ≡ if b then n else m
-either_number true p n m o first second = first
-either_number false p n m o first second = second
+-- what is made of a name that is defined, or of another
+either_of : {A : Type 0} (f : Option Meaning → A) (b : Bool) (m : Meaning) (o : Option Meaning) (x y : A)
+    → f (Some m) ≡ x → f o ≡ y → f (cond b (Some m) o) ≡ if b then x else y
+either_of f true m o x y first second = first
+either_of f false m o x y first second = second
 
-either_phrase : (look : Look) (b : Bool) (p : ℕ) (v w : plain.Block) (o : Option ℕ) → look p ≡ v → phrase_at look o ≡ w
-    → phrase_at look (cond b (Some p) o) ≡ if b then v else w
-either_phrase look true p v w o first second = first
-either_phrase look false p v w o first second = second
+-- whether it is known, or another is
+either_known : (f : Option Meaning → Bool) (b : Bool) (m : Meaning) (o : Option Meaning) (y : Bool)
+    → f (Some m) ≡ true → f o ≡ y → f (cond b (Some m) o) ≡ (b || y)
+either_known f true m o y first second = first
+either_known f false m o y first second = second
+
+-- a new name of one kind changes nothing of the other kind
+other_kind : {A : Type 0} (f : Option Meaning → A) (q name : List ℕ) (m : Meaning) (o : List ℕ → Option Meaning)
+    → o name ≡ None → f (Some m) ≡ f None → f (cond (bytes_eq q name) (Some m) (o q)) ≡ f (o q)
+other_kind f q name m o new same =
+    choice (bytes_eq q name) (λ e. ap o ((bytes_eq-Decides q name).0 e) ∙ new)
+  where
+    choice : (b : Bool) → (b ≡ true → o q ≡ None) → f (cond b (Some m) (o q)) ≡ f (o q)
+    choice true is = same ∙ sym (ap f (is refl))
+    choice false is = refl
+
+-- a name is one of either kind where it stands for something
+either_kind : (o : Option Meaning) → (is_some (shape_place o) || is_some (phrase_number o)) ≡ is_some o
+either_kind None = refl
+either_kind (Some (Shape p)) = refl
+either_kind (Some (Phrase n)) = refl
+
+-- the fault of a name that is defined before
+pub double_is : {known : Known} {look : Look} {k : Catalogue} (name : text.Leaf) → Knows known look k
+    → fault_if (is_some (named known.names name.text)) name.spot double_name ≡ double_faults name (names_of k)
+double_is {known} {look} {k} name knows =
+    ap (λ b. fault_if b name.spot double_name)
+    (sym (list_any-append (bytes_eq name.text) (labels k.shapes) (labels k.phrases)
+    ∙ ap₂ (λ a b. a || b) (sym (knows.is_shape name.text)) (sym (knows.is_phrase name.text))
+    ∙ either_kind (named known.names name.text)))
+
+-- a new name has no fault
+new_behind : {known : Known} {look : Look} {k : Catalogue} (name : text.Leaf) (fs : List NumberedFault)
+    → Knows known look k → named known.names name.text ≡ None
+    → first_found (double_faults name (names_of k) ++ fs) ≡ first_found fs
+new_behind name fs knows new =
+    ap (λ ds. first_found (ds ++ fs))
+    (sym (double_is name knows) ∙ ap (λ o. fault_if (is_some o) name.spot double_name) new)
+
+-- the faults of the parts of a shape
+abbrev pub parts_faults : (whole : ℕ) → List PartText → List NumberedFault
+parts_faults whole parts = each_faults (part_faults whole) (λ p. length_spot (part_length p)) MAX_PARTS parts
 
 -- ---- entries
+
+-- the phrases that are there are known to themselves
+knows_here : {score : text.Score} {known : Known} {phrases : List (List Step)} {block : List Step} {t : plain.Tables}
+    {rest : List text.Entry} (r : WalkedBy score known phrases block t rest)
+    → Knows known (look_in (phrases_view phrases)) r.k
+knows_here r = r.knows _ (λ n within. refl)
 
 -- a statement more
 pub play_walked : (score : text.Score) (known : Known) (phrases : List (List Step)) (block grown : List Step)
     (t u : plain.Tables) (spot : Spot) (stmt : text.Stmt) (rest : List text.Entry) (s : Step)
     → s.spot ≡ spot → grown ≡ block ++ s ∷ []
     → ((k : Catalogue) (look : Look) → Knows known look k
-    → numbered (instruction_view look s.what) u ≡ instruction_of k stmt t)
+    → (first_found (stmt_faults (names_of k) stmt) ≡ None)
+    × (numbered (instruction_view look s.what) u ≡ instruction_of k stmt t))
     → WalkedBy score known phrases block t (text.plays spot stmt ∷ rest)
     → WalkedBy score known phrases grown u rest
 play_walked score known phrases block grown t u spot stmt rest s at pushed is r = record {
-  names = r.names;
   k = r.k;
-  whole = r.whole;
-  faultless = none_second (stmt_faults r.names stmt) (entries_faults r.names rest) r.faultless;
+  first =
+      r.first
+      ∙ behind (stmt_faults (names_of r.k) stmt) (entries_faults (names_of r.k) rest)
+      (sym (is r.k _ (knows_here r)).0);
   knows = r.knows;
   stand = r.stand;
   so_far = λ look more.
@@ -134,39 +156,50 @@ play_walked score known phrases block grown t u spot stmt rest s at pushed is r 
       let what = instruction_view look s.what in
       let seen : step_view look s ≡ placed spot what = step_seen look s ∙ ap (λ p. placed p what) at in
       r.so_far look more
-      ∙ placed_more (outline_from r.k rest) spot steps what (instruction_of r.k stmt t) u (is r.k look (r.knows look more))
+      ∙ placed_more (outline_from r.k rest) spot steps what (instruction_of r.k stmt t) u (is r.k look (r.knows look more)).1
       ∙ ap (λ p. followed (steps ++ p ∷ []) (outline_from r.k rest u)) (sym seen)
       ∙ ap (λ l. followed l (outline_from r.k rest u)) (sym (map-append (step_view look) block (s ∷ [])))
       ∙ ap (λ l. followed (map (step_view look) l) (outline_from r.k rest u)) (sym pushed);
 }
 
 -- a shape more
-pub shape_walked : (score : text.Score) (known : Known) (shapes : table.Names ℕ) (phrases : List (List Step))
+pub shape_walked : (score : text.Score) (known : Known) (names : table.Names Meaning) (phrases : List (List Step))
     (block : List Step) (t u : plain.Tables) (name : text.Leaf) (parts : List PartText) (rest : List text.Entry)
-    (p : ℕ) (warp : List Part) → warp ≡ map (part_of known.whole) parts → p ≡ length t.warps → u ≡ warp_added warp t
-    → ((q : List ℕ) → named shapes q ≡ cond (bytes_eq q name.text) (Some p) (named known.shapes q))
+    (p : ℕ) (warp : List Part) → named known.names name.text ≡ None → None ≡ first_found (parts_faults known.whole parts)
+    → warp ≡ map (part_of known.whole) parts → p ≡ length t.warps → u ≡ warp_added warp t
+    → ((q : List ℕ) → named names q ≡ cond (bytes_eq q name.text) (Some (Shape p)) (named known.names q))
     → WalkedBy score known phrases block t (text.shape name parts ∷ rest)
-    → WalkedBy score (record known { shapes = shapes }) phrases block u rest
-shape_walked score known shapes phrases block t u name parts rest p warp is at added defined r =
+    → WalkedBy score (record known { names = names }) phrases block u rest
+shape_walked score known names phrases block t u name parts rest p warp new clean is at added defined r =
     let k : Catalogue = record r.k { shapes = named_as name (length t.warps) ∷ r.k.shapes } in
     record {
-      names = record r.names { shapes = name.text ∷ r.names.shapes };
       k = k;
-      whole = r.whole;
-      faultless =
-          none_second
-          (double_faults name r.names
-          ++ each_faults (part_faults r.names.whole) (λ p. length_spot (part_length p)) MAX_PARTS parts)
-          (entries_faults (record r.names { shapes = name.text ∷ r.names.shapes }) rest) r.faultless;
+      first =
+          let knows = knows_here r in
+          r.first
+          ∙ behind (double_faults name (names_of r.k) ++ parts_faults r.k.whole parts) (entries_faults (names_of k) rest)
+          (sym (new_behind name (parts_faults r.k.whole parts) knows new
+          ∙ ap (λ w. first_found (parts_faults w parts)) knows.whole ∙ sym clean));
       knows = λ look more.
           let knows = r.knows look more in
           record {
             whole = knows.whole;
             shapes = λ q.
-                ap (λ o. unwrap_or o 0) (defined q)
-                ∙ either_number (bytes_eq q name.text) p (length t.warps) (meaning_of q 0 r.k.shapes)
-                (named known.shapes q) at (knows.shapes q);
-            phrases = knows.phrases;
+                ap (λ o. unwrap_or (shape_place o) 0) (defined q)
+                ∙ either_of (λ o. unwrap_or (shape_place o) 0) (bytes_eq q name.text) (Shape p) (named known.names q)
+                (length t.warps) (meaning_of q 0 r.k.shapes) at (knows.shapes q);
+            phrases = λ q.
+                ap (λ o. phrase_at look (phrase_number o)) (defined q)
+                ∙ other_kind (λ o. phrase_at look (phrase_number o)) q name.text (Shape p) (named known.names) new refl
+                ∙ knows.phrases q;
+            is_shape = λ q.
+                ap (λ o. is_some (shape_place o)) (defined q)
+                ∙ either_known (λ o. is_some (shape_place o)) (bytes_eq q name.text) (Shape p) (named known.names q)
+                (list_any (bytes_eq q) (labels r.k.shapes)) refl (knows.is_shape q);
+            is_phrase = λ q.
+                ap (λ o. is_some (phrase_number o)) (defined q)
+                ∙ other_kind (λ o. is_some (phrase_number o)) q name.text (Shape p) (named known.names) new refl
+                ∙ knows.is_phrase q;
           };
       stand = r.stand;
       so_far = λ look more.
@@ -178,19 +211,21 @@ shape_walked score known shapes phrases block t u name parts rest p warp is at a
     }
 
 -- a phrase more
-pub phrase_walked : (score : text.Score) (known : Known) (names : table.Names ℕ) (forking : Vec Bool Global)
+pub phrase_walked : (score : text.Score) (known : Known) (names : table.Names Meaning) (forking : Vec Bool Global)
     (phrases grown : List (List Step)) (block : List Step) (t u : plain.Tables) (name : text.Leaf) (body : text.Body)
-    (rest : List text.Entry) (p : ℕ) (steps : List Step) → p ≡ length phrases → grown ≡ phrases ++ steps ∷ []
-    → ((q : List ℕ) → named names q ≡ cond (bytes_eq q name.text) (Some p) (named known.phrases q))
-    → ((k : Catalogue) (look : Look) → Knows known look k → numbered (block_view look steps) u ≡ block_of k body t)
+    (rest : List text.Entry) (p : ℕ) (steps : List Step) → named known.names name.text ≡ None
+    → p ≡ length phrases → grown ≡ phrases ++ steps ∷ []
+    → ((q : List ℕ) → named names q ≡ cond (bytes_eq q name.text) (Some (Phrase p)) (named known.names q))
+    → ((k : Catalogue) (look : Look) → Knows known look k → (first_found (body_faults (names_of k) body) ≡ None)
+    × (numbered (block_view look steps) u ≡ block_of k body t))
     → WalkedBy score known phrases block t (text.phrase name body ∷ rest)
-    → WalkedBy score (record known { phrases = names; forking = forking }) grown block u rest
-phrase_walked score known names forking phrases grown block t u name body rest p steps at pushed defined is r =
+    → WalkedBy score (record known { names = names; forking = forking }) grown block u rest
+phrase_walked score known names forking phrases grown block t u name body rest p steps new at pushed defined is r =
     let blocks = phrases_view phrases in
     let value = (block_of r.k body t).value in
     let k : Catalogue = record r.k { phrases = named_as name value ∷ r.k.phrases } in
     let here : (look : Look) → Extends blocks look → numbered (block_view look steps) u ≡ block_of r.k body t
-    = λ look more. is r.k look (r.knows look more) in
+    = λ look more. (is r.k look (r.knows look more)).1 in
     let itself : Extends blocks (look_in blocks) = λ n within. refl in
     let last = block_view (look_in blocks) steps in
     let last_is : last ≡ value = ap (λ x. x.value) (here (look_in blocks) itself) in
@@ -198,12 +233,12 @@ phrase_walked score known names forking phrases grown block t u name body rest p
     let fewer : (look : Look) → Extends (phrases_view grown) look → Extends blocks look
     = λ look more. extends_less blocks last look (subst (λ bs. Extends bs look) all more) in
     record {
-      names = record r.names { phrases = name.text ∷ r.names.phrases };
       k = k;
-      whole = r.whole;
-      faultless =
-          none_second (double_faults name r.names ++ body_faults r.names body)
-          (entries_faults (record r.names { phrases = name.text ∷ r.names.phrases }) rest) r.faultless;
+      first =
+          let knows = knows_here r in
+          r.first
+          ∙ behind (double_faults name (names_of r.k) ++ body_faults (names_of r.k) body) (entries_faults (names_of k) rest)
+          (sym (new_behind name (body_faults (names_of r.k) body) knows new ∙ (is r.k _ knows).0));
       knows = λ look more.
           let knows = r.knows look (fewer look more) in
           let found : look p ≡ value
@@ -211,11 +246,22 @@ phrase_walked score known names forking phrases grown block t u name body rest p
           ∙ extends_last blocks last look (subst (λ bs. Extends bs look) all more) ∙ last_is in
           record {
             whole = knows.whole;
-            shapes = knows.shapes;
+            shapes = λ q.
+                ap (λ o. unwrap_or (shape_place o) 0) (defined q)
+                ∙ other_kind (λ o. unwrap_or (shape_place o) 0) q name.text (Phrase p) (named known.names) new refl
+                ∙ knows.shapes q;
             phrases = λ q.
-                ap (phrase_at look) (defined q)
-                ∙ either_phrase look (bytes_eq q name.text) p value (meaning_of q plain.done r.k.phrases)
-                (named known.phrases q) found (knows.phrases q);
+                ap (λ o. phrase_at look (phrase_number o)) (defined q)
+                ∙ either_of (λ o. phrase_at look (phrase_number o)) (bytes_eq q name.text) (Phrase p)
+                (named known.names q) value (meaning_of q plain.done r.k.phrases) found (knows.phrases q);
+            is_shape = λ q.
+                ap (λ o. is_some (shape_place o)) (defined q)
+                ∙ other_kind (λ o. is_some (shape_place o)) q name.text (Phrase p) (named known.names) new refl
+                ∙ knows.is_shape q;
+            is_phrase = λ q.
+                ap (λ o. is_some (phrase_number o)) (defined q)
+                ∙ either_known (λ o. is_some (phrase_number o)) (bytes_eq q name.text) (Phrase p) (named known.names q)
+                (list_any (bytes_eq q) (labels r.k.phrases)) refl (knows.is_phrase q);
           };
       stand = λ look more.
           let same : last ≡ block_view look steps
@@ -230,29 +276,66 @@ phrase_walked score known names forking phrases grown block t u name body rest p
           (sym (ap (λ x. x.tables) (here look (fewer look more))));
     }
 
+-- ---- entries with a fault
+
+-- a statement that is played
+pub play_refused : {score : text.Score} {known : Known} {phrases : List (List Step)} {block : List Step} {t : plain.Tables}
+    {spot : Spot} {stmt : text.Stmt} {rest : List text.Entry}
+    → WalkedBy score known phrases block t (text.plays spot stmt ∷ rest) → (f : NumberedFault)
+    → ((k : Catalogue) (look : Look) → Knows known look k → first_found (stmt_faults (names_of k) stmt) ≡ Some f)
+    → first_found (second_walk score) ≡ Some f
+play_refused {stmt = stmt} {rest = rest} r f told =
+    r.first
+    ∙ before (stmt_faults (names_of r.k) stmt) (entries_faults (names_of r.k) rest) f (told r.k _ (knows_here r))
+
+-- a name that is defined before, in front of what stands behind it
+pub name_refused : {score : text.Score} {known : Known} {phrases : List (List Step)} {block : List Step} {t : plain.Tables}
+    {e : text.Entry} {rest : List text.Entry} → WalkedBy score known phrases block t (e ∷ rest) → (name : text.Leaf)
+    (f : NumberedFault) (inside others : Names → List NumberedFault)
+    → ((ns : Names) → entries_faults ns (e ∷ rest) ≡ double_faults name ns ++ inside ns ++ others ns)
+    → first_found (fault_if (is_some (named known.names name.text)) name.spot double_name) ≡ Some f
+    → first_found (second_walk score) ≡ Some f
+name_refused r name f inside others all told =
+    let ns = names_of r.k in
+    r.first ∙ ap first_found (all ns)
+    ∙ before (double_faults name ns ++ inside ns) (others ns) f
+    (before (double_faults name ns) (inside ns) f (ap first_found (sym (double_is name (knows_here r))) ∙ told))
+
+-- what stands behind a new name
+pub inside_refused : {score : text.Score} {known : Known} {phrases : List (List Step)} {block : List Step} {t : plain.Tables}
+    {e : text.Entry} {rest : List text.Entry} → WalkedBy score known phrases block t (e ∷ rest) → (name : text.Leaf)
+    (f : NumberedFault) (inside others : Names → List NumberedFault)
+    → ((ns : Names) → entries_faults ns (e ∷ rest) ≡ double_faults name ns ++ inside ns ++ others ns)
+    → named known.names name.text ≡ None
+    → ((k : Catalogue) (look : Look) → Knows known look k → first_found (inside (names_of k)) ≡ Some f)
+    → first_found (second_walk score) ≡ Some f
+inside_refused r name f inside others all new told =
+    let ns = names_of r.k in
+    r.first ∙ ap first_found (all ns)
+    ∙ before (double_faults name ns ++ inside ns) (others ns) f
+    (new_behind name (inside ns) (knows_here r) new ∙ told r.k _ (knows_here r))
+
 -- ---- the whole score
 
 -- before the first entry
-pub begun : (score : text.Score) (known : Known) (t : plain.Tables)
-    → ((q : List ℕ) → named known.shapes q ≡ None) → ((q : List ℕ) → named known.phrases q ≡ None) → t ≡ no_tables
-    → known.whole ≡ (score_rules score).whole_note → second_walk score ≡ []
+pub begun : (score : text.Score) (known : Known) (t : plain.Tables) → ((q : List ℕ) → named known.names q ≡ None)
+    → t ≡ no_tables → known.whole ≡ (score_rules score).whole_note → None ≡ first_found (head_faults score)
     → WalkedBy score known [] [] t score.entries
-begun score known t shapes phrases empty is none = record {
-  names = record { whole = (score_rules score).whole_note; shapes = []; phrases = [] };
-  k = record { whole = (score_rules score).whole_note; shapes = []; phrases = [] };
-  whole = sym is;
-  faultless =
-      none_second (head_faults score)
-      (entries_faults (record { whole = (score_rules score).whole_note; shapes = []; phrases = [] }) score.entries) none;
-  knows = λ look more. record {
-    whole = sym is;
-    shapes = λ q. ap (λ o. unwrap_or o 0) (shapes q);
-    phrases = λ q. ap (phrase_at look) (phrases q);
-  };
-  stand = λ look more. refl;
-  so_far = λ look more.
-      ap (outline_from (record { whole = (score_rules score).whole_note; shapes = []; phrases = [] }) score.entries) (sym empty);
-}
+begun score known t names empty is clean =
+    let k : Catalogue = record { whole = (score_rules score).whole_note; shapes = []; phrases = [] } in
+    record {
+      k = k;
+      first = behind (head_faults score) (entries_faults (names_of k) score.entries) clean;
+      knows = λ look more. record {
+        whole = sym is;
+        shapes = λ q. ap (λ o. unwrap_or (shape_place o) 0) (names q);
+        phrases = λ q. ap (λ o. phrase_at look (phrase_number o)) (names q);
+        is_shape = λ q. ap (λ o. is_some (shape_place o)) (names q);
+        is_phrase = λ q. ap (λ o. is_some (phrase_number o)) (names q);
+      };
+      stand = λ look more. refl;
+      so_far = λ look more. ap (outline_from k score.entries) (sym empty);
+    }
 
 -- the entries from one on
 pub at_entry : (score : text.Score) (known : Known) (phrases : List (List Step)) (block : List Step) (t : plain.Tables)
@@ -272,6 +355,13 @@ at_end : (score : text.Score) (known : Known) (phrases : List (List Step)) (bloc
     → WalkedBy score known phrases block t (map entry_view (drop i es)) → WalkedBy score known phrases block t []
 at_end score known phrases block t es i past r =
     subst (λ l. WalkedBy score known phrases block t (map entry_view l)) (drop_of_length-le es past) r
+
+-- the score has no fault
+pub ends_faultless : (score : text.Score) (known : Known) (phrases : List (List Step)) (block : List Step)
+    (t : plain.Tables) (es : List Entry) (i : ℕ) → length es ≤ i
+    → WalkedBy score known phrases block t (map entry_view (drop i es)) → second_walk score ≡ []
+ends_faultless score known phrases block t es i past r =
+    no_first (second_walk score) (sym (at_end score known phrases block t es i past r).first)
 
 -- what was made is the outline
 pub ends_as_outline : (score : text.Score) (known : Known) (phrases : List (List Step)) (block : List Step)

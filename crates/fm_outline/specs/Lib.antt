@@ -3,5 +3,6 @@ pub mod Phrases
 pub mod OfScore
 pub mod InRange
 pub mod Knows
+pub mod Refusal
 pub mod Growing
 pub mod Walked

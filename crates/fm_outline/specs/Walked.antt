@@ -1,9 +1,13 @@
 -- How far the walk over the entries of a score has come.
-use Rattle.std.specs.Prelude.{◌≡◌, ℕ, ◌<◌, List, [], map, length, vec_items}
+use Rattle.std.specs.Prelude.{◌≡◌, ℕ, ◌<◌, List, [], ◌∷◌, map, length, vec_items, Some}
+use Rattle.fm_lex.specs.declared.spot.Spot.{Spot}
 use Rattle.fm_grammar.specs.declared.item.Item.{Item}
 use Rattle.fm_grammar.specs.Score as text
 use Rattle.fm_grammar.specs.View.{item_view}
-use Rattle.fm_meaning.specs.Ranges.{Names, entries_faults}
+use Rattle.fm_meaning.specs.Faults.{first_found}
+use Rattle.fm_meaning.specs.Ranges.{entries_faults, second_walk}
+use Rattle.fm_fault.specs.Why.{fault_at}
+use Rattle.fm_fault.specs.declared.why.Why.{Why}
 use Rattle.fm_expansion.specs.Outline as plain
 use Rattle.fm_expansion.specs.Numbering.{Catalogue, outline, outline_from}
 use Rattle.fm_outline.specs.declared.known.Known.{Known}
@@ -11,7 +15,7 @@ use Rattle.fm_outline.specs.declared.step.Step.{Step}
 use Rattle.fm_outline.specs.declared.walk.Walk.{Walk}
 use Rattle.fm_outline.specs.View.{Look, look_in, phrases_view, step_view, block_view, tables_view}
 use Rattle.fm_outline.specs.Growing.{followed}
-use Rattle.fm_outline.specs.Knows.{Knows}
+use Rattle.fm_outline.specs.Knows.{Knows, names_of}
 
 -- a statement of the code as an entry of the score
 abbrev pub played : Item → text.Entry
@@ -21,13 +25,11 @@ played i = text.plays (item_view i).spot (item_view i).what
 abbrev pub Extends : List plain.Block → Look → Type 0
 Extends blocks look = (n : ℕ) → n < length blocks → look n ≡ look_in blocks n
 
--- what is done stands before the entries that are left, and these have no fault
+-- what is done stands before the entries that are left, and the first fault is that of these
 pub record WalkedBy (score : text.Score) (known : Known) (phrases : List (List Step)) (block : List Step)
     (tables : plain.Tables) (rest : List text.Entry) : Type 0 where
-  pub names : Names
   pub k : Catalogue
-  pub whole : names.whole ≡ known.whole
-  pub faultless : entries_faults names rest ≡ []
+  pub first : first_found (second_walk score) ≡ first_found (entries_faults (names_of k) rest)
   pub knows : (look : Look) → Extends (phrases_view phrases) look → Knows known look k
   pub stand : (look : Look) → Extends (phrases_view phrases) look
       → phrases_view phrases ≡ map (block_view look) phrases
@@ -38,3 +40,13 @@ pub record WalkedBy (score : text.Score) (known : Known) (phrases : List (List S
 abbrev pub Walked : text.Score → Walk → List text.Entry → Type 0
 Walked score w rest =
     WalkedBy score w.known (map vec_items w.phrases.items) w.block.items (tables_view w.tables) rest
+
+-- an entry is done between two walks
+abbrev pub EntryDone : Walk → text.Entry → Walk → Type 0
+EntryDone w e u = (score : text.Score) (rest : List text.Entry) → Walked score w (e ∷ rest) → Walked score u rest
+
+-- the first fault is this one, where the walk has come to the entry
+abbrev pub EntryRefused : Walk → text.Entry → Spot → Why → Type 0
+EntryRefused w e spot why =
+    (score : text.Score) (rest : List text.Entry) → Walked score w (e ∷ rest)
+    → first_found (second_walk score) ≡ Some (fault_at spot why)

@@ -1,32 +1,71 @@
 //! The names that are defined before a place of the text.
 
-ghost use Rattle.std.specs.Prelude.{◌≡◌, unwrap_or};
+ghost use Rattle.std.specs.Prelude.{◌≡◌};
+ghost use Rattle.fm_grammar.specs.View.{name_view};
 ghost use Rattle.fm_names.specs.Named.{named};
+ghost use Rattle.fm_outline.specs.Knows.{new_or_told, number_or_told, shape_place, phrase_number};
 
+use fm_fault::{CheckFault, Why};
+use fm_grammar::Name;
 use fm_names::Names;
 
-/// The ticks of a whole note, where each shape stands in the table of deformations, the number of
-/// each phrase, and, by its number, whether a phrase forks.
+/// What a name stands for.
+#[derive(Clone, Copy, Drop)]
+pub(crate) enum Meaning {
+    /// A shape, by its place in the table of deformations.
+    Shape { place: u32 },
+    /// A phrase, by its number.
+    Phrase { number: u32 },
+}
+
+/// The ticks of a whole note, what each name stands for, and, by its number, whether a phrase forks.
 #[derive(Drop)]
 pub(crate) struct Known<'s> {
     pub(crate) whole: u32,
-    pub(crate) shapes: Names<'s, u32>,
-    pub(crate) phrases: Names<'s, u32>,
+    pub(crate) names: Names<'s, Meaning>,
     pub(crate) forking: Vec<bool>,
 }
 
 impl<'s> Known<'s> {
-    /// The place of a shape, 0 where the name stands for none.
-    pub(crate) fn shape(&self, name: &[u8]) -> u32
-        ensures { result ≡ unwrap_or (named self.now.shapes name.now) 0 }
+    /// The place of a shape.
+    pub(crate) fn shape(&self, name: &Name) -> Result<u32, CheckFault>
+        ensures { result ≡ number_or_told (name_view name.now)
+            (shape_place (named self.now.names (name_view name.now).text)) }
     {
-        self.shapes.get(name).copied().unwrap_or(0)
+        match self.names.get(name.text).copied() {
+            Some(Meaning::Shape { place }) => Ok(place),
+            _ => Err(CheckFault::Refused {
+                why: Why::UnknownName,
+                spot: name.spot,
+            }),
+        }
     }
 
     /// The number of a phrase.
-    pub(crate) fn phrase(&self, name: &[u8]) -> Option<u32>
-        ensures { result ≡ named self.now.phrases name.now }
+    pub(crate) fn phrase(&self, name: &Name) -> Result<u32, CheckFault>
+        ensures { result ≡ number_or_told (name_view name.now)
+            (phrase_number (named self.now.names (name_view name.now).text)) }
     {
-        self.phrases.get(name).copied()
+        match self.names.get(name.text).copied() {
+            Some(Meaning::Phrase { number }) => Ok(number),
+            _ => Err(CheckFault::Refused {
+                why: Why::UnknownName,
+                spot: name.spot,
+            }),
+        }
+    }
+
+    /// A name that may be defined: it stands for nothing.
+    pub(crate) fn check_new(&self, name: &Name) -> Result<(), CheckFault>
+        ensures { result ≡ new_or_told (name_view name.now)
+            (named self.now.names (name_view name.now).text) }
+    {
+        match self.names.get(name.text) {
+            None => Ok(()),
+            Some(_) => Err(CheckFault::Refused {
+                why: Why::DoubleName,
+                spot: name.spot,
+            }),
+        }
     }
 }

@@ -13,6 +13,7 @@ mod leaf;
 mod number;
 mod outline;
 mod quality;
+mod refusal;
 mod statement;
 mod step;
 mod tables;

@@ -1,11 +1,15 @@
 //! Statements.
 
-ghost use Rattle.std.specs.Prelude.{◌≡◌, [], map, IfOk};
+ghost use Rattle.std.specs.Prelude.{◌≡◌, IfOk, Some, None};
 ghost use Rattle.fm_grammar.specs.View.{item_view, items_view};
+ghost use Rattle.fm_meaning.specs.Faults.{first_found};
+ghost use Rattle.fm_meaning.specs.Ranges.{stmt_faults, body_faults};
+ghost use Rattle.fm_fault.specs.Why.{fault_at};
 ghost use Rattle.fm_expansion.specs.Numbering.{Catalogue, numbered, instruction_of, block_of};
 ghost use Rattle.fm_outline.specs.View.{Look, tables_view, instruction_view, block_view};
-ghost use Rattle.fm_outline.specs.InRange.{StmtInRange, BodyInRange};
-ghost use Rattle.fm_outline.specs.Knows.{Knows};
+ghost use Rattle.fm_ranges.specs.Own.{own_faults};
+ghost use Rattle.fm_outline.specs.Knows.{Knows, names_of};
+ghost use Rattle.fm_outline.specs.Refusal.{Refuses};
 
 use crate::fork::before_fork_inside;
 use crate::known::Known;
@@ -15,44 +19,51 @@ use crate::leaf::{
 };
 use crate::number::{add_lengths, add_numbers};
 use crate::quality::Quality;
+use crate::refusal::answered;
 use crate::step::{Instruction, Step};
-use crate::tables::Tables;
+use crate::tables::{Tables, append};
+use fm_fault::CheckFault;
 use fm_grammar::{Item, What};
 use fm_program::{Count, Point};
-use std::alloc::{AllocError, Global};
+use fm_ranges::check_own;
+use std::alloc::Global;
 
-/// A statement.
+/// A statement whose own numbers have no fault, or the first fault of names and of what stands inside.
 #[cycle(statement)]
 pub(crate) fn outline_item(
     alloc: Global,
     item: &Item,
     known: &Known,
     tables: &mut Tables,
-) -> Result<Instruction, AllocError>
-    requires { StmtInRange known.now.whole (item_view item.now).what }
-    ensures { IfOk result (λ i. (k : Catalogue) (look : Look) → Knows known.now look k →
-        numbered (instruction_view look i) (tables_view tables.new)
-        ≡ instruction_of k (item_view item.now).what (tables_view tables.old)) }
+) -> Result<Instruction, CheckFault>
+    requires { None ≡ first_found (own_faults known.now.whole (item_view item.now).what) }
+    ensures ok { IfOk result (λ i. (k : Catalogue) (look : Look) → Knows known.now look k →
+        (first_found (stmt_faults (names_of k) (item_view item.now).what) ≡ None)
+        × (numbered (instruction_view look i) (tables_view tables.new)
+        ≡ instruction_of k (item_view item.now).what (tables_view tables.old))) }
+    ensures refused { Refuses result (λ spot why. (k : Catalogue) (look : Look) →
+        Knows known.now look k →
+        first_found (stmt_faults (names_of k) (item_view item.now).what) ≡ Some (fault_at spot why)) }
 {
     match &item.what {
-        What::Note { pitches, duration } => outline_note(
+        What::Note { pitches, duration } => Ok(outline_note(
             alloc,
             known.whole,
             pitches,
             duration,
             tables,
-        ),
-        What::Play { pitches } => outline_play(alloc, pitches, tables),
-        What::Rest { duration } => outline_rest(alloc, known.whole, duration, tables),
+        )?),
+        What::Play { pitches } => Ok(outline_play(alloc, pitches, tables)?),
+        What::Rest { duration } => Ok(outline_rest(alloc, known.whole, duration, tables)?),
         What::Skip => Ok(Instruction::Rest {
             lasting: Lasting::Beat,
         }),
         What::Control { controller, amount } => {
-            outline_control(alloc, *controller, amount, tables)
+            Ok(outline_control(alloc, *controller, amount, tables)?)
         }
-        What::Program { amount } => outline_send(alloc, Point::Program, amount, tables),
-        What::Bend { amount } => outline_send(alloc, Point::Bend, amount, tables),
-        What::Set { register, value } => outline_set(alloc, *register, value, tables),
+        What::Program { amount } => Ok(outline_send(alloc, Point::Program, amount, tables)?),
+        What::Bend { amount } => Ok(outline_send(alloc, Point::Bend, amount, tables)?),
+        What::Set { register, value } => Ok(outline_set(alloc, *register, value, tables)?),
         What::If { test, yes, no } => {
             let expr = tables.add_expr(alloc, test)?;
             let yes = outline_items(alloc, yes, known, tables)?;
@@ -73,19 +84,21 @@ pub(crate) fn outline_item(
             };
             Ok(Instruction::Loop { count, body })
         }
-        What::Do { name } => Ok(Instruction::Phrase {
-            number: known.phrase(name.text),
-        }),
+        What::Do { name } => {
+            let number = Some(known.phrase(name)?);
+            Ok(Instruction::Phrase { number })
+        }
         What::Par { branches } => {
             let mut outlined = Vec::with_capacity(alloc, branches.len())?;
             for branch in branches {
-                outlined.push(outline_items(alloc, branch, known, tables)?)?;
+                let block = outline_items(alloc, branch, known, tables)?;
+                append(&mut outlined, block)?;
             }
             Ok(Instruction::Par { branches: outlined })
         }
         What::Warp { name, body } => {
+            let number = known.shape(name)?;
             let body = outline_items(alloc, body, known, tables)?;
-            let number = known.shape(name.text);
             Ok(Instruction::Warp { number, body })
         }
         What::Channel { number, body } => {
@@ -139,27 +152,32 @@ pub(crate) fn outline_item(
     }
 }
 
-/// Statements in turn.
+/// Statements in turn, or their first fault of names and numbers.
 #[cycle(statement)]
 pub(crate) fn outline_items(
     alloc: Global,
     items: &[Item],
     known: &Known,
     tables: &mut Tables,
-) -> Result<Vec<Step>, AllocError>
-    requires { BodyInRange known.now.whole (items_view items.now) }
-    ensures { IfOk result (λ steps. (k : Catalogue) (look : Look) → Knows known.now look k →
-        numbered (block_view look steps.items) (tables_view tables.new)
-        ≡ block_of k (items_view items.now) (tables_view tables.old)) }
+) -> Result<Vec<Step>, CheckFault>
+    ensures ok { IfOk result (λ steps. (k : Catalogue) (look : Look) → Knows known.now look k →
+        (first_found (body_faults (names_of k) (items_view items.now)) ≡ None)
+        × (numbered (block_view look steps.items) (tables_view tables.new)
+        ≡ block_of k (items_view items.now) (tables_view tables.old))) }
+    ensures refused { Refuses result (λ spot why. (k : Catalogue) (look : Look) →
+        Knows known.now look k →
+        first_found (body_faults (names_of k) (items_view items.now)) ≡ Some (fault_at spot why)) }
 {
     let mut steps = Vec::with_capacity(alloc, items.len())?;
     for item in items {
+        answered(check_own(item, known.whole))?;
         let what = outline_item(alloc, item, known, tables)?;
-        steps.push(Step {
+        let step = Step {
             spot: item.spot,
             before_fork: before_fork_inside(&what, &known.forking),
             what,
-        })?;
+        };
+        append(&mut steps, step)?;
     }
     Ok(steps)
 }

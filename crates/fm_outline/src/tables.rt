@@ -34,6 +34,14 @@ pub(crate) fn place(entries: usize) -> Result<u32, AllocError>
     }
 }
 
+/// Appends an entry to a list. An entry that finds no room counts as want of memory.
+pub(crate) fn append<T: Drop>(list: &mut Vec<T>, entry: T) -> Result<(), AllocError>
+    ensures { OnOk result (list.new.items ≡ list.old.items ++ entry ∷ []) }
+{
+    list.push(entry)?;
+    Ok(())
+}
+
 // A copy of an expression without the places of its nodes in the text.
 fn nodes_alone(alloc: Global, expr: &Expr) -> Result<Expr, AllocError>
     ensures nodes { IfOk result (λ e. expr_nodes e ≡ expr_nodes expr.now) }

@@ -1,31 +1,36 @@
 //! The walk over the entries of a score.
 
-ghost use Rattle.std.specs.Prelude.{◌≡◌, ◌∷◌, [], List, map, IfOk, OnOk};
-ghost use Rattle.fm_pattern.specs.declared.cursor.TheConstants.{MAX_ENTRIES};
-ghost use Rattle.fm_warp.specs.declared.warp.TheConstants.{MAX_PARTS};
+ghost use Rattle.std.specs.Prelude.{◌≡◌, [], IfOk, OnOk, Some, Err};
+ghost use Rattle.fm_lex.specs.declared.spot.Spot.{Spot};
 ghost use Rattle.fm_grammar.specs.Score as tree;
-ghost use Rattle.fm_grammar.specs.View.{entry_view, item_view, items_view, name_view, score_view};
-ghost use Rattle.fm_meaning.specs.Rules.{profile_of};
+ghost use Rattle.fm_grammar.specs.View.{entry_view, items_view, name_view, score_view};
+ghost use Rattle.fm_meaning.specs.Faults.{first_found};
+ghost use Rattle.fm_meaning.specs.Ranges.{second_walk};
 ghost use Rattle.fm_meaning.specs.Resolve.{resolved, seed_of};
-ghost use Rattle.fm_meaning.specs.Ranges.{each_faults, part_faults, part_length, length_spot, second_walk};
+ghost use Rattle.fm_meaning.specs.Rules.{profile_of};
+ghost use Rattle.fm_fault.specs.Why.{fault_at};
+ghost use Rattle.fm_fault.specs.declared.why.Why.{Why as Reason};
 ghost use Rattle.fm_expansion.specs.Numbering.{outline};
-ghost use Rattle.fm_outline.specs.InRange.{StmtInRange, BodyInRange};
 ghost use Rattle.fm_outline.specs.View.{outline_view};
 ghost use Rattle.fm_outline.specs.OfScore.{passage_of_outline};
 ghost use Rattle.fm_outline.specs.Phrases.{PhrasesStand};
-ghost use Rattle.fm_outline.specs.Walked.{Walked, played};
+ghost use Rattle.fm_outline.specs.Refusal.{Refuses};
+ghost use Rattle.fm_outline.specs.Walked.{EntryDone, EntryRefused, played};
 
 use crate::fork::{before_fork, before_fork_inside};
-use crate::known::Known;
+use crate::known::{Known, Meaning};
 use crate::outline::Outline;
+use crate::refusal::answered;
 use crate::statement::{outline_item, outline_items};
 use crate::step::Step;
-use crate::tables::{Tables, place};
+use crate::tables::{Tables, append, place};
 use fm_expansion::outlines_stand_for_scores;
+use fm_fault::CheckFault;
 use fm_grammar::{Entry, Item, Name, PartText, Score};
 use fm_names::Names;
+use fm_ranges::{check_head, check_own, check_parts};
 use fm_version::{rules_of, warp_of};
-use std::alloc::{AllocError, Global};
+use std::alloc::Global;
 
 /// What stands before a place of the text, and what is known there.
 #[derive(Drop)]
@@ -37,66 +42,65 @@ pub(crate) struct Walk<'s> {
 }
 
 impl<'s> Walk<'s> {
-    // Appends a statement that is played.
-    fn play(&mut self, alloc: Global, item: &Item) -> Result<(), AllocError>
-        requires { StmtInRange self.old.known.whole (item_view item.now).what }
-        ensures { OnOk result ((score : tree.Score) (rest : List tree.Entry) →
-            Walked score self.old (played item.now ∷ rest) → Walked score self.new rest) }
+    // Appends a statement that is played, or finds its first fault.
+    fn play(&mut self, alloc: Global, item: &Item) -> Result<(), CheckFault>
+        ensures ok { OnOk result (EntryDone self.old (played item.now) self.new) }
+        ensures refused { Refuses result (EntryRefused self.old (played item.now)) }
     {
+        answered(check_own(item, self.known.whole))?;
         let what = outline_item(alloc, item, &self.known, &mut self.tables)?;
-        self.block.push(Step {
+        let step = Step {
             spot: item.spot,
             before_fork: before_fork_inside(&what, &self.known.forking),
             what,
-        })?;
-        Ok(())
+        };
+        Ok(append(&mut self.block, step)?)
     }
 
-    // Lets a name stand for a phrase from here on.
+    // Lets a new name stand for a phrase from here on.
     fn add_phrase(
         &mut self,
         alloc: Global,
         name: &Name<'s>,
         body: &[Item],
-    ) -> Result<(), AllocError>
-        requires { BodyInRange self.old.known.whole (items_view body.now) }
-        ensures { OnOk result ((score : tree.Score) (rest : List tree.Entry) →
-            Walked score self.old (tree.phrase (name_view name.now) (items_view body.now) ∷ rest) →
-            Walked score self.new rest) }
+    ) -> Result<(), CheckFault>
+        ensures ok { OnOk result (EntryDone self.old
+            (tree.phrase (name_view name.now) (items_view body.now)) self.new) }
+        ensures refused { Refuses result (EntryRefused self.old (tree.phrase (name_view name.now) (items_view body.now))) }
     {
+        self.known.check_new(name)?;
         let number = place(self.phrases.len())?;
         let steps = outline_items(alloc, body, &self.known, &mut self.tables)?;
         let forks = before_fork(&steps, &self.known.forking) < steps.len();
-        self.phrases.push(steps)?;
-        self.known.forking.push(forks)?;
-        self.known.phrases.define(name.text, number)
+        append(&mut self.phrases, steps)?;
+        append(&mut self.known.forking, forks)?;
+        let phrase = Meaning::Phrase { number };
+        Ok(self.known.names.define(name.text, phrase)?)
     }
 
-    // Lets a name stand for a shape from here on.
+    // Lets a new name stand for a shape from here on.
     fn add_shape(
         &mut self,
         alloc: Global,
         name: &Name<'s>,
         parts: &[PartText],
-    ) -> Result<(), AllocError>
-        requires { each_faults (part_faults self.old.known.whole) (λ p. length_spot (part_length p)) MAX_PARTS
-            parts.now ≡ [] }
-        ensures { OnOk result ((score : tree.Score) (rest : List tree.Entry) →
-            Walked score self.old (tree.shape (name_view name.now) parts.now ∷ rest) →
-            Walked score self.new rest) }
+    ) -> Result<(), CheckFault>
+        ensures ok { OnOk result (EntryDone self.old
+            (tree.shape (name_view name.now) parts.now) self.new) }
+        ensures refused { Refuses result (EntryRefused self.old (tree.shape (name_view name.now) parts.now)) }
     {
-        let number = self
-            .tables
-            .add_warp(warp_of(alloc, self.known.whole, parts)?)?;
-        self.known.shapes.define(name.text, number)
+        self.known.check_new(name)?;
+        answered(check_parts(self.known.whole, parts))?;
+        let warp = warp_of(alloc, self.known.whole, parts)?;
+        let place = self.tables.add_warp(warp)?;
+        let shape = Meaning::Shape { place };
+        Ok(self.known.names.define(name.text, shape)?)
     }
 
-    // Goes over one entry.
-    fn enter(&mut self, alloc: Global, entry: &Entry<'s>) -> Result<(), AllocError>
-        requires { (score : tree.Score) × (rest : List tree.Entry)
-            × Walked score self.old (entry_view entry.now ∷ rest) }
-        ensures { OnOk result ((score : tree.Score) (rest : List tree.Entry) →
-            Walked score self.old (entry_view entry.now ∷ rest) → Walked score self.new rest) }
+    // Goes over one entry, or finds its first fault.
+    fn enter(&mut self, alloc: Global, entry: &Entry<'s>) -> Result<(), CheckFault>
+        ensures ok { OnOk result (EntryDone self.old (entry_view entry.now) self.new) }
+        ensures refused { Refuses result (EntryRefused self.old (entry_view entry.now)) }
     {
         match entry {
             Entry::Shape { name, parts } => self.add_shape(alloc, name, parts),
@@ -116,25 +120,28 @@ fn seed(score: &Score) -> u32
     }
 }
 
-/// The outline of a score whose names and numbers have no fault: its tables in the order of the
-/// text, and its statements with the places of what they name. It stands for what the score plays.
-/// It fails only for want of memory.
-pub fn outline_of(alloc: Global, score: &Score) -> Result<Outline, AllocError>
-    requires { second_walk (score_view score.now) ≡ [] }
+/// The outline of a score, or its first fault of names and numbers: a name that was defined before
+/// or not at all, a number outside its range, a length of no whole number of ticks. The outline has
+/// its tables in the order of the text, and its statements with the places of what they name; it
+/// stands for what the score plays.
+pub fn outline_of(alloc: Global, score: &Score) -> Result<Outline, CheckFault>
     ensures outline { IfOk result (λ o. outline_view o ≡ outline (score_view score.now)) }
     ensures passage { IfOk result (λ o.
         passage_of_outline o ≡ (resolved (score_view score.now)).passage) }
     ensures phrases { IfOk result PhrasesStand }
     ensures seed { IfOk result (λ o. o.seed ≡ seed_of (score_view score.now).seed) }
     ensures profile { IfOk result (λ o. o.profile ≡ profile_of (score_view score.now)) }
+    ensures faultless { OnOk result (second_walk (score_view score.now) ≡ []) }
+    ensures refused { (why : Reason) (spot : Spot) → result ≡ Err (CheckFault.Refused why spot) →
+        first_found (second_walk (score_view score.now)) ≡ Some (fault_at spot why) }
 {
     outlines_stand_for_scores();
+    answered(check_head(score))?;
     let rules = rules_of(score);
     let mut walk = Walk {
         known: Known {
             whole: rules.whole_note,
-            shapes: Names::new(alloc),
-            phrases: Names::new(alloc),
+            names: Names::new(alloc),
             forking: Vec::new(alloc),
         },
         tables: Tables::new(alloc),

@@ -72,6 +72,10 @@ pub fn plan(alloc: Global, score: &Score, bounds: &Bounds) -> Result<Plan, Alloc
 {
     plans_fit();
     plans_play_the_score();
-    let outline = outline_of(alloc, score)?;
+    // A score that is accepted has no fault.
+    let outline = match outline_of(alloc, score) {
+        Ok(outline) => outline,
+        Err(_) => return Err(AllocError),
+    };
     plan_outline(alloc, outline, bounds)
 }

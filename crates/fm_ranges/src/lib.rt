@@ -1,18 +1,18 @@
-//! Names and numbers of a score: `first_range_fault` gives the first name that was defined before
-//! or not at all, number outside its range, or length of no whole number of ticks, in the order
-//! of the text.
+//! Numbers of a score: the first that lies outside its range, and the first length of no whole
+//! number of ticks.
 //!
-//! The main clause says that it is the first fault of the second walk, as the meaning of a score
-//! lists them (`second_walk`). Where statements may stand and how much a score asks for are left
-//! to the crates beside this one.
+//! `check_own` speaks of a statement apart from the statements inside it, `check_parts` of the parts
+//! of a shape, `check_head` of what stands before all entries; their clauses say that each finds the
+//! first fault of those that the meaning of a score lists. Who goes over the statements looks up
+//! their names on the way.
 #![tactic(auto)]
 
-mod known;
+mod head;
 mod lists;
 mod number;
 mod own;
-mod statement;
 mod value;
-mod walk;
 
-pub use walk::first_range_fault;
+pub use head::check_head;
+pub use lists::check_parts;
+pub use own::check_own;

@@ -130,8 +130,8 @@ fn check_part(whole: u32, part: PartText) -> Result<(), Fault>
     }
 }
 
-/// The parts of a shape.
-pub(crate) fn check_parts(whole: u32, parts: &[PartText]) -> Result<(), Fault>
+/// The first fault of the parts of a shape, where a whole note has `whole` ticks.
+pub fn check_parts(whole: u32, parts: &[PartText]) -> Result<(), Fault>
     ensures { found result
         ≡ first_found (each_faults (part_faults whole) (λ p. length_spot (part_length p))
         MAX_PARTS parts.now) }

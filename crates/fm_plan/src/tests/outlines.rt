@@ -1,12 +1,12 @@
 //! Outlines of small scores.
 
+use fm_fault::CheckFault;
 use fm_grammar::{Entry, Item, Name, Number, Score, What};
 use fm_lex::Spot;
 use fm_outline::{Instruction, Lasting, outline_of};
-use std::alloc::AllocError;
 
 #[test]
-fn outlines_a_rest(rt: HostRuntime) -> Result<(), AllocError> {
+fn outlines_a_rest(rt: HostRuntime) -> Result<(), CheckFault> {
     let spot = |column| Spot { line: 1, column };
     let number = |value, column| Number {
         value,
@@ -40,7 +40,7 @@ fn outlines_a_rest(rt: HostRuntime) -> Result<(), AllocError> {
 }
 
 #[test]
-fn a_fork_in_a_phrase_is_found_in_a_loop(rt: HostRuntime) -> Result<(), AllocError> {
+fn a_fork_in_a_phrase_is_found_in_a_loop(rt: HostRuntime) -> Result<(), CheckFault> {
     let spot = Spot { line: 1, column: 1 };
     let name = Name { text: b"p", spot };
     let branch: Vec<Item> = Vec::new(rt.alloc());

@@ -1,390 +1,439 @@
-use Rattle.std.proofs.Common.{◌≡◌, ◌++◌, ◌∷◌, [], refl, rules, map, drop, ap, ap₂, sym, ◌∙◌, drop_of_length-le, arith, Vec, Global}
+use Rattle.std.proofs.Common.{◌≡◌, ◌+◌, [], refl, rules, map, drop, ap, sym, ◌∙◌, drop_of_length-le, arith, Vec, Global}
 use Rattle.fm_program.specs.declared.op.Count.TheVariants as count
-use Rattle.fm_grammar.specs.declared.item.Item.{Item, the_lemmas}
+use Rattle.fm_grammar.specs.declared.item.Item.{Item}
 use Rattle.fm_grammar.specs.declared.number.Number.{Number}
 use Rattle.fm_grammar.specs.Score as tree
-use Rattle.fm_grammar.specs.View.{amount_view, expr_view, duration_view, items_view, item_view, pitch_view, name_view, branches_of}
+use Rattle.fm_grammar.specs.View.{expr_view, duration_view, items_view, item_view, pitch_view, name_view, branches_of}
+use Rattle.fm_meaning.specs.Faults.{first_found}
+use Rattle.fm_meaning.specs.Ranges.{body_faults, branches_faults, duration_faults, pitches_faults, stmt_faults}
 use Rattle.fm_meaning.specs.Resolve.{length_ticks}
 use Rattle.fm_meaning.specs.Resolved as meaning
+use Rattle.fm_fault.specs.Why.{fault_at}
 use Rattle.fm_expansion.specs.Outline as plain
 use Rattle.fm_expansion.specs.Numbering.{numbered, block_of, arms_of}
-use Rattle.fm_outline.specs.InRange.{StmtInRange, BodyInRange, BranchesInRange}
+use Rattle.fm_names.specs.Named.{named}
+use Rattle.fm_ranges.specs.Own.{own_faults}
+use Rattle.fm_version.proofs.RangeLemmas.{none_first, none_second}
+use Rattle.fm_outline.specs.Knows.{names_of, shape_place}
 use Rattle.fm_outline.specs.View.{tables_view, block_view, step_view}
 use Rattle.fm_outline.specs.Growing.{followed, joined_behind}
 use Rattle.fm_outline.specs.declared.step.Step.{Step}
 use Rattle.fm_outline.proofs.ItemLemmas.{note_is, play_is, rest_is, control_is, program_is, bend_is, set_is, choice_is, repeat_is}
-use Rattle.fm_outline.proofs.ItemLemmas.{again_is, warp_is, channel_is, volume_is, gate_is, rhythm_is, artic_is, loud_is}
-use Rattle.fm_outline.proofs.InsideLemmas.{rest_duration, control_number, control_amount, program_amount, bend_amount}
-use Rattle.fm_outline.proofs.InsideLemmas.{note_pitches, note_duration, first_block, second_block, again_body, rhythm_lengths, rhythm_body, artic_body, loud_body, par_branches, branch_at, item_at}
-use Rattle.fm_outline.proofs.SeenLemmas.{map_twice, choice_seen, loop_seen, par_seen, warp_seen, channel_seen, steady_seen, under_seen}
-use Rattle.fm_outline.proofs.GrowingLemmas.{steps_more, arms_more, choice_numbered, again_numbered, under_numbered, if_ok}
+use Rattle.fm_outline.proofs.ItemLemmas.{again_is, warp_is, channel_is, volume_is, gate_is, rhythm_is, artic_is, loud_is, par_is}
+use Rattle.fm_outline.proofs.InsideLemmas.{own_clean, own_told, leaf_clean, behind_own, first_block, second_block, under_known}
+use Rattle.fm_outline.proofs.RefusalLemmas.{handed, before, behind, failed, number_of}
+use Rattle.fm_outline.proofs.SeenLemmas.{choice_seen, loop_seen, par_seen, warp_seen, channel_seen, steady_seen, under_seen}
+use Rattle.fm_outline.proofs.GrowingLemmas.{items_from, arms_from, steps_more, arms_more, choice_numbered, again_numbered, under_numbered}
 use Rattle.fm_outline.proofs.statement.+statement.Goals as goal
 
--- ---- what stands inside has no fault
+-- ---- statements without blocks
 
 pub outline_item-outline_note-requires-clause-pitches :
     goal.outline_item-outline_note-requires-clause-pitches
 outline_item-outline_note-requires-clause-pitches t c =
-    let seen : (item_view c.args.item.now).what
-    ≡ tree.note (map pitch_view c.in-Note.pitches.items) (duration_view c.in-Note.duration)
-    = note_is c.args.item.now c.in-Note.pitches c.in-Note.duration c.in-Note.is in
-    rw c.deref.ensures.value
-    (note_pitches {ticks = c.args.known.now.whole} (map pitch_view c.in-Note.pitches.items) (duration_view c.in-Note.duration) (rw (← seen) c.requires))
+    let ps = map pitch_view c.deref.result.now in
+    let d = duration_view c.in-Note.duration in
+    let seen = note_is c.args.item.now c.in-Note.pitches c.in-Note.duration c.deref.result.now c.in-Note.is c.deref.ensures.value in
+    none_first (pitches_faults ps) (duration_faults c.args.known.now.whole d) (own_clean c.args.known.now.whole seen c.requires)
 
 pub outline_item-outline_note-requires-clause-duration :
     goal.outline_item-outline_note-requires-clause-duration
 outline_item-outline_note-requires-clause-duration t c =
-    let seen : (item_view c.args.item.now).what
-    ≡ tree.note (map pitch_view c.in-Note.pitches.items) (duration_view c.in-Note.duration)
-    = note_is c.args.item.now c.in-Note.pitches c.in-Note.duration c.in-Note.is in
-    note_duration (map pitch_view c.in-Note.pitches.items) (duration_view c.in-Note.duration) (rw (← seen) c.requires)
-
-pub outline_item-outline_rest-requires : goal.outline_item-outline_rest-requires
-outline_item-outline_rest-requires t c =
-    let seen = rest_is c.args.item.now c.in-Rest.duration c.in-Rest.is in
-    rest_duration (duration_view c.in-Rest.duration) (rw (← seen) c.requires)
-
-pub outline_item-outline_control-requires-clause-controller :
-    goal.outline_item-outline_control-requires-clause-controller
-outline_item-outline_control-requires-clause-controller t c =
-    let seen = control_is c.args.item.now c.in-Control.controller c.in-Control.amount c.in-Control.is in
-    control_number {ticks = c.args.known.now.whole} c.in-Control.controller (amount_view c.in-Control.amount) (rw (← seen) c.requires)
-
-pub outline_item-outline_control-requires-clause-amount :
-    goal.outline_item-outline_control-requires-clause-amount
-outline_item-outline_control-requires-clause-amount t c =
-    let seen = control_is c.args.item.now c.in-Control.controller c.in-Control.amount c.in-Control.is in
-    control_amount {ticks = c.args.known.now.whole} c.in-Control.controller (amount_view c.in-Control.amount) (rw (← seen) c.requires)
-
-pub outline_item-outline_send-requires : goal.outline_item-outline_send-requires
-outline_item-outline_send-requires t c =
-    let seen = program_is c.args.item.now c.in-Program.amount c.in-Program.is in
-    program_amount {ticks = c.args.known.now.whole} (amount_view c.in-Program.amount) (rw (← seen) c.requires)
-
-pub outline_item-outline_send-requires-in-Bend : goal.outline_item-outline_send-requires-in-Bend
-outline_item-outline_send-requires-in-Bend t c =
-    let seen = bend_is c.args.item.now c.in-Bend.amount c.in-Bend.is in
-    bend_amount {ticks = c.args.known.now.whole} (amount_view c.in-Bend.amount) (rw (← seen) c.requires)
-
-pub outline_item-outline_items-requires : goal.outline_item-outline_items-requires
-outline_item-outline_items-requires t c =
-    let a = items_view c.in-If.yes.items in
-    let b = items_view c.in-If.no.items in
-    let seen : (item_view c.args.item.now).what ≡ tree.choice (expr_view c.in-If.test) a b
-    = choice_is c.args.item.now c.in-If.test c.in-If.yes c.in-If.no c.in-If.is in
-    let inside : BodyInRange c.args.known.now.whole a = first_block (expr_view c.in-If.test) a b (rw (← seen) c.requires) in
-    (search (rules, the_lemmas), rw c.deref-in-If.ensures.value inside)
-
-pub outline_item-outline_items-requires-in-If : goal.outline_item-outline_items-requires-in-If
-outline_item-outline_items-requires-in-If t c =
-    let a = items_view c.in-If.yes.items in
-    let b = items_view c.in-If.no.items in
-    let seen : (item_view c.args.item.now).what ≡ tree.choice (expr_view c.in-If.test) a b
-    = choice_is c.args.item.now c.in-If.test c.in-If.yes c.in-If.no c.in-If.is in
-    let inside : BodyInRange c.args.known.now.whole b = second_block (expr_view c.in-If.test) a b (rw (← seen) c.requires) in
-    (search (rules, the_lemmas), rw c.deref-in-If-2.ensures.value inside)
-
-pub outline_item-outline_items-requires-in-Again :
-    goal.outline_item-outline_items-requires-in-Again
-outline_item-outline_items-requires-in-Again t c =
-    let b = items_view c.in-Again.body.items in
-    let seen : (item_view c.args.item.now).what ≡ tree.again (expr_view c.in-Again.count) c.in-Again.most b
-    = again_is c.args.item.now c.in-Again.count c.in-Again.most c.in-Again.body c.in-Again.is in
-    let inside : BodyInRange c.args.known.now.whole b = again_body (expr_view c.in-Again.count) c.in-Again.most b (rw (← seen) c.requires) in
-    (search (rules, the_lemmas), rw c.deref-in-Again.ensures.value inside)
-
-pub outline_item-add_lengths-requires : goal.outline_item-add_lengths-requires
-outline_item-add_lengths-requires t c =
-    let b = items_view c.in-Rhythm.body.items in
-    let seen : (item_view c.args.item.now).what ≡ tree.rhythm c.in-Rhythm.list.items b
-    = rhythm_is c.args.item.now c.in-Rhythm.list c.in-Rhythm.body c.in-Rhythm.is in
-    rw c.deref-in-Rhythm.ensures.value (rhythm_lengths c.in-Rhythm.list.items b (rw (← seen) c.requires))
-
-pub outline_item-outline_items-requires-in-Rhythm :
-    goal.outline_item-outline_items-requires-in-Rhythm
-outline_item-outline_items-requires-in-Rhythm t c =
-    let b = items_view c.in-Rhythm.body.items in
-    let seen : (item_view c.args.item.now).what ≡ tree.rhythm c.in-Rhythm.list.items b
-    = rhythm_is c.args.item.now c.in-Rhythm.list c.in-Rhythm.body c.in-Rhythm.is in
-    let inside : BodyInRange c.args.known.now.whole b = rhythm_body c.in-Rhythm.list.items b (rw (← seen) c.requires) in
-    (search (rules, the_lemmas), rw c.deref-in-Rhythm-2.ensures.value inside)
-
-pub outline_item-outline_items-requires-in-Artic :
-    goal.outline_item-outline_items-requires-in-Artic
-outline_item-outline_items-requires-in-Artic t c =
-    let b = items_view c.in-Artic.body.items in
-    let seen : (item_view c.args.item.now).what ≡ tree.artic c.in-Artic.list.items b
-    = artic_is c.args.item.now c.in-Artic.list c.in-Artic.body c.in-Artic.is in
-    let inside : BodyInRange c.args.known.now.whole b = artic_body c.in-Artic.list.items b (rw (← seen) c.requires) in
-    (search (rules, the_lemmas), rw c.deref-in-Artic-2.ensures.value inside)
-
-pub outline_item-outline_items-requires-in-Loud : goal.outline_item-outline_items-requires-in-Loud
-outline_item-outline_items-requires-in-Loud t c =
-    let b = items_view c.in-Loud.body.items in
-    let seen : (item_view c.args.item.now).what ≡ tree.loud c.in-Loud.list.items b
-    = loud_is c.args.item.now c.in-Loud.list c.in-Loud.body c.in-Loud.is in
-    let inside : BodyInRange c.args.known.now.whole b = loud_body c.in-Loud.list.items b (rw (← seen) c.requires) in
-    (search (rules, the_lemmas), rw c.deref-in-Loud-2.ensures.value inside)
-
--- ---- statements
-
-pub outline_item-returns-in-Note : goal.outline_item-returns-in-Note
-outline_item-returns-in-Note t c =
-    let ps = map pitch_view c.in-Note.pitches.items in
+    let ps = map pitch_view c.deref.result.now in
     let d = duration_view c.in-Note.duration in
-    let seen : (item_view c.args.item.now).what ≡ tree.note ps d
-    = note_is c.args.item.now c.in-Note.pitches c.in-Note.duration c.in-Note.is in
-    if_ok c.outline_note.result
-    (λ i is k look knows.
-    rw (seen, knows.whole, ← c.deref.ensures.value) (is look))
-    c.outline_note.ensures
+    let seen = note_is c.args.item.now c.in-Note.pitches c.in-Note.duration c.deref.result.now c.in-Note.is c.deref.ensures.value in
+    none_second (pitches_faults ps) (duration_faults c.args.known.now.whole d) (own_clean c.args.known.now.whole seen c.requires)
 
-pub outline_item-returns-in-Play : goal.outline_item-returns-in-Play
-outline_item-returns-in-Play t c =
-    let ps = map pitch_view c.in-Play.pitches.items in
-    let seen : (item_view c.args.item.now).what ≡ tree.play ps
-    = play_is c.args.item.now c.in-Play.pitches c.in-Play.is in
-    if_ok c.outline_play.result
-    (λ i is k look knows. rw (seen, ← c.deref-in-Play.ensures.value) (is look))
-    c.outline_play.ensures
+pub outline_item-returns-in_ok-outline_note-in-Note-clause-ok :
+    goal.outline_item-returns-in_ok-outline_note-in-Note-clause-ok
+outline_item-returns-in_ok-outline_note-in-Note-clause-ok t c = λ k look knows.
+    let ps = map pitch_view c.deref.result.now in
+    let d = duration_view c.in-Note.duration in
+    let seen = note_is c.args.item.now c.in-Note.pitches c.in-Note.duration c.deref.result.now c.in-Note.is c.deref.ensures.value in
+    (leaf_clean k seen knows.whole refl c.requires, rw (seen, knows.whole) (c.in_ok-outline_note-in-Note.ensures look))
 
-pub outline_item-returns-in-Rest : goal.outline_item-returns-in-Rest
-outline_item-returns-in-Rest t c =
+pub outline_item-returns-in_ok-outline_play-in-Play-clause-ok :
+    goal.outline_item-returns-in_ok-outline_play-in-Play-clause-ok
+outline_item-returns-in_ok-outline_play-in-Play-clause-ok t c = λ k look knows.
+    let ps = c.deref-in-Play.result.now in
+    let seen = play_is c.args.item.now c.in-Play.pitches ps c.in-Play.is c.deref-in-Play.ensures.value in
+    (leaf_clean k seen knows.whole refl c.requires, rw seen (c.in_ok-outline_play-in-Play.ensures look))
+
+pub outline_item-returns-in_ok-outline_rest-in-Rest-clause-ok :
+    goal.outline_item-returns-in_ok-outline_rest-in-Rest-clause-ok
+outline_item-returns-in_ok-outline_rest-in-Rest-clause-ok t c = λ k look knows.
     let seen = rest_is c.args.item.now c.in-Rest.duration c.in-Rest.is in
-    if_ok c.outline_rest.result (λ i is k look knows. rw seen (is k look knows.whole)) c.outline_rest.ensures
+    (leaf_clean k seen knows.whole refl c.requires, rw seen (c.in_ok-outline_rest-in-Rest.ensures k look knows.whole))
 
-pub outline_item-returns-in-Control : goal.outline_item-returns-in-Control
-outline_item-returns-in-Control t c =
+pub outline_item-returns-in_ok-outline_control-in-Control-clause-ok :
+    goal.outline_item-returns-in_ok-outline_control-in-Control-clause-ok
+outline_item-returns-in_ok-outline_control-in-Control-clause-ok t c = λ k look knows.
     let seen = control_is c.args.item.now c.in-Control.controller c.in-Control.amount c.in-Control.is in
-    if_ok c.outline_control.result (λ i is k look knows. rw seen (is k look)) c.outline_control.ensures
+    (leaf_clean k seen knows.whole refl c.requires, rw seen (c.in_ok-outline_control-in-Control.ensures k look))
 
-pub outline_item-returns-in-Program : goal.outline_item-returns-in-Program
-outline_item-returns-in-Program t c =
+pub outline_item-returns-in_ok-outline_send-in-Program-clause-ok :
+    goal.outline_item-returns-in_ok-outline_send-in-Program-clause-ok
+outline_item-returns-in_ok-outline_send-in-Program-clause-ok t c = λ k look knows.
     let seen = program_is c.args.item.now c.in-Program.amount c.in-Program.is in
-    if_ok c.outline_send.result (λ i is k look knows. rw seen (is look)) c.outline_send.ensures
+    (leaf_clean k seen knows.whole refl c.requires, rw seen (c.in_ok-outline_send-in-Program.ensures look))
 
-pub outline_item-returns-in-Bend : goal.outline_item-returns-in-Bend
-outline_item-returns-in-Bend t c =
+pub outline_item-returns-in_ok-outline_send-in-Bend-clause-ok :
+    goal.outline_item-returns-in_ok-outline_send-in-Bend-clause-ok
+outline_item-returns-in_ok-outline_send-in-Bend-clause-ok t c = λ k look knows.
     let seen = bend_is c.args.item.now c.in-Bend.amount c.in-Bend.is in
-    if_ok c.outline_send-in-Bend.result (λ i is k look knows. rw seen (is look)) c.outline_send-in-Bend.ensures
+    (leaf_clean k seen knows.whole refl c.requires, rw seen (c.in_ok-outline_send-in-Bend.ensures look))
 
-pub outline_item-returns-in-Set : goal.outline_item-returns-in-Set
-outline_item-returns-in-Set t c =
+pub outline_item-returns-in_ok-outline_set-in-Set-clause-ok :
+    goal.outline_item-returns-in_ok-outline_set-in-Set-clause-ok
+outline_item-returns-in_ok-outline_set-in-Set-clause-ok t c = λ k look knows.
     let seen = set_is c.args.item.now c.in-Set.register c.in-Set.value c.in-Set.is in
-    if_ok c.outline_set.result (λ i is k look knows. rw seen (is k look)) c.outline_set.ensures
+    (leaf_clean k seen knows.whole refl c.requires, rw seen (c.in_ok-outline_set-in-Set.ensures k look))
 
-pub outline_item-returns-in_ok-no-in-If : goal.outline_item-returns-in_ok-no-in-If
-outline_item-returns-in_ok-no-in-If t c = λ k look knows.
+-- ---- statements with blocks
+
+pub outline_item-returns-in_err-yes-in-If-clause-refused :
+    goal.outline_item-returns-in_err-yes-in-If-clause-refused
+outline_item-returns-in_err-yes-in-If-clause-refused t c = λ why spot is k look knows.
     let e = expr_view c.in-If.test in
-    let seen : (item_view c.args.item.now).what
-    ≡ tree.choice e (items_view c.in-If.yes.items) (items_view c.in-If.no.items)
-    = choice_is c.args.item.now c.in-If.test c.in-If.yes c.in-If.no c.in-If.is in
-    rw (
-      seen,
-      choice_seen look c.in_ok-expr-in-If.expr c.in_ok-yes-in-If.yes c.in_ok-no-in-If.no,
-      ← c.deref-in-If.ensures.value,
-      ← c.deref-in-If-2.ensures.value,
-    )
-    (choice_numbered k e (items_view c.deref-in-If.result.now) (items_view c.deref-in-If-2.result.now)
-    (block_view look c.in_ok-yes-in-If.yes.items) (block_view look c.in_ok-no-in-If.no.items) c.in_ok-expr-in-If.expr
-    (tables_view c.args.tables.now) (tables_view c.add_expr.new.self) (tables_view c.outline_items.new.tables)
+    let a = c.deref-in-If.result.now in
+    let b = c.in-If.no.items in
+    let seen = choice_is c.args.item.now c.in-If.test c.in-If.yes c.in-If.no a b c.in-If.is c.deref-in-If.ensures.value refl in
+    first_block c.args.known.now.whole k e (items_view a) (items_view b) (fault_at spot why) seen c.requires
+    (c.in_err-yes-in-If.ensures.refused why spot (handed c.from_residual-in_err-yes-in-If.result c.from_residual-in_err-yes-in-If.ensures.1 is) k look knows)
+
+pub outline_item-returns-in_err-no-in-If-clause-refused :
+    goal.outline_item-returns-in_err-no-in-If-clause-refused
+outline_item-returns-in_err-no-in-If-clause-refused t c = λ why spot is k look knows.
+    let e = expr_view c.in-If.test in
+    let a = c.deref-in-If.result.now in
+    let b = c.deref-in-If-2.result.now in
+    let seen = choice_is c.args.item.now c.in-If.test c.in-If.yes c.in-If.no a b c.in-If.is c.deref-in-If.ensures.value c.deref-in-If-2.ensures.value in
+    second_block c.args.known.now.whole k e (items_view a) (items_view b) seen c.requires (c.in_ok-yes-in-If.ensures.ok k look knows).0
+    ∙ (c.in_err-no-in-If.ensures.refused why spot (handed c.from_residual-in_err-no-in-If.result c.from_residual-in_err-no-in-If.ensures.1 is) k look knows)
+
+pub outline_item-returns-in_ok-no-in-If-clause-ok : goal.outline_item-returns-in_ok-no-in-If-clause-ok
+outline_item-returns-in_ok-no-in-If-clause-ok t c = λ k look knows.
+    let e = expr_view c.in-If.test in
+    let a = c.deref-in-If.result.now in
+    let b = c.deref-in-If-2.result.now in
+    let seen = choice_is c.args.item.now c.in-If.test c.in-If.yes c.in-If.no a b c.in-If.is c.deref-in-If.ensures.value c.deref-in-If-2.ensures.value in
+    let inside = c.in_ok-no-in-If.ensures.ok k look knows in
+    (second_block c.args.known.now.whole k e (items_view a) (items_view b) seen c.requires (c.in_ok-yes-in-If.ensures.ok k look knows).0 ∙ inside.0,
+    rw (seen, choice_seen look c.in_ok-expr-in-If.expr c.in_ok-yes-in-If.yes c.in_ok-no-in-If.no)
+    (choice_numbered k e (items_view a) (items_view b) (block_view look c.in_ok-yes-in-If.yes.items)
+    (block_view look c.in_ok-no-in-If.no.items) c.in_ok-expr-in-If.expr (tables_view c.args.tables.now)
+    (tables_view c.add_expr.new.self) (tables_view c.outline_items.new.tables)
     (tables_view c.outline_items-in-If.new.tables) c.in_ok-expr-in-If.ensures.at c.in_ok-expr-in-If.ensures.added
-    (c.in_ok-yes-in-If.ensures k look knows) (c.in_ok-no-in-If.ensures k look knows))
+    (c.in_ok-yes-in-If.ensures.ok k look knows).1 inside.1))
 
-pub outline_item-returns-in_ok-body-in-Repeat : goal.outline_item-returns-in_ok-body-in-Repeat
-outline_item-returns-in_ok-body-in-Repeat t c = λ k look knows.
+pub outline_item-returns-in_err-body-in-Repeat-clause-refused :
+    goal.outline_item-returns-in_err-body-in-Repeat-clause-refused
+outline_item-returns-in_err-body-in-Repeat-clause-refused t c = λ why spot is k look knows.
+    let b = c.deref-in-Repeat.result.now in
     let n = c.in-Repeat.count in
-    let seen : (item_view c.args.item.now).what ≡ tree.repeat n (items_view c.in-Repeat.body.items)
-    = repeat_is c.args.item.now c.in-Repeat.count c.in-Repeat.body c.in-Repeat.is in
-    rw (seen, loop_seen look (count.Fixed n.value) c.in_ok-body-in-Repeat.body, ← c.deref-in-Repeat.ensures.value)
-    (ap (λ v. numbered (plain.loop (count.Fixed n.value) v.value) v.tables)
-    (c.in_ok-body-in-Repeat.ensures k look knows))
+    let seen = repeat_is c.args.item.now n c.in-Repeat.body b c.in-Repeat.is c.deref-in-Repeat.ensures.value in
+    behind_own k (body_faults (names_of k) (items_view b)) seen knows.whole refl c.requires
+    ∙ (c.in_err-body-in-Repeat.ensures.refused why spot (handed c.from_residual-in_err-body-in-Repeat.result c.from_residual-in_err-body-in-Repeat.ensures.1 is) k look knows)
 
-pub outline_item-returns-in_ok-body-in-Again : goal.outline_item-returns-in_ok-body-in-Again
-outline_item-returns-in_ok-body-in-Again t c = λ k look knows.
-    let e = expr_view c.in-Again.count in
+pub outline_item-returns-in_ok-body-in-Repeat-clause-ok : goal.outline_item-returns-in_ok-body-in-Repeat-clause-ok
+outline_item-returns-in_ok-body-in-Repeat-clause-ok t c = λ k look knows.
+    let b = c.deref-in-Repeat.result.now in
+    let n = c.in-Repeat.count in
+    let seen = repeat_is c.args.item.now n c.in-Repeat.body b c.in-Repeat.is c.deref-in-Repeat.ensures.value in
+    let inside = c.in_ok-body-in-Repeat.ensures.ok k look knows in
+    (behind_own k (body_faults (names_of k) (items_view b)) seen knows.whole refl c.requires ∙ inside.0,
+    rw (seen, loop_seen look (count.Fixed c.in-Repeat.count.value) c.in_ok-body-in-Repeat.body)
+    (ap (λ v. numbered (plain.loop (count.Fixed n.value) v.value) v.tables) inside.1))
+
+pub outline_item-returns-in_err-body-in-Again-clause-refused :
+    goal.outline_item-returns-in_err-body-in-Again-clause-refused
+outline_item-returns-in_err-body-in-Again-clause-refused t c = λ why spot is k look knows.
+    let b = c.deref-in-Again.result.now in
+    let e = c.in-Again.count in
     let n = c.in-Again.most in
-    let seen : (item_view c.args.item.now).what ≡ tree.again e n (items_view c.in-Again.body.items)
-    = again_is c.args.item.now c.in-Again.count c.in-Again.most c.in-Again.body c.in-Again.is in
-    rw (
-      seen,
-      loop_seen look (count.Drawn c.in_ok-expr-in-Again.expr n.value) c.in_ok-body-in-Again.body,
-      ← c.deref-in-Again.ensures.value,
-    )
-    (again_numbered k e n (items_view c.deref-in-Again.result.now) (block_view look c.in_ok-body-in-Again.body.items)
+    let seen = again_is c.args.item.now e n c.in-Again.body b c.in-Again.is c.deref-in-Again.ensures.value in
+    behind_own k (body_faults (names_of k) (items_view b)) seen knows.whole refl c.requires
+    ∙ (c.in_err-body-in-Again.ensures.refused why spot (handed c.from_residual-in_err-body-in-Again.result c.from_residual-in_err-body-in-Again.ensures.1 is) k look knows)
+
+pub outline_item-returns-in_ok-body-in-Again-clause-ok : goal.outline_item-returns-in_ok-body-in-Again-clause-ok
+outline_item-returns-in_ok-body-in-Again-clause-ok t c = λ k look knows.
+    let b = c.deref-in-Again.result.now in
+    let e = c.in-Again.count in
+    let n = c.in-Again.most in
+    let seen = again_is c.args.item.now e n c.in-Again.body b c.in-Again.is c.deref-in-Again.ensures.value in
+    let inside = c.in_ok-body-in-Again.ensures.ok k look knows in
+    (behind_own k (body_faults (names_of k) (items_view b)) seen knows.whole refl c.requires ∙ inside.0,
+    rw (seen, loop_seen look (count.Drawn c.in_ok-expr-in-Again.expr n.value) c.in_ok-body-in-Again.body)
+    (again_numbered k (expr_view e) n (items_view b) (block_view look c.in_ok-body-in-Again.body.items)
     c.in_ok-expr-in-Again.expr (tables_view c.args.tables.now) (tables_view c.add_expr-in-Again.new.self)
     (tables_view c.outline_items-in-Again.new.tables) c.in_ok-expr-in-Again.ensures.at
-    c.in_ok-expr-in-Again.ensures.added (c.in_ok-body-in-Again.ensures k look knows))
+    c.in_ok-expr-in-Again.ensures.added inside.1))
 
-pub outline_item-returns-in_ok-body-in-Warp : goal.outline_item-returns-in_ok-body-in-Warp
-outline_item-returns-in_ok-body-in-Warp t c = λ k look knows.
-    let seen : (item_view c.args.item.now).what
-    ≡ tree.warp (name_view c.in-Warp.name) (items_view c.in-Warp.body.items)
-    = warp_is c.args.item.now c.in-Warp.name c.in-Warp.body c.in-Warp.is in
-    let number = c.shape-number.ensures ∙ knows.shapes c.in-Warp.name.text.now in
+pub outline_item-returns-in_err-body-in-Warp-clause-refused :
+    goal.outline_item-returns-in_err-body-in-Warp-clause-refused
+outline_item-returns-in_err-body-in-Warp-clause-refused t c = λ why spot is k look knows.
+    let b = c.deref-in-Warp.result.now in
+    let name = name_view c.in-Warp.name in
+    let seen = warp_is c.args.item.now c.in-Warp.name c.in-Warp.body b c.in-Warp.is c.deref-in-Warp.ensures.value in
+    under_known k name (items_view b) (shape_place (named c.args.known.now.names name.text))
+    c.in_ok-number-in-Warp.number seen (knows.is_shape name.text) c.in_ok-number-in-Warp.ensures
+    ∙ (c.in_err-body-in-Warp.ensures.refused why spot (handed c.from_residual-in_err-body-in-Warp.result c.from_residual-in_err-body-in-Warp.ensures.1 is) k look knows)
+
+pub outline_item-returns-in_ok-body-in-Warp-clause-ok : goal.outline_item-returns-in_ok-body-in-Warp-clause-ok
+outline_item-returns-in_ok-body-in-Warp-clause-ok t c = λ k look knows.
+    let b = c.deref-in-Warp.result.now in
+    let name = name_view c.in-Warp.name in
+    let seen = warp_is c.args.item.now c.in-Warp.name c.in-Warp.body b c.in-Warp.is c.deref-in-Warp.ensures.value in
+    let inside = c.in_ok-body-in-Warp.ensures.ok k look knows in
+    (under_known k name (items_view b) (shape_place (named c.args.known.now.names name.text))
+    c.in_ok-number-in-Warp.number seen (knows.is_shape name.text) c.in_ok-number-in-Warp.ensures ∙ inside.0,
     rw (
       seen,
-      warp_seen look c.shape-number.result c.in_ok-body-in-Warp.body,
-      ← c.deref-in-Warp.ensures.value,
-      ← number,
+      warp_seen look c.in_ok-number-in-Warp.number c.in_ok-body-in-Warp.body,
+      ← number_of name (shape_place (named c.args.known.now.names name.text)) c.in_ok-number-in-Warp.number
+          c.in_ok-number-in-Warp.ensures ∙ knows.shapes name.text,
     )
-    (ap (λ v. numbered (plain.warp c.shape-number.result v.value) v.tables)
-    (c.in_ok-body-in-Warp.ensures k look knows))
+    (ap (λ v. numbered (plain.warp c.in_ok-number-in-Warp.number v.value) v.tables) inside.1))
 
-pub outline_item-returns-in_ok-body-in-Channel : goal.outline_item-returns-in_ok-body-in-Channel
-outline_item-returns-in_ok-body-in-Channel t c = λ k look knows.
+pub outline_item-returns-in_err-body-in-Channel-clause-refused :
+    goal.outline_item-returns-in_err-body-in-Channel-clause-refused
+outline_item-returns-in_err-body-in-Channel-clause-refused t c = λ why spot is k look knows.
+    let b = c.deref-in-Channel.result.now in
     let n = c.in-Channel.number in
-    let seen : (item_view c.args.item.now).what ≡ tree.channel n (items_view c.in-Channel.body.items)
-    = channel_is c.args.item.now c.in-Channel.number c.in-Channel.body c.in-Channel.is in
-    rw (seen, channel_seen look n.value c.in_ok-body-in-Channel.body, ← c.deref-in-Channel.ensures.value)
-    (ap (λ v. numbered (plain.channel n.value v.value) v.tables) (c.in_ok-body-in-Channel.ensures k look knows))
+    let seen = channel_is c.args.item.now n c.in-Channel.body b c.in-Channel.is c.deref-in-Channel.ensures.value in
+    behind_own k (body_faults (names_of k) (items_view b)) seen knows.whole refl c.requires
+    ∙ (c.in_err-body-in-Channel.ensures.refused why spot (handed c.from_residual-in_err-body-in-Channel.result c.from_residual-in_err-body-in-Channel.ensures.1 is) k look knows)
 
-pub outline_item-returns-in_ok-body-in-Volume : goal.outline_item-returns-in_ok-body-in-Volume
-outline_item-returns-in_ok-body-in-Volume t c = λ k look knows.
+pub outline_item-returns-in_ok-body-in-Channel-clause-ok : goal.outline_item-returns-in_ok-body-in-Channel-clause-ok
+outline_item-returns-in_ok-body-in-Channel-clause-ok t c = λ k look knows.
+    let b = c.deref-in-Channel.result.now in
+    let n = c.in-Channel.number in
+    let seen = channel_is c.args.item.now n c.in-Channel.body b c.in-Channel.is c.deref-in-Channel.ensures.value in
+    let inside = c.in_ok-body-in-Channel.ensures.ok k look knows in
+    (behind_own k (body_faults (names_of k) (items_view b)) seen knows.whole refl c.requires ∙ inside.0,
+    rw (seen, channel_seen look n.value c.in_ok-body-in-Channel.body)
+    (ap (λ v. numbered (plain.channel n.value v.value) v.tables) inside.1))
+
+pub outline_item-returns-in_err-body-in-Volume-clause-refused :
+    goal.outline_item-returns-in_err-body-in-Volume-clause-refused
+outline_item-returns-in_err-body-in-Volume-clause-refused t c = λ why spot is k look knows.
+    let b = c.deref-in-Volume.result.now in
     let n = c.in-Volume.number in
-    let seen : (item_view c.args.item.now).what ≡ tree.volume n (items_view c.in-Volume.body.items)
-    = volume_is c.args.item.now c.in-Volume.number c.in-Volume.body c.in-Volume.is in
-    rw (seen, steady_seen look _ n.value c.in_ok-body-in-Volume.body, ← c.deref-in-Volume.ensures.value)
-    (ap (λ v. numbered (plain.steady meaning.loudness n.value v.value) v.tables)
-    (c.in_ok-body-in-Volume.ensures k look knows))
+    let seen = volume_is c.args.item.now n c.in-Volume.body b c.in-Volume.is c.deref-in-Volume.ensures.value in
+    behind_own k (body_faults (names_of k) (items_view b)) seen knows.whole refl c.requires
+    ∙ (c.in_err-body-in-Volume.ensures.refused why spot (handed c.from_residual-in_err-body-in-Volume.result c.from_residual-in_err-body-in-Volume.ensures.1 is) k look knows)
 
-pub outline_item-returns-in_ok-body-in-Gate : goal.outline_item-returns-in_ok-body-in-Gate
-outline_item-returns-in_ok-body-in-Gate t c = λ k look knows.
+pub outline_item-returns-in_ok-body-in-Volume-clause-ok : goal.outline_item-returns-in_ok-body-in-Volume-clause-ok
+outline_item-returns-in_ok-body-in-Volume-clause-ok t c = λ k look knows.
+    let b = c.deref-in-Volume.result.now in
+    let n = c.in-Volume.number in
+    let seen = volume_is c.args.item.now n c.in-Volume.body b c.in-Volume.is c.deref-in-Volume.ensures.value in
+    let inside = c.in_ok-body-in-Volume.ensures.ok k look knows in
+    (behind_own k (body_faults (names_of k) (items_view b)) seen knows.whole refl c.requires ∙ inside.0,
+    rw (seen, steady_seen look _ n.value c.in_ok-body-in-Volume.body)
+    (ap (λ v. numbered (plain.steady meaning.loudness n.value v.value) v.tables) inside.1))
+
+pub outline_item-returns-in_err-body-in-Gate-clause-refused :
+    goal.outline_item-returns-in_err-body-in-Gate-clause-refused
+outline_item-returns-in_err-body-in-Gate-clause-refused t c = λ why spot is k look knows.
+    let b = c.deref-in-Gate.result.now in
     let n = c.in-Gate.number in
-    let seen : (item_view c.args.item.now).what ≡ tree.gate n (items_view c.in-Gate.body.items)
-    = gate_is c.args.item.now c.in-Gate.number c.in-Gate.body c.in-Gate.is in
-    rw (seen, steady_seen look _ n.value c.in_ok-body-in-Gate.body, ← c.deref-in-Gate.ensures.value)
-    (ap (λ v. numbered (plain.steady meaning.articulation n.value v.value) v.tables)
-    (c.in_ok-body-in-Gate.ensures k look knows))
+    let seen = gate_is c.args.item.now n c.in-Gate.body b c.in-Gate.is c.deref-in-Gate.ensures.value in
+    behind_own k (body_faults (names_of k) (items_view b)) seen knows.whole refl c.requires
+    ∙ (c.in_err-body-in-Gate.ensures.refused why spot (handed c.from_residual-in_err-body-in-Gate.result c.from_residual-in_err-body-in-Gate.ensures.1 is) k look knows)
 
-pub outline_item-returns-in_ok-body-in-Rhythm : goal.outline_item-returns-in_ok-body-in-Rhythm
-outline_item-returns-in_ok-body-in-Rhythm t c = λ k look knows.
-    let ls = c.in-Rhythm.list.items in
-    let seen : (item_view c.args.item.now).what ≡ tree.rhythm ls (items_view c.in-Rhythm.body.items)
-    = rhythm_is c.args.item.now c.in-Rhythm.list c.in-Rhythm.body c.in-Rhythm.is in
-    let list : map (length_ticks c.args.known.now.whole) c.deref-in-Rhythm.result.now ≡ map (length_ticks k.whole) ls
-    = ap₂ (λ w l. map (length_ticks w) l) (sym knows.whole) c.deref-in-Rhythm.ensures.value in
-    rw (
-      seen,
-      under_seen look _ c.in_ok-list-in-Rhythm.list c.in_ok-body-in-Rhythm.body,
-      ← list,
-      ← c.deref-in-Rhythm-2.ensures.value,
-    )
-    (under_numbered k meaning.duration (map (length_ticks c.args.known.now.whole) c.deref-in-Rhythm.result.now) (items_view c.deref-in-Rhythm-2.result.now)
-    (block_view look c.in_ok-body-in-Rhythm.body.items) c.in_ok-list-in-Rhythm.list (tables_view c.args.tables.now)
-    (tables_view c.add_lengths.new.tables) (tables_view c.outline_items-in-Rhythm.new.tables)
-    c.in_ok-list-in-Rhythm.ensures.at c.in_ok-list-in-Rhythm.ensures.added
-    (c.in_ok-body-in-Rhythm.ensures k look knows))
+pub outline_item-returns-in_ok-body-in-Gate-clause-ok : goal.outline_item-returns-in_ok-body-in-Gate-clause-ok
+outline_item-returns-in_ok-body-in-Gate-clause-ok t c = λ k look knows.
+    let b = c.deref-in-Gate.result.now in
+    let n = c.in-Gate.number in
+    let seen = gate_is c.args.item.now n c.in-Gate.body b c.in-Gate.is c.deref-in-Gate.ensures.value in
+    let inside = c.in_ok-body-in-Gate.ensures.ok k look knows in
+    (behind_own k (body_faults (names_of k) (items_view b)) seen knows.whole refl c.requires ∙ inside.0,
+    rw (seen, steady_seen look _ n.value c.in_ok-body-in-Gate.body)
+    (ap (λ v. numbered (plain.steady meaning.articulation n.value v.value) v.tables) inside.1))
 
-pub outline_item-returns-in_ok-body-in-Artic : goal.outline_item-returns-in_ok-body-in-Artic
-outline_item-returns-in_ok-body-in-Artic t c = λ k look knows.
-    let ns = c.in-Artic.list.items in
-    let seen : (item_view c.args.item.now).what ≡ tree.artic ns (items_view c.in-Artic.body.items)
-    = artic_is c.args.item.now c.in-Artic.list c.in-Artic.body c.in-Artic.is in
-    let list : map Number.value c.deref-in-Artic.result.now ≡ map Number.value ns
-    = ap (map Number.value) c.deref-in-Artic.ensures.value in
-    rw (
-      seen,
-      under_seen look _ c.in_ok-list-in-Artic.list c.in_ok-body-in-Artic.body,
-      ← list,
-      ← c.deref-in-Artic-2.ensures.value,
-    )
-    (under_numbered k meaning.articulation (map Number.value c.deref-in-Artic.result.now)
-    (items_view c.deref-in-Artic-2.result.now) (block_view look c.in_ok-body-in-Artic.body.items)
+pub outline_item-returns-in_err-body-in-Rhythm-clause-refused :
+    goal.outline_item-returns-in_err-body-in-Rhythm-clause-refused
+outline_item-returns-in_err-body-in-Rhythm-clause-refused t c = λ why spot is k look knows.
+    let b = c.deref-in-Rhythm-2.result.now in
+    let l = c.deref-in-Rhythm.result.now in
+    let seen = rhythm_is c.args.item.now c.in-Rhythm.list c.in-Rhythm.body l b c.in-Rhythm.is
+    c.deref-in-Rhythm.ensures.value c.deref-in-Rhythm-2.ensures.value in
+    behind_own k (body_faults (names_of k) (items_view b)) seen knows.whole refl c.requires
+    ∙ (c.in_err-body-in-Rhythm.ensures.refused why spot (handed c.from_residual-in_err-body-in-Rhythm.result c.from_residual-in_err-body-in-Rhythm.ensures.1 is) k look knows)
+
+pub outline_item-returns-in_ok-body-in-Rhythm-clause-ok : goal.outline_item-returns-in_ok-body-in-Rhythm-clause-ok
+outline_item-returns-in_ok-body-in-Rhythm-clause-ok t c = λ k look knows.
+    let b = c.deref-in-Rhythm-2.result.now in
+    let l = c.deref-in-Rhythm.result.now in
+    let seen = rhythm_is c.args.item.now c.in-Rhythm.list c.in-Rhythm.body l b c.in-Rhythm.is
+    c.deref-in-Rhythm.ensures.value c.deref-in-Rhythm-2.ensures.value in
+    let inside = c.in_ok-body-in-Rhythm.ensures.ok k look knows in
+    (behind_own k (body_faults (names_of k) (items_view b)) seen knows.whole refl c.requires ∙ inside.0,
+    rw (seen, under_seen look _ c.in_ok-list-in-Rhythm.list c.in_ok-body-in-Rhythm.body, ← ap (λ w. map (length_ticks w) l) (sym knows.whole))
+    (under_numbered k meaning.duration (map (length_ticks c.args.known.now.whole) l) (items_view b) (block_view look c.in_ok-body-in-Rhythm.body.items)
+    c.in_ok-list-in-Rhythm.list (tables_view c.args.tables.now) (tables_view c.add_lengths.new.tables)
+    (tables_view c.outline_items-in-Rhythm.new.tables) c.in_ok-list-in-Rhythm.ensures.at
+    c.in_ok-list-in-Rhythm.ensures.added inside.1))
+
+pub outline_item-returns-in_err-body-in-Artic-clause-refused :
+    goal.outline_item-returns-in_err-body-in-Artic-clause-refused
+outline_item-returns-in_err-body-in-Artic-clause-refused t c = λ why spot is k look knows.
+    let b = c.deref-in-Artic-2.result.now in
+    let l = c.deref-in-Artic.result.now in
+    let seen = artic_is c.args.item.now c.in-Artic.list c.in-Artic.body l b c.in-Artic.is
+    c.deref-in-Artic.ensures.value c.deref-in-Artic-2.ensures.value in
+    behind_own k (body_faults (names_of k) (items_view b)) seen knows.whole refl c.requires
+    ∙ (c.in_err-body-in-Artic.ensures.refused why spot (handed c.from_residual-in_err-body-in-Artic.result c.from_residual-in_err-body-in-Artic.ensures.1 is) k look knows)
+
+pub outline_item-returns-in_ok-body-in-Artic-clause-ok : goal.outline_item-returns-in_ok-body-in-Artic-clause-ok
+outline_item-returns-in_ok-body-in-Artic-clause-ok t c = λ k look knows.
+    let b = c.deref-in-Artic-2.result.now in
+    let l = c.deref-in-Artic.result.now in
+    let seen = artic_is c.args.item.now c.in-Artic.list c.in-Artic.body l b c.in-Artic.is
+    c.deref-in-Artic.ensures.value c.deref-in-Artic-2.ensures.value in
+    let inside = c.in_ok-body-in-Artic.ensures.ok k look knows in
+    (behind_own k (body_faults (names_of k) (items_view b)) seen knows.whole refl c.requires ∙ inside.0,
+    rw (seen, under_seen look _ c.in_ok-list-in-Artic.list c.in_ok-body-in-Artic.body)
+    (under_numbered k meaning.articulation (map Number.value l) (items_view b) (block_view look c.in_ok-body-in-Artic.body.items)
     c.in_ok-list-in-Artic.list (tables_view c.args.tables.now) (tables_view c.add_numbers.new.tables)
     (tables_view c.outline_items-in-Artic.new.tables) c.in_ok-list-in-Artic.ensures.at
-    c.in_ok-list-in-Artic.ensures.added (c.in_ok-body-in-Artic.ensures k look knows))
+    c.in_ok-list-in-Artic.ensures.added inside.1))
 
-pub outline_item-returns-in_ok-body-in-Loud : goal.outline_item-returns-in_ok-body-in-Loud
-outline_item-returns-in_ok-body-in-Loud t c = λ k look knows.
-    let ns = c.in-Loud.list.items in
-    let seen : (item_view c.args.item.now).what ≡ tree.loud ns (items_view c.in-Loud.body.items)
-    = loud_is c.args.item.now c.in-Loud.list c.in-Loud.body c.in-Loud.is in
-    let list : map Number.value c.deref-in-Loud.result.now ≡ map Number.value ns
-    = ap (map Number.value) c.deref-in-Loud.ensures.value in
-    rw (
-      seen,
-      under_seen look _ c.in_ok-list-in-Loud.list c.in_ok-body-in-Loud.body,
-      ← list,
-      ← c.deref-in-Loud-2.ensures.value,
-    )
-    (under_numbered k meaning.loudness (map Number.value c.deref-in-Loud.result.now) (items_view c.deref-in-Loud-2.result.now)
-    (block_view look c.in_ok-body-in-Loud.body.items) c.in_ok-list-in-Loud.list (tables_view c.args.tables.now)
-    (tables_view c.add_numbers-in-Loud.new.tables) (tables_view c.outline_items-in-Loud.new.tables)
-    c.in_ok-list-in-Loud.ensures.at c.in_ok-list-in-Loud.ensures.added (c.in_ok-body-in-Loud.ensures k look knows))
+pub outline_item-returns-in_err-body-in-Loud-clause-refused :
+    goal.outline_item-returns-in_err-body-in-Loud-clause-refused
+outline_item-returns-in_err-body-in-Loud-clause-refused t c = λ why spot is k look knows.
+    let b = c.deref-in-Loud-2.result.now in
+    let l = c.deref-in-Loud.result.now in
+    let seen = loud_is c.args.item.now c.in-Loud.list c.in-Loud.body l b c.in-Loud.is
+    c.deref-in-Loud.ensures.value c.deref-in-Loud-2.ensures.value in
+    behind_own k (body_faults (names_of k) (items_view b)) seen knows.whole refl c.requires
+    ∙ (c.in_err-body-in-Loud.ensures.refused why spot (handed c.from_residual-in_err-body-in-Loud.result c.from_residual-in_err-body-in-Loud.ensures.1 is) k look knows)
+
+pub outline_item-returns-in_ok-body-in-Loud-clause-ok : goal.outline_item-returns-in_ok-body-in-Loud-clause-ok
+outline_item-returns-in_ok-body-in-Loud-clause-ok t c = λ k look knows.
+    let b = c.deref-in-Loud-2.result.now in
+    let l = c.deref-in-Loud.result.now in
+    let seen = loud_is c.args.item.now c.in-Loud.list c.in-Loud.body l b c.in-Loud.is
+    c.deref-in-Loud.ensures.value c.deref-in-Loud-2.ensures.value in
+    let inside = c.in_ok-body-in-Loud.ensures.ok k look knows in
+    (behind_own k (body_faults (names_of k) (items_view b)) seen knows.whole refl c.requires ∙ inside.0,
+    rw (seen, under_seen look _ c.in_ok-list-in-Loud.list c.in_ok-body-in-Loud.body)
+    (under_numbered k meaning.loudness (map Number.value l) (items_view b) (block_view look c.in_ok-body-in-Loud.body.items)
+    c.in_ok-list-in-Loud.list (tables_view c.args.tables.now) (tables_view c.add_numbers-in-Loud.new.tables)
+    (tables_view c.outline_items-in-Loud.new.tables) c.in_ok-list-in-Loud.ensures.at
+    c.in_ok-list-in-Loud.ensures.added inside.1))
 
 -- ---- branches
 
-pub outline_item-loop-branch-init : goal.outline_item-loop-branch-init
-outline_item-loop-branch-init t c = λ k look knows. search rules
-
-pub outline_item-outline_items-requires-in-loop-branch :
-    goal.outline_item-outline_items-requires-in-loop-branch
-outline_item-outline_items-requires-in-loop-branch t c =
+pub outline_item-returns-in_err-block-in-Par-clause-refused :
+    goal.outline_item-returns-in_err-block-in-Par-clause-refused
+outline_item-returns-in_err-block-in-Par-clause-refused t c = λ why spot is k look knows.
     let view = λ (b : Vec Item Global). items_view b.items in
-    let branches = c.deref-branch-items.result.now in
-    let seen : (item_view c.args.item.now).what ≡ tree.par (branches_of (map view branches))
-    = search (rules, the_lemmas, map_twice, c.deref-branch-items.ensures.value) in
-    let all : BranchesInRange c.args.known.now.whole (branches_of (map view branches))
-    = par_branches (branches_of (map view branches)) (rw (← seen) c.requires) in
-    let inside : BodyInRange c.args.known.now.whole (items_view c.branch-item.result.items)
-    = branch_at view branches all c.loop-branch.branch-index c.branch-item.result c.loop-branch-test.true
-    c.branch-item.is in
-    (search (rules, the_lemmas), rw c.deref-in-loop-branch.ensures.value inside)
+    let bs = c.deref-branch-items.result.now in
+    let i = c.loop-branch.branch-index in
+    let b = c.branch-item.result in
+    let here = items_view b.items in
+    let rest = branches_of (map view (drop (i + 1) bs)) in
+    let left = arms_from view bs i b c.loop-branch-test.true c.branch-item.is in
+    let seen = par_is c.args.item.now c.in-Par.branches c.deref-branch-items.result.now c.in-Par.is c.deref-branch-items.ensures.value in
+    ap (λ s. first_found (stmt_faults (names_of k) s)) seen ∙ (c.loop-branch.invariant k look knows).0
+    ∙ ap (λ l. first_found (branches_faults (names_of k) l)) left
+    ∙ before (body_faults (names_of k) here) (branches_faults (names_of k) rest) (fault_at spot why)
+    (ap (λ l. first_found (body_faults (names_of k) (items_view l))) (sym c.deref-in-loop-branch.ensures.value)
+    ∙ (c.in_err-block-in-Par.ensures.refused why spot (handed c.from_residual-in_err-block-in-Par.result c.from_residual-in_err-block-in-Par.ensures.1 is) k look knows))
 
 pub outline_item-loop-branch-preserved : goal.outline_item-loop-branch-preserved
 outline_item-loop-branch-preserved t c = λ k look knows.
     let view = λ (b : Vec Item Global). items_view b.items in
-    let seen = λ (b : Vec Step Global). block_view look b.items in
-    let branches = c.deref-branch-items.result.now in
+    let bs = c.deref-branch-items.result.now in
+    let i = c.loop-branch.branch-index in
     let b = c.branch-item.result in
-    let pushed : c.push.new.self.items ≡ c.loop-branch.outlined.items ++ c.in_ok-outline_items-in-Par.field-0 ∷ []
-    = search rules in
-    arms_more view seen k branches c.loop-branch.branch-index b c.loop-branch.outlined.items c.push.new.self.items
-    c.in_ok-outline_items-in-Par.field-0 (arms_of k (branches_of (map view branches)) (tables_view c.args.tables.now))
-    (tables_view c.loop-branch.tables) (tables_view c.outline_items-in-loop-branch.new.tables) c.loop-branch-test.true
-    c.branch-item.is pushed (c.loop-branch.invariant k look knows)
-    (rw (← c.deref-in-loop-branch.ensures.value) (c.in_ok-outline_items-in-Par.ensures k look knows))
+    let here = items_view b.items in
+    let rest = branches_of (map view (drop (i + 1) bs)) in
+    let left = arms_from view bs i b c.loop-branch-test.true c.branch-item.is in
+    let seen = λ (s : Vec Step Global). block_view look s.items in
+    let so_far = c.loop-branch.invariant k look knows in
+    let inside = c.in_ok-block-in-Par.ensures.ok k look knows in
+    (so_far.0
+    ∙ ap (λ l. first_found (branches_faults (names_of k) l)) left
+    ∙ behind (body_faults (names_of k) here) (branches_faults (names_of k) rest)
+    (sym (ap (λ l. first_found (body_faults (names_of k) (items_view l))) (sym c.deref-in-loop-branch.ensures.value) ∙ inside.0)),
+    arms_more view seen k bs i b c.loop-branch.outlined.items c.append.new.list.items c.in_ok-block-in-Par.block
+    (arms_of k (branches_of (map view bs)) (tables_view c.args.tables.now)) (tables_view c.loop-branch.tables)
+    (tables_view c.outline_items-in-loop-branch.new.tables) c.loop-branch-test.true c.branch-item.is
+    c.in_ok-append-in-Par.ensures so_far.1 (rw (← c.deref-in-loop-branch.ensures.value) inside.1))
 
-pub outline_item-returns-after-loop-branch : goal.outline_item-returns-after-loop-branch
-outline_item-returns-after-loop-branch t c = λ k look knows.
+pub outline_item-returns-after-loop-branch-clause-ok : goal.outline_item-returns-after-loop-branch-clause-ok
+outline_item-returns-after-loop-branch-clause-ok t c = λ k look knows.
     let view = λ (b : Vec Item Global). items_view b.items in
     let blocks = map (λ (b : Vec Step Global). block_view look b.items) c.loop-branch.outlined.items in
-    let branches = c.deref-branch-items.result.now in
-    let seen : (item_view c.args.item.now).what ≡ tree.par (branches_of (map view branches))
-    = search (rules, the_lemmas, map_twice, c.deref-branch-items.ensures.value) in
-    let none : drop c.loop-branch.branch-index branches ≡ []
-    = drop_of_length-le branches (omega arith) in
-    let whole = c.loop-branch.invariant k look knows
-    ∙ ap (λ l. joined_behind blocks (arms_of k (branches_of (map view l)) (tables_view c.loop-branch.tables))) none in
-    rw (seen, par_seen look c.loop-branch.outlined) (ap (λ v. numbered (plain.par v.value) v.tables) (sym whole))
+    let bs = c.deref-branch-items.result.now in
+    let seen = par_is c.args.item.now c.in-Par.branches c.deref-branch-items.result.now c.in-Par.is c.deref-branch-items.ensures.value in
+    let none : drop c.loop-branch.branch-index bs ≡ [] = drop_of_length-le bs (omega arith) in
+    let whole = c.loop-branch.invariant k look knows in
+    (ap (λ s. first_found (stmt_faults (names_of k) s)) seen ∙ whole.0
+    ∙ ap (λ l. first_found (branches_faults (names_of k) (branches_of (map view l)))) none,
+    rw (seen, par_seen look c.loop-branch.outlined)
+    (ap (λ v. numbered (plain.par v.value) v.tables)
+    (sym (whole.1
+    ∙ ap (λ l. joined_behind blocks (arms_of k (branches_of (map view l)) (tables_view c.loop-branch.tables))) none))))
 
 -- ---- statements in turn
 
-pub outline_items-loop-item-init : goal.outline_items-loop-item-init
-outline_items-loop-item-init t c = λ k look knows. search rules
+pub outline_items-returns-in_err-answered-clause-refused : goal.outline_items-returns-in_err-answered-clause-refused
+outline_items-returns-in_err-answered-clause-refused t c = λ why spot is k look knows.
+    let xs = c.args.items.now in
+    let i = c.loop-item.item-index in
+    let x = c.item-item.result in
+    let here = (item_view x).what in
+    let rest = items_view (drop (i + 1) xs) in
+    let left = items_from xs i x c.loop-item-test.true c.item-item.is in
+    (c.loop-item.invariant k look knows).0
+    ∙ ap (λ l. first_found (body_faults (names_of k) l)) left
+    ∙ before (stmt_faults (names_of k) here) (body_faults (names_of k) rest) (fault_at spot why)
+    (own_told k here (fault_at spot why) knows.whole (failed c.check_own.result c.in_err-answered.field-0.0
+    (own_faults c.args.known.now.whole here) c.in_err-answered.ensures c.check_own.ensures why spot
+    (handed c.from_residual-in_err-answered.result c.from_residual-in_err-answered.ensures.1 is)))
 
-pub outline_items-outline_item-requires : goal.outline_items-outline_item-requires
-outline_items-outline_item-requires t c =
-    let inside : StmtInRange c.args.known.now.whole (item_view c.item-item.result).what
-    = item_at c.args.items.now c.requires c.loop-item.item-index c.item-item.result c.loop-item-test.true
-    c.item-item.is in
-    (search (rules, the_lemmas), inside)
+pub outline_items-returns-in_err-what-clause-refused : goal.outline_items-returns-in_err-what-clause-refused
+outline_items-returns-in_err-what-clause-refused t c = λ why spot is k look knows.
+    let xs = c.args.items.now in
+    let i = c.loop-item.item-index in
+    let x = c.item-item.result in
+    let here = (item_view x).what in
+    let rest = items_view (drop (i + 1) xs) in
+    let left = items_from xs i x c.loop-item-test.true c.item-item.is in
+    (c.loop-item.invariant k look knows).0
+    ∙ ap (λ l. first_found (body_faults (names_of k) l)) left
+    ∙ before (stmt_faults (names_of k) here) (body_faults (names_of k) rest) (fault_at spot why)
+    (c.in_err-what.ensures.refused why spot (handed c.from_residual-in_err-what.result c.from_residual-in_err-what.ensures.1 is) k look knows)
 
 pub outline_items-loop-item-preserved : goal.outline_items-loop-item-preserved
 outline_items-loop-item-preserved t c = λ k look knows.
+    let xs = c.args.items.now in
+    let i = c.loop-item.item-index in
     let x = c.item-item.result in
+    let here = (item_view x).what in
+    let rest = items_view (drop (i + 1) xs) in
+    let left = items_from xs i x c.loop-item-test.true c.item-item.is in
     let s : Step = record { spot = x.spot; before_fork = c.before_fork_inside.result; what = c.in_ok-what.what } in
-    let pushed : c.push.new.self.items ≡ c.loop-item.steps.items ++ s ∷ [] = search rules in
-    steps_more k look c.args.items.now c.loop-item.item-index x c.loop-item.steps.items c.push.new.self.items s
-    (block_of k (items_view c.args.items.now) (tables_view c.args.tables.now)) (tables_view c.loop-item.tables)
-    (tables_view c.outline_item.new.tables) c.loop-item-test.true c.item-item.is refl pushed
-    (c.loop-item.invariant k look knows) (c.in_ok-what.ensures k look knows)
+    let so_far = c.loop-item.invariant k look knows in
+    let inside = c.in_ok-what.ensures.ok k look knows in
+    (so_far.0
+    ∙ ap (λ l. first_found (body_faults (names_of k) l)) left
+    ∙ behind (stmt_faults (names_of k) here) (body_faults (names_of k) rest) (sym inside.0),
+    steps_more k look xs i x c.loop-item.steps.items c.append.new.list.items s
+    (block_of k (items_view xs) (tables_view c.args.tables.now)) (tables_view c.loop-item.tables)
+    (tables_view c.outline_item.new.tables) c.loop-item-test.true c.item-item.is refl c.in_ok-append.ensures
+    so_far.1 inside.1)
 
-pub outline_items-returns : goal.outline_items-returns
-outline_items-returns t c = λ k look knows.
+pub outline_items-returns-clause-ok : goal.outline_items-returns-clause-ok
+outline_items-returns-clause-ok t c = λ k look knows.
     let none : drop c.loop-item.item-index c.args.items.now ≡ [] = drop_of_length-le c.args.items.now (omega arith) in
-    sym (c.loop-item.invariant k look knows
+    let whole = c.loop-item.invariant k look knows in
+    (whole.0 ∙ ap (λ l. first_found (body_faults (names_of k) (items_view l))) none,
+    sym (whole.1
     ∙ ap
     (λ l. followed (map (step_view look) c.loop-item.steps.items) (block_of k (items_view l) (tables_view c.loop-item.tables)))
-    none)
+    none))

@@ -11,21 +11,12 @@ use Rattle.fm_outline.specs.OfScore.{IsOutlineOf}
 use Rattle.fm_plan.proofs.SamePlan.{followed}
 use Rattle.fm_plan.proofs.planning.plan.Goals as goal
 
--- the first of two lists that are empty together
-first_empty : {A : Type 0} (xs ys : List A) → xs ++ ys ≡ [] → xs ≡ []
-first_empty [] ys is = refl
-first_empty (x ∷ xs) ys is = absurd (omega (arith, ap length is))
-
-pub outline_of-requires : goal.outline_of-requires
-outline_of-requires c =
-    first_empty (second_walk (score_view c.args.score.now)) _ (first_empty _ _ c.requires.accepted.1.faultless)
-
 -- the outline is that of the score
-its_outline : (c : goal.After-plan_outline) → IsOutlineOf c.in_ok-outline.outline (score_view c.args.score.now)
+its_outline : (c : goal.After-plan_outline) → IsOutlineOf c.in-Ok.outline (score_view c.args.score.now)
 its_outline c = record {
-  view = c.in_ok-outline.ensures.outline;
-  seed = c.in_ok-outline.ensures.seed;
-  profile = c.in_ok-outline.ensures.profile;
+  view = c.in-Ok.ensures.outline;
+  seed = c.in-Ok.ensures.seed;
+  profile = c.in-Ok.ensures.profile;
 }
 
 pub plan_outline-requires : goal.plan_outline-requires
@@ -34,9 +25,9 @@ plan_outline-requires c = (
   score_view c.args.score.now,
   c.requires.accepted.1,
   record {
-    view = c.in_ok-outline.ensures.outline;
-    seed = c.in_ok-outline.ensures.seed;
-    profile = c.in_ok-outline.ensures.profile;
+    view = c.in-Ok.ensures.outline;
+    seed = c.in-Ok.ensures.seed;
+    profile = c.in-Ok.ensures.profile;
   },
   c.requires.bounds,
 )

@@ -1,17 +1,43 @@
-use Rattle.std.proofs.Common.{map}
+use Rattle.std.proofs.Common.{◌∷◌, ◌∙◌, map, ap, refl}
 use Rattle.std.specs.Prelude.{vec_items}
-use Rattle.std.proofs.lemmas.Result.{on_ok_weaker}
 use Rattle.fm_grammar.specs.View.{name_view}
+use Rattle.fm_meaning.specs.Faults.{first_found}
+use Rattle.fm_meaning.specs.Ranges.{entries_faults}
+use Rattle.fm_fault.specs.Why.{fault_at}
+use Rattle.fm_names.specs.Named.{named}
 use Rattle.fm_outline.specs.View.{tables_view}
-use Rattle.fm_outline.proofs.WalkLemmas.{shape_walked}
+use Rattle.fm_outline.proofs.RefusalLemmas.{handed, passed, failed, new_free, new_told}
+use Rattle.fm_outline.proofs.WalkLemmas.{parts_faults, shape_walked, name_refused, inside_refused}
 use Rattle.fm_outline.proofs.walk.Walk.add_shape.Goals as goal
 
-pub returns : goal.returns
-returns c =
+pub returns-in_err-check_new-clause-refused : goal.returns-in_err-check_new-clause-refused
+returns-in_err-check_new-clause-refused c = λ why spot is score rest r.
+    let name = name_view c.args.name.now in
+    name_refused r name (fault_at spot why) (λ ns. parts_faults ns.whole c.args.parts.now)
+    (λ ns. entries_faults (record ns { shapes = name.text ∷ ns.shapes }) rest) (λ ns. refl)
+    (new_told name (named c.args.self.now.known.names name.text) c.in_err-check_new.field-0.0 c.in_err-check_new.ensures
+    why spot (handed c.from_residual.result c.from_residual.ensures.1 is))
+
+pub returns-in_err-answered-clause-refused : goal.returns-in_err-answered-clause-refused
+returns-in_err-answered-clause-refused c = λ why spot is score rest r.
+    let name = name_view c.args.name.now in
+    let parts = c.args.parts.now in
+    inside_refused r name (fault_at spot why) (λ ns. parts_faults ns.whole parts)
+    (λ ns. entries_faults (record ns { shapes = name.text ∷ ns.shapes }) rest) (λ ns. refl)
+    (new_free name (named c.args.self.now.known.names name.text) _ c.in_ok-check_new.ensures)
+    (λ k look knows.
+    ap (λ w. first_found (parts_faults w parts)) knows.whole
+    ∙ failed c.check_parts.result c.in_err-answered.field-0.0 (parts_faults c.args.self.now.known.whole parts)
+    c.in_err-answered.ensures c.check_parts.ensures why spot
+    (handed c.from_residual-in_err-answered.result c.from_residual-in_err-answered.ensures.1 is))
+
+pub returns-clause-ok : goal.returns-clause-ok
+returns-clause-ok c = λ score rest r.
     let w = c.args.self.now in
-    on_ok_weaker c.define.result
-    (λ defined score rest r.
+    let name = name_view c.args.name.now in
+    let parts = c.args.parts.now in
     shape_walked score w.known c.define.new.self (map vec_items w.phrases.items) w.block.items (tables_view w.tables)
-    (tables_view c.add_warp.new.self) (name_view c.args.name.now) c.args.parts.now rest c.in_ok-number.number
-    c.in_ok-warp_of.field-0 c.in_ok-warp_of.ensures c.in_ok-number.ensures.at c.in_ok-number.ensures.added defined r)
-    c.define.ensures.ok
+    (tables_view c.add_warp.new.self) name parts rest c.in_ok-place.place c.in_ok-warp.warp
+    (new_free name (named w.known.names name.text) _ c.in_ok-check_new.ensures)
+    (passed c.check_parts.result _ (parts_faults w.known.whole parts) c.in_ok-answered.ensures c.check_parts.ensures)
+    c.in_ok-warp.ensures c.in_ok-place.ensures.at c.in_ok-place.ensures.added c.in_ok-define.ensures.ok r

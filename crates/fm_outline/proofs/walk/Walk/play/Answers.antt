@@ -1,18 +1,36 @@
-use Rattle.std.proofs.Common.{◌≡◌, ◌++◌, ◌∷◌, [], rules, map, sym}
+use Rattle.std.proofs.Common.{map, sym}
 use Rattle.std.specs.Prelude.{vec_items}
 use Rattle.fm_grammar.specs.View.{item_view}
+use Rattle.fm_fault.specs.Why.{fault_at}
+use Rattle.fm_ranges.specs.Own.{own_faults}
 use Rattle.fm_outline.specs.declared.step.Step.{Step}
 use Rattle.fm_outline.specs.View.{tables_view}
 use Rattle.fm_outline.proofs.GrowingLemmas.{item_spot}
-use Rattle.fm_outline.proofs.WalkLemmas.{play_walked}
+use Rattle.fm_outline.proofs.InsideLemmas.{own_told}
+use Rattle.fm_outline.proofs.RefusalLemmas.{handed, failed}
+use Rattle.fm_outline.proofs.WalkLemmas.{play_walked, play_refused}
 use Rattle.fm_outline.proofs.walk.Walk.play.Goals as goal
 
-pub returns : goal.returns
-returns c = λ score rest r.
+pub returns-in_err-answered-clause-refused : goal.returns-in_err-answered-clause-refused
+returns-in_err-answered-clause-refused c = λ why spot is score rest r.
+    let what = (item_view c.args.item.now).what in
+    play_refused r (fault_at spot why)
+    (λ k look knows.
+    own_told k what (fault_at spot why) knows.whole
+    (failed c.check_own.result c.in_err-answered.field-0.0 (own_faults c.args.self.now.known.whole what)
+    c.in_err-answered.ensures c.check_own.ensures why spot (handed c.from_residual.result c.from_residual.ensures.1 is)))
+
+pub returns-in_err-what-clause-refused : goal.returns-in_err-what-clause-refused
+returns-in_err-what-clause-refused c = λ why spot is score rest r.
+    play_refused r (fault_at spot why)
+    (c.in_err-what.ensures.refused why spot
+    (handed c.from_residual-in_err-what.result c.from_residual-in_err-what.ensures.1 is))
+
+pub returns-clause-ok : goal.returns-clause-ok
+returns-clause-ok c = λ score rest r.
     let w = c.args.self.now in
     let x = c.args.item.now in
     let s : Step = record { spot = x.spot; before_fork = c.before_fork_inside.result; what = c.in_ok-what.what } in
-    let pushed : c.push.new.self.items ≡ w.block.items ++ s ∷ [] = search rules in
-    play_walked score w.known (map vec_items w.phrases.items) w.block.items c.push.new.self.items (tables_view w.tables)
-    (tables_view c.outline_item.new.tables) (item_view x).spot (item_view x).what rest s (sym (item_spot x)) pushed
-    (λ k look knows. c.in_ok-what.ensures k look knows) r
+    play_walked score w.known (map vec_items w.phrases.items) w.block.items c.append.new.list.items (tables_view w.tables)
+    (tables_view c.outline_item.new.tables) (item_view x).spot (item_view x).what rest s (sym (item_spot x))
+    c.in_ok-append.ensures (λ k look knows. c.in_ok-what.ensures.ok k look knows) r
