@@ -1,7 +1,5 @@
 -- What a name stands for in a table.
-use Rattle.std.specs.Prelude.{◌≡◌, ℕ, List, Option, None, Some, Bool, true, false, cond, is_some}
-use Rattle.std.specs.Prelude.{map, filter, ◌++◌, ◌||◌}
-use Rattle.std.specs.List.{list_any}
+use Rattle.std.specs.Prelude.{ℕ, List, Option, None, Some, Bool, true, cond}
 use Rattle.std.specs.BTreeMap.{get_by}
 use Rattle.std.specs.Cmp.Lexicographic.{slice_cmp}
 use Rattle.std.specs.Ordering.{nat_cmp}
@@ -31,22 +29,3 @@ is_free name (Some first) = bytes_eq first.text.now name
 -- what the latest definition of a name gives, where there is one
 unfoldable pub named : {V : Type 0} → Names V → List ℕ → Option V
 named t name = chosen name (first_at t name) (other_at t name)
-
--- the names that are defined: of those that are kept, the ones that stand for something
-unfoldable pub names_in : {V : Type 0} → Names V → List (List ℕ)
-names_in t =
-    filter (λ name. is_some (named t name))
-    (map (λ e. e.1.text.now) t.firsts.entries ++ map (λ e. e.0.now) t.others.entries)
-
--- a name is among the names of a table
-abbrev pub has_name : {V : Type 0} → Names V → List ℕ → Bool
-has_name t name = list_any (bytes_eq name) (names_in t)
-
--- what the names of a table are: those that stand for something; none, where none does; and with one definition
--- more, its name and those that there were
-pub record HasWhatWasDefined {V : Type 0} (t : Names V) : Type 0 where
-  pub stands : (name : List ℕ) → has_name t name ≡ is_some (named t name)
-  pub none : ((name : List ℕ) → named t name ≡ None) → (name : List ℕ) → has_name t name ≡ false
-  pub more : (u : Names V) (added : List ℕ) (value : V)
-      → ((name : List ℕ) → named u name ≡ cond (bytes_eq name added) (Some value) (named t name))
-      → (name : List ℕ) → has_name u name ≡ (bytes_eq name added || has_name t name)

@@ -7,7 +7,7 @@
 mod bytes;
 mod names;
 
-pub use names::{Names, names_are_what_was_defined};
+pub use names::Names;
 
 #[cfg(test)]
 mod tests;

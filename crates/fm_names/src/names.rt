@@ -1,11 +1,9 @@
 //! The table.
 
 ghost use Rattle.std.specs.Prelude.{◌≡◌, ℕ, List, None, Some, OnOk, OnErr, cond, true, false};
-ghost use Rattle.std.specs.Prelude.{is_some, option_copied};
-ghost use Rattle.std.specs.List.{list_any};
+ghost use Rattle.std.specs.Prelude.{option_copied};
 ghost use Rattle.std.specs.Str.{bytes_eq};
-ghost use Rattle.fm_names.specs.Named.{HasWhatWasDefined, named, names_in};
-ghost use Rattle.fm_names.specs.Named.{first_at, chosen, is_free};
+ghost use Rattle.fm_names.specs.Named.{named, first_at, chosen, is_free};
 
 use crate::bytes::key;
 use std::alloc::{AllocError, Global};
@@ -131,18 +129,4 @@ impl<'s, V: Drop> Names<'s, V> {
     {
         choose(name, self.first(name), self.others.get(name))
     }
-
-    /// Whether the name was defined: exactly where `get` gives something.
-    pub fn contains(&self, name: &[u8]) -> bool
-        ensures stands { result ≡ is_some (named self.now name.now) }
-        ensures among { result ≡ list_any (bytes_eq name.now) (names_in self.now) }
-    {
-        self.get(name).is_some()
-    }
 }
-
-/// Of every table: a name is among its names exactly where it stands for something; a table without
-/// names has none; and one definition more adds its name to those that there were.
-pub fn names_are_what_was_defined<V>(_names: &Names<V>)
-    ensures { HasWhatWasDefined _names.now }
-{}
