@@ -6,5 +6,4 @@ pub mod GrowingLemmas
 pub mod KeyLemmas
 pub mod PhraseLemmas
 pub mod WalkLemmas
-pub mod ItemLemmas
 pub mod MapLemmas

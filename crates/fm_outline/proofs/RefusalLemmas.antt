@@ -11,7 +11,7 @@ use Rattle.fm_meaning.specs.Ranges.{unknown_faults}
 use Rattle.fm_fault.specs.Found.{found}
 use Rattle.fm_fault.specs.Why.{fault_at}
 use Rattle.fm_fault.specs.declared.why.Why.{Why}
-use Rattle.fm_fault.specs.declared.why.Why.TheVariants.{DoubleName, UnknownName}
+use Rattle.fm_fault.specs.declared.why.Why.TheVariants.{DoubleName}
 use Rattle.fm_fault.specs.declared.fault.Fault.{Fault}
 use Rattle.fm_fault.specs.declared.fault.CheckFault.{CheckFault}
 use Rattle.fm_fault.specs.declared.fault.CheckFault.TheVariants.{Refused}

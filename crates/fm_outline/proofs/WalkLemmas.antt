@@ -128,195 +128,6 @@ parts_faults whole parts = each_faults (part_faults whole) (λ p. length_spot (p
 
 -- ---- entries
 
--- the phrases that are there are known to themselves
-knows_here : {score : text.Score} {known : Known} {phrases : List (List Step)} {block : List Step} {t : plain.Tables}
-    {rest : List text.Entry} (r : WalkedBy score known phrases block t rest)
-    → Knows known (look_in (phrases_view phrases)) r.k
-knows_here r = r.knows _ (λ n within. refl)
-
--- a statement more
-pub play_walked : (score : text.Score) (known : Known) (phrases : List (List Step)) (block grown : List Step)
-    (t u : plain.Tables) (spot : Spot) (stmt : text.Stmt) (rest : List text.Entry) (s : Step)
-    → s.spot ≡ spot → grown ≡ block ++ s ∷ []
-    → ((k : Catalogue) (look : Look) → Knows known look k
-    → (first_found (stmt_faults (names_of k) stmt) ≡ None)
-    × (numbered (instruction_view look s.what) u ≡ instruction_of k stmt t))
-    → WalkedBy score known phrases block t (text.plays spot stmt ∷ rest)
-    → WalkedBy score known phrases grown u rest
-play_walked score known phrases block grown t u spot stmt rest s at pushed is r = record {
-  k = r.k;
-  first =
-      r.first
-      ∙ behind (stmt_faults (names_of r.k) stmt) (entries_faults (names_of r.k) rest)
-      (sym (is r.k _ (knows_here r)).0);
-  knows = r.knows;
-  stand = r.stand;
-  so_far = λ look more.
-      let steps = map (step_view look) block in
-      let what = instruction_view look s.what in
-      let seen : step_view look s ≡ placed spot what = step_seen look s ∙ ap (λ p. placed p what) at in
-      r.so_far look more
-      ∙ placed_more (outline_from r.k rest) spot steps what (instruction_of r.k stmt t) u (is r.k look (r.knows look more)).1
-      ∙ ap (λ p. followed (steps ++ p ∷ []) (outline_from r.k rest u)) (sym seen)
-      ∙ ap (λ l. followed l (outline_from r.k rest u)) (sym (map-append (step_view look) block (s ∷ [])))
-      ∙ ap (λ l. followed (map (step_view look) l) (outline_from r.k rest u)) (sym pushed);
-}
-
--- a shape more
-pub shape_walked : (score : text.Score) (known : Known) (names : table.Names Meaning) (phrases : List (List Step))
-    (block : List Step) (t u : plain.Tables) (name : text.Leaf) (parts : List PartText) (rest : List text.Entry)
-    (p : ℕ) (warp : List Part) → named known.names name.text ≡ None → None ≡ first_found (parts_faults known.whole parts)
-    → warp ≡ map (part_of known.whole) parts → p ≡ length t.warps → u ≡ warp_added warp t
-    → ((q : List ℕ) → named names q ≡ cond (bytes_eq q name.text) (Some (Shape p)) (named known.names q))
-    → WalkedBy score known phrases block t (text.shape name parts ∷ rest)
-    → WalkedBy score (record known { names = names }) phrases block u rest
-shape_walked score known names phrases block t u name parts rest p warp new clean is at added defined r =
-    let k : Catalogue = record r.k { shapes = named_as name (length t.warps) ∷ r.k.shapes } in
-    record {
-      k = k;
-      first =
-          let knows = knows_here r in
-          r.first
-          ∙ behind (double_faults name (names_of r.k) ++ parts_faults r.k.whole parts) (entries_faults (names_of k) rest)
-          (sym (new_behind name (parts_faults r.k.whole parts) knows new
-          ∙ ap (λ w. first_found (parts_faults w parts)) knows.whole ∙ sym clean));
-      knows = λ look more.
-          let knows = r.knows look more in
-          record {
-            whole = knows.whole;
-            shapes = λ q.
-                ap (λ o. unwrap_or (shape_place o) 0) (defined q)
-                ∙ either_of (λ o. unwrap_or (shape_place o) 0) (bytes_eq q name.text) (Shape p) (named known.names q)
-                (length t.warps) (meaning_of q 0 r.k.shapes) at (knows.shapes q);
-            phrases = λ q.
-                ap (λ o. phrase_at look (phrase_number o)) (defined q)
-                ∙ other_kind (λ o. phrase_at look (phrase_number o)) q name.text (Shape p) (named known.names) new refl
-                ∙ knows.phrases q;
-            is_shape = λ q.
-                ap (λ o. is_some (shape_place o)) (defined q)
-                ∙ either_known (λ o. is_some (shape_place o)) (bytes_eq q name.text) (Shape p) (named known.names q)
-                (list_any (bytes_eq q) (labels r.k.shapes)) refl (knows.is_shape q);
-            is_phrase = λ q.
-                ap (λ o. is_some (phrase_number o)) (defined q)
-                ∙ other_kind (λ o. is_some (phrase_number o)) q name.text (Shape p) (named known.names) new refl
-                ∙ knows.is_phrase q;
-          };
-      stand = r.stand;
-      so_far = λ look more.
-          let steps = map (step_view look) block in
-          r.so_far look more
-          ∙ ap (λ w. followed steps (outline_from k rest (warp_added (map (part_of w) parts) t))) (r.knows look more).whole
-          ∙ ap (λ w. followed steps (outline_from k rest (warp_added w t))) (sym is)
-          ∙ ap (λ w. followed steps (outline_from k rest w)) (sym added);
-    }
-
--- a phrase more
-pub phrase_walked : (score : text.Score) (known : Known) (names : table.Names Meaning) (forking : Vec Bool Global)
-    (phrases grown : List (List Step)) (block : List Step) (t u : plain.Tables) (name : text.Leaf) (body : text.Body)
-    (rest : List text.Entry) (p : ℕ) (steps : List Step) → named known.names name.text ≡ None
-    → p ≡ length phrases → grown ≡ phrases ++ steps ∷ []
-    → ((q : List ℕ) → named names q ≡ cond (bytes_eq q name.text) (Some (Phrase p)) (named known.names q))
-    → ((k : Catalogue) (look : Look) → Knows known look k → (first_found (body_faults (names_of k) body) ≡ None)
-    × (numbered (block_view look steps) u ≡ block_of k body t))
-    → WalkedBy score known phrases block t (text.phrase name body ∷ rest)
-    → WalkedBy score (record known { names = names; forking = forking }) grown block u rest
-phrase_walked score known names forking phrases grown block t u name body rest p steps new at pushed defined is r =
-    let blocks = phrases_view phrases in
-    let value = (block_of r.k body t).value in
-    let k : Catalogue = record r.k { phrases = named_as name value ∷ r.k.phrases } in
-    let here : (look : Look) → Extends blocks look → numbered (block_view look steps) u ≡ block_of r.k body t
-    = λ look more. (is r.k look (r.knows look more)).1 in
-    let itself : Extends blocks (look_in blocks) = λ n within. refl in
-    let last = block_view (look_in blocks) steps in
-    let last_is : last ≡ value = ap (λ x. x.value) (here (look_in blocks) itself) in
-    let all : phrases_view grown ≡ blocks ++ last ∷ [] = ap phrases_view pushed ∙ phrases_more [] phrases steps in
-    let fewer : (look : Look) → Extends (phrases_view grown) look → Extends blocks look
-    = λ look more. extends_less blocks last look (subst (λ bs. Extends bs look) all more) in
-    record {
-      k = k;
-      first =
-          let knows = knows_here r in
-          r.first
-          ∙ behind (double_faults name (names_of r.k) ++ body_faults (names_of r.k) body) (entries_faults (names_of k) rest)
-          (sym (new_behind name (body_faults (names_of r.k) body) knows new ∙ (is r.k _ knows).0));
-      knows = λ look more.
-          let knows = r.knows look (fewer look more) in
-          let found : look p ≡ value
-          = ap look (at ∙ sym (phrases_length phrases))
-          ∙ extends_last blocks last look (subst (λ bs. Extends bs look) all more) ∙ last_is in
-          record {
-            whole = knows.whole;
-            shapes = λ q.
-                ap (λ o. unwrap_or (shape_place o) 0) (defined q)
-                ∙ other_kind (λ o. unwrap_or (shape_place o) 0) q name.text (Phrase p) (named known.names) new refl
-                ∙ knows.shapes q;
-            phrases = λ q.
-                ap (λ o. phrase_at look (phrase_number o)) (defined q)
-                ∙ either_of (λ o. phrase_at look (phrase_number o)) (bytes_eq q name.text) (Phrase p)
-                (named known.names q) value (meaning_of q plain.done r.k.phrases) found (knows.phrases q);
-            is_shape = λ q.
-                ap (λ o. is_some (shape_place o)) (defined q)
-                ∙ other_kind (λ o. is_some (shape_place o)) q name.text (Phrase p) (named known.names) new refl
-                ∙ knows.is_shape q;
-            is_phrase = λ q.
-                ap (λ o. is_some (phrase_number o)) (defined q)
-                ∙ either_known (λ o. is_some (phrase_number o)) (bytes_eq q name.text) (Phrase p) (named known.names q)
-                (list_any (bytes_eq q) (labels r.k.phrases)) refl (knows.is_phrase q);
-          };
-      stand = λ look more.
-          let same : last ≡ block_view look steps
-          = last_is ∙ sym (ap (λ x. x.value) (here look (fewer look more))) in
-          all
-          ∙ ap₂ (λ bs b. bs ++ b ∷ []) (r.stand look (fewer look more)) same
-          ∙ sym (map-append (block_view look) phrases (steps ∷ []))
-          ∙ ap (map (block_view look)) (sym pushed);
-      so_far = λ look more.
-          r.so_far look (fewer look more)
-          ∙ ap (λ x. followed (map (step_view look) block) (outline_from k rest x))
-          (sym (ap (λ x. x.tables) (here look (fewer look more))));
-    }
-
--- ---- entries with a fault
-
--- a statement that is played
-pub play_refused : {score : text.Score} {known : Known} {phrases : List (List Step)} {block : List Step} {t : plain.Tables}
-    {spot : Spot} {stmt : text.Stmt} {rest : List text.Entry}
-    → WalkedBy score known phrases block t (text.plays spot stmt ∷ rest) → (f : NumberedFault)
-    → ((k : Catalogue) (look : Look) → Knows known look k → first_found (stmt_faults (names_of k) stmt) ≡ Some f)
-    → first_found (second_walk score) ≡ Some f
-play_refused {stmt = stmt} {rest = rest} r f told =
-    r.first
-    ∙ before (stmt_faults (names_of r.k) stmt) (entries_faults (names_of r.k) rest) f (told r.k _ (knows_here r))
-
--- a name that is defined before, in front of what stands behind it
-pub name_refused : {score : text.Score} {known : Known} {phrases : List (List Step)} {block : List Step} {t : plain.Tables}
-    {e : text.Entry} {rest : List text.Entry} → WalkedBy score known phrases block t (e ∷ rest) → (name : text.Leaf)
-    (f : NumberedFault) (inside others : Names → List NumberedFault)
-    → ((ns : Names) → entries_faults ns (e ∷ rest) ≡ double_faults name ns ++ inside ns ++ others ns)
-    → first_found (fault_if (is_some (named known.names name.text)) name.spot double_name) ≡ Some f
-    → first_found (second_walk score) ≡ Some f
-name_refused r name f inside others all told =
-    let ns = names_of r.k in
-    r.first ∙ ap first_found (all ns)
-    ∙ before (double_faults name ns ++ inside ns) (others ns) f
-    (before (double_faults name ns) (inside ns) f (ap first_found (sym (double_is name (knows_here r))) ∙ told))
-
--- what stands behind a new name
-pub inside_refused : {score : text.Score} {known : Known} {phrases : List (List Step)} {block : List Step} {t : plain.Tables}
-    {e : text.Entry} {rest : List text.Entry} → WalkedBy score known phrases block t (e ∷ rest) → (name : text.Leaf)
-    (f : NumberedFault) (inside others : Names → List NumberedFault)
-    → ((ns : Names) → entries_faults ns (e ∷ rest) ≡ double_faults name ns ++ inside ns ++ others ns)
-    → named known.names name.text ≡ None
-    → ((k : Catalogue) (look : Look) → Knows known look k → first_found (inside (names_of k)) ≡ Some f)
-    → first_found (second_walk score) ≡ Some f
-inside_refused r name f inside others all new told =
-    let ns = names_of r.k in
-    r.first ∙ ap first_found (all ns)
-    ∙ before (double_faults name ns ++ inside ns) (others ns) f
-    (new_behind name (inside ns) (knows_here r) new ∙ told r.k _ (knows_here r))
-
--- ---- the whole score
-
 -- before the first entry
 pub begun : (score : text.Score) (known : Known) (t : plain.Tables) → ((q : List ℕ) → named known.names q ≡ None)
     → t ≡ no_tables → known.whole ≡ (score_rules score).whole_note → None ≡ first_found (head_faults score)
@@ -337,46 +148,219 @@ begun score known t names empty is clean =
       so_far = λ look more. ap (outline_from k score.entries) (sym empty);
     }
 
--- the entries from one on
-pub at_entry : (score : text.Score) (known : Known) (phrases : List (List Step)) (block : List Step) (t : plain.Tables)
-    (es : List Entry) (i : ℕ) (e : Entry) → i < length es → e ≡ get_or es i e
-    → WalkedBy score known phrases block t (map entry_view (drop i es))
-    → WalkedBy score known phrases block t (entry_view e ∷ map entry_view (drop (i + 1) es))
-at_entry score known phrases block t es i e within is r =
-    let left : map entry_view (drop i es) ≡ entry_view e ∷ map entry_view (drop (i + 1) es)
-    = ap (map entry_view) (drop-cons es i e within)
-    ∙ ap (λ x. entry_view x ∷ map entry_view (drop (suc i) es)) (sym is)
-    ∙ ap (λ n. entry_view e ∷ map entry_view (drop n es)) (sym (add-one i)) in
-    subst (WalkedBy score known phrases block t) left r
+module _ {score : text.Score} {known : Known} {phrases : List (List Step)} {block : List Step} {t : plain.Tables} where
+  -- the phrases that are there are known to themselves
+  knows_here : {rest : List text.Entry} (r : WalkedBy score known phrases block t rest)
+      → Knows known (look_in (phrases_view phrases)) r.k
+  knows_here r = r.knows _ (λ n within. refl)
 
--- no entry is left
-at_end : (score : text.Score) (known : Known) (phrases : List (List Step)) (block : List Step) (t : plain.Tables)
-    (es : List Entry) (i : ℕ) → length es ≤ i
-    → WalkedBy score known phrases block t (map entry_view (drop i es)) → WalkedBy score known phrases block t []
-at_end score known phrases block t es i past r =
-    subst (λ l. WalkedBy score known phrases block t (map entry_view l)) (drop_of_length-le es past) r
+  -- a statement more
+  pub play_walked : {spot : Spot} {stmt : text.Stmt} {rest : List text.Entry} {grown : List Step} (u : plain.Tables) (s : Step)
+      → WalkedBy score known phrases block t (text.plays spot stmt ∷ rest) → s.spot ≡ spot → grown ≡ block ++ s ∷ []
+      → ((k : Catalogue) (look : Look) → Knows known look k
+      → (first_found (stmt_faults (names_of k) stmt) ≡ None)
+      × (numbered (instruction_view look s.what) u ≡ instruction_of k stmt t))
+      → WalkedBy score known phrases grown u rest
+  play_walked {spot = spot} {stmt = stmt} {rest = rest} u s r at pushed is = record {
+    k = r.k;
+    first =
+        r.first
+        ∙ behind (stmt_faults (names_of r.k) stmt) (entries_faults (names_of r.k) rest)
+        (sym (is r.k _ (knows_here r)).0);
+    knows = r.knows;
+    stand = r.stand;
+    so_far = λ look more.
+        let steps = map (step_view look) block in
+        let what = instruction_view look s.what in
+        let seen : step_view look s ≡ placed spot what = step_seen look s ∙ ap (λ p. placed p what) at in
+        r.so_far look more
+        ∙ placed_more (outline_from r.k rest) spot steps what (instruction_of r.k stmt t) u (is r.k look (r.knows look more)).1
+        ∙ ap (λ p. followed (steps ++ p ∷ []) (outline_from r.k rest u)) (sym seen)
+        ∙ ap (λ l. followed l (outline_from r.k rest u)) (sym (map-append (step_view look) block (s ∷ [])))
+        ∙ ap (λ l. followed (map (step_view look) l) (outline_from r.k rest u)) (sym pushed);
+  }
 
--- the score has no fault
-pub ends_faultless : (score : text.Score) (known : Known) (phrases : List (List Step)) (block : List Step)
-    (t : plain.Tables) (es : List Entry) (i : ℕ) → length es ≤ i
-    → WalkedBy score known phrases block t (map entry_view (drop i es)) → second_walk score ≡ []
-ends_faultless score known phrases block t es i past r =
-    no_first (second_walk score) (sym (at_end score known phrases block t es i past r).first)
+  -- a shape more
+  pub shape_walked : {name : text.Leaf} {parts : List PartText} {rest : List text.Entry} {names : table.Names Meaning}
+      {u : plain.Tables} (p : ℕ) (warp : List Part) → WalkedBy score known phrases block t (text.shape name parts ∷ rest)
+      → named known.names name.text ≡ None → None ≡ first_found (parts_faults known.whole parts)
+      → warp ≡ map (part_of known.whole) parts → p ≡ length t.warps → u ≡ warp_added warp t
+      → ((q : List ℕ) → named names q ≡ cond (bytes_eq q name.text) (Some (Shape p)) (named known.names q))
+      → WalkedBy score (record known { names = names }) phrases block u rest
+  shape_walked {name = name} {parts = parts} {rest = rest} p warp r new clean is at added defined =
+      let k : Catalogue = record r.k { shapes = named_as name (length t.warps) ∷ r.k.shapes } in
+      record {
+        k = k;
+        first =
+            let knows = knows_here r in
+            r.first
+            ∙ behind (double_faults name (names_of r.k) ++ parts_faults r.k.whole parts) (entries_faults (names_of k) rest)
+            (sym (new_behind name (parts_faults r.k.whole parts) knows new
+            ∙ ap (λ w. first_found (parts_faults w parts)) knows.whole ∙ sym clean));
+        knows = λ look more.
+            let knows = r.knows look more in
+            record {
+              whole = knows.whole;
+              shapes = λ q.
+                  ap (λ o. unwrap_or (shape_place o) 0) (defined q)
+                  ∙ either_of (λ o. unwrap_or (shape_place o) 0) (bytes_eq q name.text) (Shape p) (named known.names q)
+                  (length t.warps) (meaning_of q 0 r.k.shapes) at (knows.shapes q);
+              phrases = λ q.
+                  ap (λ o. phrase_at look (phrase_number o)) (defined q)
+                  ∙ other_kind (λ o. phrase_at look (phrase_number o)) q name.text (Shape p) (named known.names) new refl
+                  ∙ knows.phrases q;
+              is_shape = λ q.
+                  ap (λ o. is_some (shape_place o)) (defined q)
+                  ∙ either_known (λ o. is_some (shape_place o)) (bytes_eq q name.text) (Shape p) (named known.names q)
+                  (list_any (bytes_eq q) (labels r.k.shapes)) refl (knows.is_shape q);
+              is_phrase = λ q.
+                  ap (λ o. is_some (phrase_number o)) (defined q)
+                  ∙ other_kind (λ o. is_some (phrase_number o)) q name.text (Shape p) (named known.names) new refl
+                  ∙ knows.is_phrase q;
+            };
+        stand = r.stand;
+        so_far = λ look more.
+            let steps = map (step_view look) block in
+            r.so_far look more
+            ∙ ap (λ w. followed steps (outline_from k rest (warp_added (map (part_of w) parts) t))) (r.knows look more).whole
+            ∙ ap (λ w. followed steps (outline_from k rest (warp_added w t))) (sym is)
+            ∙ ap (λ w. followed steps (outline_from k rest w)) (sym added);
+      }
 
--- what was made is the outline
-pub ends_as_outline : (score : text.Score) (known : Known) (phrases : List (List Step)) (block : List Step)
-    (t : plain.Tables) (es : List Entry) (i : ℕ) → length es ≤ i
-    → WalkedBy score known phrases block t (map entry_view (drop i es))
-    → numbered (block_view (look_in (phrases_view phrases)) block) t ≡ outline score
-ends_as_outline score known phrases block t es i past r =
-    let e = at_end score known phrases block t es i past r in
-    sym (e.so_far (look_in (phrases_view phrases)) (λ n within. refl))
+  -- a phrase more
+  pub phrase_walked : {name : text.Leaf} {body : text.Body} {rest : List text.Entry} {names : table.Names Meaning}
+      {forking : Vec Bool Global} {grown : List (List Step)} (u : plain.Tables) (p : ℕ) (steps : List Step)
+      → WalkedBy score known phrases block t (text.phrase name body ∷ rest) → named known.names name.text ≡ None
+      → p ≡ length phrases → grown ≡ phrases ++ steps ∷ []
+      → ((q : List ℕ) → named names q ≡ cond (bytes_eq q name.text) (Some (Phrase p)) (named known.names q))
+      → ((k : Catalogue) (look : Look) → Knows known look k → (first_found (body_faults (names_of k) body) ≡ None)
+      × (numbered (block_view look steps) u ≡ block_of k body t))
+      → WalkedBy score (record known { names = names; forking = forking }) grown block u rest
+  phrase_walked {name = name} {body = body} {rest = rest} {grown = grown} u p steps r new at pushed defined is =
+      let blocks = phrases_view phrases in
+      let value = (block_of r.k body t).value in
+      let k : Catalogue = record r.k { phrases = named_as name value ∷ r.k.phrases } in
+      let here : (look : Look) → Extends blocks look → numbered (block_view look steps) u ≡ block_of r.k body t
+      = λ look more. (is r.k look (r.knows look more)).1 in
+      let itself : Extends blocks (look_in blocks) = λ n within. refl in
+      let last = block_view (look_in blocks) steps in
+      let last_is : last ≡ value = ap (λ x. x.value) (here (look_in blocks) itself) in
+      let all : phrases_view grown ≡ blocks ++ last ∷ [] = ap phrases_view pushed ∙ phrases_more [] phrases steps in
+      let fewer : (look : Look) → Extends (phrases_view grown) look → Extends blocks look
+      = λ look more. extends_less blocks last look (subst (λ bs. Extends bs look) all more) in
+      record {
+        k = k;
+        first =
+            let knows = knows_here r in
+            r.first
+            ∙ behind (double_faults name (names_of r.k) ++ body_faults (names_of r.k) body) (entries_faults (names_of k) rest)
+            (sym (new_behind name (body_faults (names_of r.k) body) knows new ∙ (is r.k _ knows).0));
+        knows = λ look more.
+            let knows = r.knows look (fewer look more) in
+            let found : look p ≡ value
+            = ap look (at ∙ sym (phrases_length phrases))
+            ∙ extends_last blocks last look (subst (λ bs. Extends bs look) all more) ∙ last_is in
+            record {
+              whole = knows.whole;
+              shapes = λ q.
+                  ap (λ o. unwrap_or (shape_place o) 0) (defined q)
+                  ∙ other_kind (λ o. unwrap_or (shape_place o) 0) q name.text (Phrase p) (named known.names) new refl
+                  ∙ knows.shapes q;
+              phrases = λ q.
+                  ap (λ o. phrase_at look (phrase_number o)) (defined q)
+                  ∙ either_of (λ o. phrase_at look (phrase_number o)) (bytes_eq q name.text) (Phrase p)
+                  (named known.names q) value (meaning_of q plain.done r.k.phrases) found (knows.phrases q);
+              is_shape = λ q.
+                  ap (λ o. is_some (shape_place o)) (defined q)
+                  ∙ other_kind (λ o. is_some (shape_place o)) q name.text (Phrase p) (named known.names) new refl
+                  ∙ knows.is_shape q;
+              is_phrase = λ q.
+                  ap (λ o. is_some (phrase_number o)) (defined q)
+                  ∙ either_known (λ o. is_some (phrase_number o)) (bytes_eq q name.text) (Phrase p) (named known.names q)
+                  (list_any (bytes_eq q) (labels r.k.phrases)) refl (knows.is_phrase q);
+            };
+        stand = λ look more.
+            let same : last ≡ block_view look steps
+            = last_is ∙ sym (ap (λ x. x.value) (here look (fewer look more))) in
+            all
+            ∙ ap₂ (λ bs b. bs ++ b ∷ []) (r.stand look (fewer look more)) same
+            ∙ sym (map-append (block_view look) phrases (steps ∷ []))
+            ∙ ap (map (block_view look)) (sym pushed);
+        so_far = λ look more.
+            r.so_far look (fewer look more)
+            ∙ ap (λ x. followed (map (step_view look) block) (outline_from k rest x))
+            (sym (ap (λ x. x.tables) (here look (fewer look more))));
+      }
 
--- each phrase stands for its statements
-pub phrases_stand : (score : text.Score) (known : Known) (phrases : List (List Step)) (block : List Step)
-    (t : plain.Tables) (rest : List text.Entry) → WalkedBy score known phrases block t rest → (n : ℕ)
-    → look_in (phrases_view phrases) n ≡ block_view (look_in (phrases_view phrases)) (get_or phrases n [])
-phrases_stand score known phrases block t rest r n =
-    let look = look_in (phrases_view phrases) in
-    ap (λ bs. get_or bs n plain.done) (r.stand look (λ m within. refl))
-    ∙ get_mapped (block_view look) phrases n []
+  -- ---- entries with a fault
+
+  -- a statement that is played
+  pub play_refused : {spot : Spot} {stmt : text.Stmt} {rest : List text.Entry}
+      → WalkedBy score known phrases block t (text.plays spot stmt ∷ rest) → (f : NumberedFault)
+      → ((k : Catalogue) (look : Look) → Knows known look k → first_found (stmt_faults (names_of k) stmt) ≡ Some f)
+      → first_found (second_walk score) ≡ Some f
+  play_refused {stmt = stmt} {rest = rest} r f told =
+      r.first
+      ∙ before (stmt_faults (names_of r.k) stmt) (entries_faults (names_of r.k) rest) f (told r.k _ (knows_here r))
+
+  -- a name that is defined before, in front of what stands behind it
+  pub name_refused : {e : text.Entry} {rest : List text.Entry} → WalkedBy score known phrases block t (e ∷ rest) → (name : text.Leaf)
+      (f : NumberedFault) (inside others : Names → List NumberedFault)
+      → ((ns : Names) → entries_faults ns (e ∷ rest) ≡ double_faults name ns ++ inside ns ++ others ns)
+      → first_found (fault_if (is_some (named known.names name.text)) name.spot double_name) ≡ Some f
+      → first_found (second_walk score) ≡ Some f
+  name_refused r name f inside others all told =
+      let ns = names_of r.k in
+      r.first ∙ ap first_found (all ns)
+      ∙ before (double_faults name ns ++ inside ns) (others ns) f
+      (before (double_faults name ns) (inside ns) f (ap first_found (sym (double_is name (knows_here r))) ∙ told))
+
+  -- what stands behind a new name
+  pub inside_refused : {e : text.Entry} {rest : List text.Entry} → WalkedBy score known phrases block t (e ∷ rest) → (name : text.Leaf)
+      (f : NumberedFault) (inside others : Names → List NumberedFault)
+      → ((ns : Names) → entries_faults ns (e ∷ rest) ≡ double_faults name ns ++ inside ns ++ others ns)
+      → named known.names name.text ≡ None
+      → ((k : Catalogue) (look : Look) → Knows known look k → first_found (inside (names_of k)) ≡ Some f)
+      → first_found (second_walk score) ≡ Some f
+  inside_refused r name f inside others all new told =
+      let ns = names_of r.k in
+      r.first ∙ ap first_found (all ns)
+      ∙ before (double_faults name ns ++ inside ns) (others ns) f
+      (new_behind name (inside ns) (knows_here r) new ∙ told r.k _ (knows_here r))
+
+  -- ---- the whole score
+
+  -- the entries from one on
+  pub at_entry : (es : List Entry) (i : ℕ) (e : Entry) → i < length es → e ≡ get_or es i e
+      → WalkedBy score known phrases block t (map entry_view (drop i es))
+      → WalkedBy score known phrases block t (entry_view e ∷ map entry_view (drop (i + 1) es))
+  at_entry es i e within is r =
+      subst (WalkedBy score known phrases block t)
+      (ap (map entry_view) (drop-cons es i e within)
+      ∙ ap (λ x. entry_view x ∷ map entry_view (drop (suc i) es)) (sym is)
+      ∙ ap (λ n. entry_view e ∷ map entry_view (drop n es)) (sym (add-one i))) r
+
+  -- no entry is left
+  at_end : (es : List Entry) (i : ℕ) → length es ≤ i → WalkedBy score known phrases block t (map entry_view (drop i es))
+      → WalkedBy score known phrases block t []
+  at_end es i past r =
+      subst (λ l. WalkedBy score known phrases block t (map entry_view l)) (drop_of_length-le es past) r
+
+  -- the score has no fault
+  pub ends_faultless : (es : List Entry) (i : ℕ) → length es ≤ i
+      → WalkedBy score known phrases block t (map entry_view (drop i es)) → second_walk score ≡ []
+  ends_faultless es i past r = no_first (second_walk score) (sym (at_end es i past r).first)
+
+  -- what was made is the outline
+  pub ends_as_outline : (es : List Entry) (i : ℕ) → length es ≤ i
+      → WalkedBy score known phrases block t (map entry_view (drop i es))
+      → numbered (block_view (look_in (phrases_view phrases)) block) t ≡ outline score
+  ends_as_outline es i past r = sym ((at_end es i past r).so_far (look_in (phrases_view phrases)) (λ n within. refl))
+
+  -- each phrase stands for its statements
+  pub phrases_stand : {rest : List text.Entry} → WalkedBy score known phrases block t rest → (n : ℕ)
+      → look_in (phrases_view phrases) n ≡ block_view (look_in (phrases_view phrases)) (get_or phrases n [])
+  phrases_stand r n =
+      let look = look_in (phrases_view phrases) in
+      ap (λ bs. get_or bs n plain.done) (r.stand look (λ m within. refl))
+      ∙ get_mapped (block_view look) phrases n []

@@ -1,5 +1,5 @@
 -- How far the walk over the entries of a score has come.
-use Rattle.std.specs.Prelude.{◌≡◌, ℕ, ◌<◌, List, [], ◌∷◌, map, length, vec_items, Some}
+use Rattle.std.specs.Prelude.{◌≡◌, ℕ, ◌<◌, List, ◌∷◌, map, length, vec_items, Some}
 use Rattle.fm_lex.specs.declared.spot.Spot.{Spot}
 use Rattle.fm_grammar.specs.declared.item.Item.{Item}
 use Rattle.fm_grammar.specs.Score as text

@@ -5,4 +5,4 @@ use Rattle.fm_outline.proofs.walk.outline_of.Given as goal
 
 -- the entries that are left
 abbrev pub invariant-loop-entry : goal.invariant-loop-entry
-invariant-loop-entry l = Walked (score_view l.score) l.walk (map entry_view (drop l.entry-index l.score.entries.items))
+invariant-loop-entry l = Walked (score_view l.score) l.walk (map entry_view (drop l.entry-index l.entry-items))

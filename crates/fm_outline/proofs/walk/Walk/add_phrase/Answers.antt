@@ -30,13 +30,10 @@ returns-in_err-steps-clause-refused c = λ why spot is score rest r.
 pub returns-clause-ok : goal.returns-clause-ok
 returns-clause-ok c = λ score rest r.
     let w = c.args.self.now in
-    let name = name_view c.args.name.now in
     let steps = c.in_ok-steps.steps in
     let grown : map vec_items c.append.new.list.items ≡ map vec_items w.phrases.items ++ steps.items ∷ []
     = ap (map vec_items) c.in_ok-append.ensures ∙ map-append vec_items w.phrases.items (steps ∷ []) in
     let at : c.in_ok-number.number ≡ length (map vec_items w.phrases.items) = search (rules, length-map) in
-    phrase_walked score w.known c.define.new.self c.append-2.new.list (map vec_items w.phrases.items)
-    (map vec_items c.append.new.list.items) w.block.items (tables_view w.tables)
-    (tables_view c.outline_items.new.tables) name (items_view c.args.body.now) rest c.in_ok-number.number steps.items
-    (new_free name (named w.known.names name.text) _ c.in_ok-check_new.ensures) at grown c.in_ok-define.ensures.ok
-    (λ k look knows. c.in_ok-steps.ensures.ok k look knows) r
+    phrase_walked (tables_view c.outline_items.new.tables) c.in_ok-number.number steps.items r
+    (new_free (name_view c.args.name.now) (named w.known.names c.args.name.now.text.now) _ c.in_ok-check_new.ensures) at
+    grown c.in_ok-define.ensures.ok (λ k look knows. c.in_ok-steps.ensures.ok k look knows)

@@ -1,11 +1,9 @@
-use Rattle.std.proofs.Common.{◌∷◌, ◌∙◌, map, ap, refl}
-use Rattle.std.specs.Prelude.{vec_items}
+use Rattle.std.proofs.Common.{◌∷◌, ◌∙◌, ap, refl}
 use Rattle.fm_grammar.specs.View.{name_view}
 use Rattle.fm_meaning.specs.Faults.{first_found}
 use Rattle.fm_meaning.specs.Ranges.{entries_faults}
 use Rattle.fm_fault.specs.Why.{fault_at}
 use Rattle.fm_names.specs.Named.{named}
-use Rattle.fm_outline.specs.View.{tables_view}
 use Rattle.fm_outline.proofs.RefusalLemmas.{handed, passed, failed, new_free, new_told}
 use Rattle.fm_outline.proofs.WalkLemmas.{parts_faults, shape_walked, name_refused, inside_refused}
 use Rattle.fm_outline.proofs.walk.Walk.add_shape.Goals as goal
@@ -33,11 +31,9 @@ returns-in_err-answered-clause-refused c = λ why spot is score rest r.
 
 pub returns-clause-ok : goal.returns-clause-ok
 returns-clause-ok c = λ score rest r.
-    let w = c.args.self.now in
-    let name = name_view c.args.name.now in
-    let parts = c.args.parts.now in
-    shape_walked score w.known c.define.new.self (map vec_items w.phrases.items) w.block.items (tables_view w.tables)
-    (tables_view c.add_warp.new.self) name parts rest c.in_ok-place.place c.in_ok-warp.warp
-    (new_free name (named w.known.names name.text) _ c.in_ok-check_new.ensures)
-    (passed c.check_parts.result _ (parts_faults w.known.whole parts) c.in_ok-answered.ensures c.check_parts.ensures)
-    c.in_ok-warp.ensures c.in_ok-place.ensures.at c.in_ok-place.ensures.added c.in_ok-define.ensures.ok r
+    let known = c.args.self.now.known in
+    shape_walked c.in_ok-place.place c.in_ok-warp.warp r
+    (new_free (name_view c.args.name.now) (named known.names c.args.name.now.text.now) _ c.in_ok-check_new.ensures)
+    (passed c.check_parts.result _ (parts_faults known.whole c.args.parts.now) c.in_ok-answered.ensures
+    c.check_parts.ensures)
+    c.in_ok-warp.ensures c.in_ok-place.ensures.at c.in_ok-place.ensures.added c.in_ok-define.ensures.ok

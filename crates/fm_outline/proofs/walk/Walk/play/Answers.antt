@@ -1,5 +1,4 @@
-use Rattle.std.proofs.Common.{map, sym}
-use Rattle.std.specs.Prelude.{vec_items}
+use Rattle.std.proofs.Common.{sym}
 use Rattle.fm_grammar.specs.View.{item_view}
 use Rattle.fm_fault.specs.Why.{fault_at}
 use Rattle.fm_ranges.specs.Own.{own_faults}
@@ -28,9 +27,7 @@ returns-in_err-what-clause-refused c = λ why spot is score rest r.
 
 pub returns-clause-ok : goal.returns-clause-ok
 returns-clause-ok c = λ score rest r.
-    let w = c.args.self.now in
     let x = c.args.item.now in
     let s : Step = record { spot = x.spot; before_fork = c.before_fork_inside.result; what = c.in_ok-what.what } in
-    play_walked score w.known (map vec_items w.phrases.items) w.block.items c.append.new.list.items (tables_view w.tables)
-    (tables_view c.outline_item.new.tables) (item_view x).spot (item_view x).what rest s (sym (item_spot x))
-    c.in_ok-append.ensures (λ k look knows. c.in_ok-what.ensures.ok k look knows) r
+    play_walked (tables_view c.outline_item.new.tables) s r (sym (item_spot x)) c.in_ok-append.ensures
+    (λ k look knows. c.in_ok-what.ensures.ok k look knows)
