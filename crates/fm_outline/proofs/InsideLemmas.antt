@@ -12,7 +12,8 @@ use Rattle.fm_expansion.specs.Numbering.{Catalogue}
 use Rattle.fm_ranges.specs.Own.{own_faults}
 use Rattle.fm_outline.specs.InRange.{AmountFits}
 use Rattle.fm_outline.specs.Knows.{labels, names_of, number_or_told}
-use Rattle.fm_outline.proofs.RefusalLemmas.{before, behind, no_first, number_clean}
+use Rattle.fm_outline.proofs.RefusalLemmas.{before, behind, no_first}
+use Rattle.fm_outline.proofs.NameLemmas.{number_clean}
 
 -- a number of seven bits fits
 pub data_fits : (a : text.Amount) → amount_faults (pos 0) (pos most_data) a ≡ [] → AmountFits a

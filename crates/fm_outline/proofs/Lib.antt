@@ -1,5 +1,6 @@
 pub mod RangeLemmas
 pub mod RefusalLemmas
+pub mod NameLemmas
 pub mod InsideLemmas
 pub mod SeenLemmas
 pub mod GrowingLemmas

@@ -1,12 +1,10 @@
 -- The walk over the entries, one more at a time.
-use Rattle.std.proofs.Common.{◌≡◌, ℕ, zero, suc, ◌+◌, ◌<◌, ◌≤◌, List, [], ◌∷◌, ◌++◌, map, drop, length, get_or, refl, ap, ap₂, sym, ◌∙◌, add-one, arith, Bool, true, false, ◌||◌, cond, Option, Some, None, is_some, drop_of_length-le, subst, Vec, Global}
-use Rattle.std.specs.Prelude.{if◌then◌else◌, unwrap_or}
+use Rattle.std.proofs.Common.{◌≡◌, ℕ, zero, suc, ◌+◌, ◌<◌, ◌≤◌, List, [], ◌∷◌, ◌++◌, map, drop, length, get_or, refl, ap, ap₂, sym, ◌∙◌, add-one, arith, Bool, cond, Some, None, is_some, drop_of_length-le, subst, Vec, Global}
+use Rattle.std.specs.Prelude.{unwrap_or}
 use Rattle.std.specs.List.{list_any}
 use Rattle.std.specs.Str.{bytes_eq}
 use Rattle.std.proofs.Math.Seq.{drop-cons}
 use Rattle.std.proofs.lemmas.List.{map-append, length-append}
-use Rattle.std.proofs.lemmas.List.Folds.{list_any-append}
-use Rattle.std.proofs.lemmas.Slice.Eq.{bytes_eq-Decides}
 use Rattle.fm_lex.specs.declared.spot.Spot.{Spot}
 use Rattle.fm_names.specs.Named.{named}
 use Rattle.fm_names.specs.declared.names.Names as table
@@ -31,6 +29,7 @@ use Rattle.fm_outline.specs.View.{Look, phrase_at, look_in, phrases_behind, phra
 use Rattle.fm_outline.specs.Growing.{followed}
 use Rattle.fm_outline.specs.Knows.{Knows, labels, names_of, phrase_number, shape_place}
 use Rattle.fm_outline.specs.Walked.{Extends, WalkedBy}
+use Rattle.fm_outline.proofs.NameLemmas.{either_of, either_known, other_kind, double_is, new_behind}
 use Rattle.fm_outline.proofs.PhraseLemmas.{phrases_more, get_mapped}
 use Rattle.fm_outline.proofs.RefusalLemmas.{before, behind, no_first}
 use Rattle.fm_outline.proofs.SeenLemmas.{step_seen}
@@ -74,53 +73,6 @@ extends_last : (blocks : List plain.Block) (b : plain.Block) (look : Look) → E
     → look (length blocks) ≡ b
 extends_last blocks b look more =
     more (length blocks) (omega (arith, length-append blocks (b ∷ []))) ∙ get_end blocks b plain.done
-
--- ---- one of two meanings
-
--- what is made of a name that is defined, or of another
-either_of : {A : Type 0} (f : Option Meaning → A) (b : Bool) (m : Meaning) (o : Option Meaning) (x y : A)
-    → f (Some m) ≡ x → f o ≡ y → f (cond b (Some m) o) ≡ if b then x else y
-either_of f true m o x y first second = first
-either_of f false m o x y first second = second
-
--- whether it is known, or another is
-either_known : (f : Option Meaning → Bool) (b : Bool) (m : Meaning) (o : Option Meaning) (y : Bool)
-    → f (Some m) ≡ true → f o ≡ y → f (cond b (Some m) o) ≡ (b || y)
-either_known f true m o y first second = first
-either_known f false m o y first second = second
-
--- a new name of one kind changes nothing of the other kind
-other_kind : {A : Type 0} (f : Option Meaning → A) (q name : List ℕ) (m : Meaning) (o : List ℕ → Option Meaning)
-    → o name ≡ None → f (Some m) ≡ f None → f (cond (bytes_eq q name) (Some m) (o q)) ≡ f (o q)
-other_kind f q name m o new same =
-    choice (bytes_eq q name) (λ e. ap o ((bytes_eq-Decides q name).0 e) ∙ new)
-  where
-    choice : (b : Bool) → (b ≡ true → o q ≡ None) → f (cond b (Some m) (o q)) ≡ f (o q)
-    choice true is = same ∙ sym (ap f (is refl))
-    choice false is = refl
-
--- a name is one of either kind where it stands for something
-either_kind : (o : Option Meaning) → (is_some (shape_place o) || is_some (phrase_number o)) ≡ is_some o
-either_kind None = refl
-either_kind (Some (Shape p)) = refl
-either_kind (Some (Phrase n)) = refl
-
--- the fault of a name that is defined before
-pub double_is : {known : Known} {look : Look} {k : Catalogue} (name : text.Leaf) → Knows known look k
-    → fault_if (is_some (named known.names name.text)) name.spot double_name ≡ double_faults name (names_of k)
-double_is {known} {look} {k} name knows =
-    ap (λ b. fault_if b name.spot double_name)
-    (sym (list_any-append (bytes_eq name.text) (labels k.shapes) (labels k.phrases)
-    ∙ ap₂ (λ a b. a || b) (sym (knows.is_shape name.text)) (sym (knows.is_phrase name.text))
-    ∙ either_kind (named known.names name.text)))
-
--- a new name has no fault
-new_behind : {known : Known} {look : Look} {k : Catalogue} (name : text.Leaf) (fs : List NumberedFault)
-    → Knows known look k → named known.names name.text ≡ None
-    → first_found (double_faults name (names_of k) ++ fs) ≡ first_found fs
-new_behind name fs knows new =
-    ap (λ ds. first_found (ds ++ fs))
-    (sym (double_is name knows) ∙ ap (λ o. fault_if (is_some o) name.spot double_name) new)
 
 -- the faults of the parts of a shape
 abbrev pub parts_faults : (whole : ℕ) → List PartText → List NumberedFault

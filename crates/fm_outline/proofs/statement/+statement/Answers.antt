@@ -19,7 +19,8 @@ use Rattle.fm_outline.specs.View.{tables_view, block_view, step_view}
 use Rattle.fm_outline.specs.Growing.{followed, joined_behind}
 use Rattle.fm_outline.specs.declared.step.Step.{Step}
 use Rattle.fm_outline.proofs.InsideLemmas.{own_clean, own_told, leaf_clean, behind_own, first_block, second_block, under_known}
-use Rattle.fm_outline.proofs.RefusalLemmas.{handed, before, behind, failed, number_of}
+use Rattle.fm_outline.proofs.RefusalLemmas.{handed, before, behind, failed}
+use Rattle.fm_outline.proofs.NameLemmas.{number_of}
 use Rattle.fm_outline.proofs.SeenLemmas.{map_twice, choice_seen, loop_seen, par_seen, warp_seen, channel_seen, steady_seen, under_seen}
 use Rattle.fm_outline.proofs.GrowingLemmas.{items_from, arms_from, steps_more, arms_more, choice_numbered, again_numbered, under_numbered}
 use Rattle.fm_outline.proofs.statement.+statement.Goals as goal

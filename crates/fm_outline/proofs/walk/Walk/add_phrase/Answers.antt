@@ -6,7 +6,8 @@ use Rattle.fm_meaning.specs.Ranges.{body_faults, entries_faults}
 use Rattle.fm_fault.specs.Why.{fault_at}
 use Rattle.fm_names.specs.Named.{named}
 use Rattle.fm_outline.specs.View.{tables_view}
-use Rattle.fm_outline.proofs.RefusalLemmas.{handed, new_free, new_told}
+use Rattle.fm_outline.proofs.RefusalLemmas.{handed}
+use Rattle.fm_outline.proofs.NameLemmas.{new_free, new_told}
 use Rattle.fm_outline.proofs.WalkLemmas.{phrase_walked, name_refused, inside_refused}
 use Rattle.fm_outline.proofs.walk.Walk.add_phrase.Goals as goal
 

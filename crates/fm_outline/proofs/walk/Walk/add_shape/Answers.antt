@@ -4,7 +4,8 @@ use Rattle.fm_meaning.specs.Faults.{first_found}
 use Rattle.fm_meaning.specs.Ranges.{entries_faults}
 use Rattle.fm_fault.specs.Why.{fault_at}
 use Rattle.fm_names.specs.Named.{named}
-use Rattle.fm_outline.proofs.RefusalLemmas.{handed, passed, failed, new_free, new_told}
+use Rattle.fm_outline.proofs.RefusalLemmas.{handed, passed, failed}
+use Rattle.fm_outline.proofs.NameLemmas.{new_free, new_told}
 use Rattle.fm_outline.proofs.WalkLemmas.{parts_faults, shape_walked, name_refused, inside_refused}
 use Rattle.fm_outline.proofs.walk.Walk.add_shape.Goals as goal
 
