@@ -1,6 +1,7 @@
 -- Totals against their limits: a total up to the ceiling passes a limit exactly where the total itself does.
 use Rattle.std.proofs.Common.{◌≡◌, ℕ, ◌<◌, Bool, true, false, List, [], ◌∷◌, ◌++◌, Some, None, refl, sym, ◌∙◌, arith, ⊎_elim}
 use Rattle.std.proofs.lemmas.Bool.{cases_lt, lt-ltb, le-ltb, ltb-false}
+use Rattle.std.proofs.lemmas.Bool.Decides.{nat_tests}
 use Rattle.std.specs.Prelude.{nat_lt}
 use Rattle.fm_tick.specs.declared.tick.TheConstants.{MAX_TICK}
 use Rattle.fm_lex.specs.declared.spot.Spot.{Spot}
@@ -58,22 +59,10 @@ no_fault false spot number none = refl
 -- no total passes its limit where none is found
 pub are_within : (rules : VersionRules) (spot : Spot) (a : Totals) → limit_faults rules spot a ≡ []
     → AreWithin rules.most_processes a
-are_within rules spot a none =
-    let p = fault_if (over_processes rules a) spot too_many_processes in
-    let o = fault_if (over_operations a) spot too_many_operations in
-    let l = fault_if (over_length a) spot too_long in
-    let e = fault_if (over_events a) spot too_many_events in
-    let s = fault_if (over_steps a) spot too_many_steps in
-    let four = none_first (p ++ o ++ l ++ e) s none in
-    let three = none_first (p ++ o ++ l) e four in
-    let two = none_first (p ++ o) l three in
-    record {
-      processes = ltb-false rules.most_processes a.processes
-          (no_fault (over_processes rules a) spot too_many_processes (none_first p o two));
-      operations = ltb-false most_operations a.operations
-          (no_fault (over_operations a) spot too_many_operations (none_second p o two));
-      length = ltb-false MAX_TICK a.length (no_fault (over_length a) spot too_long (none_second (p ++ o) l three));
-      events = ltb-false most_events a.events
-          (no_fault (over_events a) spot too_many_events (none_second (p ++ o ++ l) e four));
-      steps = ltb-false most_steps a.steps (no_fault (over_steps a) spot too_many_steps (none_second (p ++ o ++ l ++ e) s none));
-    }
+are_within rules spot a none = record {
+  processes = grind (arith, nat_tests);
+  operations = grind (arith, nat_tests);
+  length = grind (arith, nat_tests);
+  events = grind (arith, nat_tests);
+  steps = grind (arith, nat_tests);
+}

@@ -75,19 +75,4 @@ gathered_same s a b h = same_gathered (h fork_in_choice) (h play_outside_rhythm)
 
 -- faults at one spot already
 pub gathered_four : (s : Spot) (a b c e : Bool) → gathered s (four s a b c e) ≡ four s a b c e
-gathered_four s true true true true = refl
-gathered_four s true true true false = refl
-gathered_four s true true false true = refl
-gathered_four s true true false false = refl
-gathered_four s true false true true = refl
-gathered_four s true false true false = refl
-gathered_four s true false false true = refl
-gathered_four s true false false false = refl
-gathered_four s false true true true = refl
-gathered_four s false true true false = refl
-gathered_four s false true false true = refl
-gathered_four s false true false false = refl
-gathered_four s false false true true = refl
-gathered_four s false false true false = refl
-gathered_four s false false false true = refl
-gathered_four s false false false false = refl
+gathered_four s a b c e = grind (arith, common_steps)
