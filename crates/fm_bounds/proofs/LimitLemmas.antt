@@ -19,9 +19,7 @@ use Rattle.fm_version.proofs.RangeLemmas.{none_first, none_second}
 -- a total up to the ceiling passes a limit where the total does
 pub capped_lt : (m n : ℕ) → m < CEILING → nat_lt m (capped n) ≡ nat_lt m n
 unfolding capped
-capped_lt m n low =
-    ⊎_elim (λ above. lt-ltb m (capped n) (omega arith) ∙ sym (lt-ltb m n above))
-    (λ within. le-ltb m (capped n) (omega arith) ∙ sym (le-ltb m n within)) (cases_lt m n)
+capped_lt m n low = grind (arith, nat_tests)
 
 -- the tests of a score's totals
 abbrev over_processes : VersionRules → Totals → Bool
@@ -50,11 +48,6 @@ empty_list (f ∷ fs) none = cc
 pub first_stays : (fs gs : List NumberedFault) (f : NumberedFault) → first_found fs ≡ Some f → first_found (fs ++ gs) ≡ Some f
 first_stays [] gs f is = cc
 first_stays (x ∷ fs) gs f is = is
-
--- a test without a fault fails
-no_fault : (b : Bool) (spot : Spot) (number : ℕ) → fault_if b spot number ≡ [] → b ≡ false
-no_fault true spot number none = cc
-no_fault false spot number none = refl
 
 -- no total passes its limit where none is found
 pub are_within : (rules : VersionRules) (spot : Spot) (a : Totals) → limit_faults rules spot a ≡ []

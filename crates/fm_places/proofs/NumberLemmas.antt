@@ -20,15 +20,7 @@ has_four : (m : ℕ) (s : Spot) (a b c e : Bool)
     → has m (four s a b c e)
     ≡ ((((a && nat_eq fork_in_choice m) || (b && nat_eq play_outside_rhythm m)) || (c && nat_eq index_outside_loop m))
     || (e && nat_eq too_deep m))
-has_four m s a b c e =
-    has_append m _ (fault_if e s too_deep)
-    ∙ ap₂ (λ x y. x || y)
-    (has_append m _ (fault_if c s index_outside_loop)
-    ∙ ap₂ (λ x y. x || y)
-    (has_append m _ (fault_if b s play_outside_rhythm)
-    ∙ ap₂ (λ x y. x || y) (has_if m a s fork_in_choice) (has_if m b s play_outside_rhythm))
-    (has_if m c s index_outside_loop))
-    (has_if m e s too_deep)
+has_four m s a b c e = grind (arith, common_steps)
 
 -- the spot plays no part
 pub any_spot : (m : ℕ) (s z : Spot) (a b c e : Bool) → has m (four s a b c e) ≡ has m (four z a b c e)
