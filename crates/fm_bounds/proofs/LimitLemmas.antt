@@ -1,20 +1,17 @@
 -- Totals against their limits: a total up to the ceiling passes a limit exactly where the total itself does.
-use Rattle.std.proofs.Common.{◌≡◌, ℕ, ◌<◌, Bool, true, false, List, [], ◌∷◌, ◌++◌, Some, None, refl, sym, ◌∙◌, arith, ⊎_elim}
-use Rattle.std.proofs.lemmas.Bool.{cases_lt, lt-ltb, le-ltb, ltb-false}
+use Rattle.std.proofs.Common.{◌≡◌, ℕ, ◌<◌, Bool, List, [], ◌∷◌, ◌++◌, Some, None, refl, arith}
 use Rattle.std.proofs.lemmas.Bool.Decides.{nat_tests}
 use Rattle.std.specs.Prelude.{nat_lt}
 use Rattle.fm_tick.specs.declared.tick.TheConstants.{MAX_TICK}
 use Rattle.fm_lex.specs.declared.spot.Spot.{Spot}
 use Rattle.fm_line.specs.Line.{most_events}
 use Rattle.fm_meaning.specs.Rules.{VersionRules, most_operations, most_steps}
-use Rattle.fm_meaning.specs.Fault.{NumberedFault, fault_if, too_many_processes}
-use Rattle.fm_meaning.specs.Fault.{too_many_operations, too_long, too_many_events, too_many_steps}
+use Rattle.fm_meaning.specs.Fault.{NumberedFault}
 use Rattle.fm_meaning.specs.Faults.{first_found}
 use Rattle.fm_meaning.specs.Bounds.{Totals, limit_faults}
 use Rattle.fm_bounds.specs.declared.sums.TheConstants.{CEILING}
 use Rattle.fm_bounds.specs.Saturation.{capped}
 use Rattle.fm_bounds.specs.Reached.{AreWithin}
-use Rattle.fm_version.proofs.RangeLemmas.{none_first, none_second}
 
 -- a total up to the ceiling passes a limit where the total does
 pub capped_lt : (m n : ℕ) → m < CEILING → nat_lt m (capped n) ≡ nat_lt m n

@@ -25,20 +25,10 @@ rhythm_both a b r = grind (arith, common_steps)
 pub lt_max : (l a b : ℕ) → (nat_lt l a || nat_lt l b) ≡ nat_lt l (max a b)
 lt_max l a b = grind (arith, nat_tests)
 
--- one more than the limit, in one part or the other
-sum_max : (most d a b : ℕ) → (nat_lt most (d + a) || nat_lt most (d + b)) ≡ nat_lt most (d + max a b)
-sum_max most d a b = grind (arith, nat_tests)
-
--- one or the other of three tests
-three_both : (a b c i j k : Bool) → ((a || b || c) || (i || j || k)) ≡ ((a || i) || (b || j) || (c || k))
-three_both a b c i j k = grind (arith, common_steps)
-
 deep_both : (w f b x y z p q r : ℕ)
     → (is_too_deep (w + x) (f + y) (b + z) || is_too_deep (w + p) (f + q) (b + r))
     ≡ is_too_deep (w + max x p) (f + max y q) (b + max z r)
-deep_both w f b x y z p q r =
-    three_both (nat_lt 8 (w + x)) (nat_lt 16 (f + y)) (nat_lt 64 (b + z)) (nat_lt 8 (w + p)) (nat_lt 16 (f + q)) (nat_lt 64 (b + r))
-    ∙ ap₂ (λ i j. i || j) (ap₂ (λ i j. i || j) (sum_max 8 w x p) (sum_max 16 f y q)) (sum_max 64 b z r)
+deep_both w f b x y z p q r = grind (arith, nat_tests)
 
 both_missing : (m : ℕ) (s : Spot) (a b : Needs) (d : Depths)
     → (has m (missing s a d) || has m (missing s b d)) ≡ has m (missing s (both a b) d)

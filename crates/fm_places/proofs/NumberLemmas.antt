@@ -1,9 +1,9 @@
 -- The numbers of the faults in a list.
-use Rattle.std.proofs.Common.{◌≡◌, ℕ, Bool, true, false, ◌&&◌, ◌||◌, nat_eq, List, ◌++◌, refl, sym, ap₂, ◌∙◌, arith}
+use Rattle.std.proofs.Common.{◌≡◌, ℕ, Bool, ◌&&◌, ◌||◌, nat_eq, List, ◌++◌, sym, ap₂, ◌∙◌, arith}
 use Rattle.std.proofs.lemmas.Grind.{common_steps}
 use Rattle.std.proofs.lemmas.List.Folds.{list_any-append}
 use Rattle.fm_lex.specs.declared.spot.Spot.{Spot}
-use Rattle.fm_meaning.specs.Fault.{NumberedFault, fault_if, fork_in_choice, play_outside_rhythm, index_outside_loop, too_deep}
+use Rattle.fm_meaning.specs.Fault.{NumberedFault, fork_in_choice, play_outside_rhythm, index_outside_loop, too_deep}
 use Rattle.fm_meaning.specs.Places.{gathered}
 use Rattle.fm_places.specs.Needs.{four}
 use Rattle.fm_places.specs.Found.{has}
@@ -11,10 +11,6 @@ use Rattle.fm_places.specs.Found.{has}
 -- in two lists
 pub has_append : (m : ℕ) (a b : List NumberedFault) → has m (a ++ b) ≡ (has m a || has m b)
 has_append m a b = list_any-append (λ f. nat_eq f.number m) a b
-
-has_if : (m : ℕ) (t : Bool) (s : Spot) (n : ℕ) → has m (fault_if t s n) ≡ (t && nat_eq n m)
-has_if m true s n = grind (arith, common_steps)
-has_if m false s n = refl
 
 has_four : (m : ℕ) (s : Spot) (a b c e : Bool)
     → has m (four s a b c e)
