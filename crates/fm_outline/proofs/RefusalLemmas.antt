@@ -13,10 +13,10 @@ use Rattle.fm_fault.specs.declared.fault.CheckFault.TheVariants.{Refused}
 use Rattle.fm_outline.specs.Refusal.{answer_of}
 
 -- what `?` hands on is what it was given
-pub handed : {A B E : Type 0} {e f : E} (r : Result A E) → IsErrAnd r (λ y. y ≡ e) → r ≡ Err f
+pub handed : {A B E : Type 0} {r : Result A E} {e f : E} → r ≡ Err f → IsErrAnd r (λ y. y ≡ e)
     → let x : Result B E = Err e in x ≡ Err f
-handed (Ok x) given is = absurd given
-handed {f = f} (Err y) given is = let same : y ≡ f = cc in ap Err (sym given ∙ same)
+handed {r = Ok x} is given = absurd given
+handed {r = Err y} {f = f} is given = let same : y ≡ f = cc in ap Err (sym given ∙ same)
 
 -- a list without a first fault has none
 pub no_first : (fs : List NumberedFault) → None ≡ first_found fs → fs ≡ []

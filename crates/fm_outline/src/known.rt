@@ -18,7 +18,8 @@ pub(crate) enum Meaning {
     Phrase { number: u32 },
 }
 
-/// The ticks of a whole note, what each name stands for, and, by its number, whether a phrase forks.
+/// The ticks of a whole note, what each name stands for, and, by its number, whether a phrase
+/// forks.
 #[derive(Drop)]
 pub(crate) struct Known<'s> {
     pub(crate) whole: u32,

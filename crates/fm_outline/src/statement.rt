@@ -28,7 +28,8 @@ use fm_program::{Count, Point};
 use fm_ranges::check_own;
 use std::alloc::Global;
 
-/// A statement whose own numbers have no fault, or the first fault of names and of what stands inside.
+/// A statement whose own numbers have no fault, or the first fault of its name and of what stands
+/// inside.
 #[cycle(statement)]
 pub(crate) fn outline_item(
     alloc: Global,
@@ -43,7 +44,8 @@ pub(crate) fn outline_item(
         ≡ instruction_of k (item_view item.now).what (tables_view tables.old))) }
     ensures refused { Refuses result (λ spot why. (k : Catalogue) (look : Look) →
         Knows known.now look k →
-        first_found (stmt_faults (names_of k) (item_view item.now).what) ≡ Some (fault_at spot why)) }
+        first_found (stmt_faults (names_of k) (item_view item.now).what)
+        ≡ Some (fault_at spot why)) }
 {
     match &item.what {
         What::Note { pitches, duration } => Ok(outline_note(

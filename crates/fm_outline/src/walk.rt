@@ -66,7 +66,8 @@ impl<'s> Walk<'s> {
     ) -> Result<(), CheckFault>
         ensures ok { OnOk result (EntryDone self.old
             (tree.phrase (name_view name.now) (items_view body.now)) self.new) }
-        ensures refused { Refuses result (EntryRefused self.old (tree.phrase (name_view name.now) (items_view body.now))) }
+        ensures refused { Refuses result (EntryRefused self.old
+            (tree.phrase (name_view name.now) (items_view body.now))) }
     {
         self.known.check_new(name)?;
         let number = place(self.phrases.len())?;
@@ -87,7 +88,8 @@ impl<'s> Walk<'s> {
     ) -> Result<(), CheckFault>
         ensures ok { OnOk result (EntryDone self.old
             (tree.shape (name_view name.now) parts.now) self.new) }
-        ensures refused { Refuses result (EntryRefused self.old (tree.shape (name_view name.now) parts.now)) }
+        ensures refused { Refuses result (EntryRefused self.old
+            (tree.shape (name_view name.now) parts.now)) }
     {
         self.known.check_new(name)?;
         answered(check_parts(self.known.whole, parts))?;

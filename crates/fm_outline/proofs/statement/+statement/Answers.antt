@@ -108,7 +108,7 @@ outline_item-returns-in_err-yes-in-If-clause-refused t c = λ why spot is k look
     let seen : (item_view c.args.item.now).what ≡ tree.choice e (items_view a) (items_view b)
     = search (rules, the_lemmas, c.deref-in-If.ensures.value) in
     first_block c.args.known.now.whole k e (items_view a) (items_view b) (fault_at spot why) seen c.requires
-    (c.in_err-yes-in-If.ensures.refused why spot (handed c.from_residual-in_err-yes-in-If.result c.from_residual-in_err-yes-in-If.ensures.1 is) k look knows)
+    (c.in_err-yes-in-If.ensures.refused why spot (handed is c.from_residual-in_err-yes-in-If.ensures.1) k look knows)
 
 pub outline_item-returns-in_err-no-in-If-clause-refused :
     goal.outline_item-returns-in_err-no-in-If-clause-refused
@@ -119,7 +119,7 @@ outline_item-returns-in_err-no-in-If-clause-refused t c = λ why spot is k look 
     let seen : (item_view c.args.item.now).what ≡ tree.choice e (items_view a) (items_view b)
     = search (rules, the_lemmas, c.deref-in-If.ensures.value, c.deref-in-If-2.ensures.value) in
     second_block c.args.known.now.whole k e (items_view a) (items_view b) seen c.requires (c.in_ok-yes-in-If.ensures.ok k look knows).0
-    ∙ (c.in_err-no-in-If.ensures.refused why spot (handed c.from_residual-in_err-no-in-If.result c.from_residual-in_err-no-in-If.ensures.1 is) k look knows)
+    ∙ (c.in_err-no-in-If.ensures.refused why spot (handed is c.from_residual-in_err-no-in-If.ensures.1) k look knows)
 
 pub outline_item-returns-in_ok-no-in-If-clause-ok : goal.outline_item-returns-in_ok-no-in-If-clause-ok
 outline_item-returns-in_ok-no-in-If-clause-ok t c = λ k look knows.
@@ -129,7 +129,8 @@ outline_item-returns-in_ok-no-in-If-clause-ok t c = λ k look knows.
     let seen : (item_view c.args.item.now).what ≡ tree.choice e (items_view a) (items_view b)
     = search (rules, the_lemmas, c.deref-in-If.ensures.value, c.deref-in-If-2.ensures.value) in
     let inside = c.in_ok-no-in-If.ensures.ok k look knows in (
-      second_block c.args.known.now.whole k e (items_view a) (items_view b) seen c.requires (c.in_ok-yes-in-If.ensures.ok k look knows).0 ∙ inside.0,
+      second_block c.args.known.now.whole k e (items_view a) (items_view b) seen c.requires
+          (c.in_ok-yes-in-If.ensures.ok k look knows).0 ∙ inside.0,
       rw (seen, choice_seen look c.in_ok-expr-in-If.expr c.in_ok-yes-in-If.yes c.in_ok-no-in-If.no)
           (choice_numbered k e (items_view a) (items_view b) (block_view look c.in_ok-yes-in-If.yes.items)
           (block_view look c.in_ok-no-in-If.no.items) c.in_ok-expr-in-If.expr (tables_view c.args.tables.now)
@@ -146,7 +147,7 @@ outline_item-returns-in_err-body-in-Repeat-clause-refused t c = λ why spot is k
     let seen : (item_view c.args.item.now).what ≡ tree.repeat n (items_view b)
     = search (rules, the_lemmas, c.deref-in-Repeat.ensures.value) in
     behind_own k (body_faults (names_of k) (items_view b)) seen knows.whole refl c.requires
-    ∙ (c.in_err-body-in-Repeat.ensures.refused why spot (handed c.from_residual-in_err-body-in-Repeat.result c.from_residual-in_err-body-in-Repeat.ensures.1 is) k look knows)
+    ∙ (c.in_err-body-in-Repeat.ensures.refused why spot (handed is c.from_residual-in_err-body-in-Repeat.ensures.1) k look knows)
 
 pub outline_item-returns-in_ok-body-in-Repeat-clause-ok : goal.outline_item-returns-in_ok-body-in-Repeat-clause-ok
 outline_item-returns-in_ok-body-in-Repeat-clause-ok t c = λ k look knows.
@@ -169,7 +170,7 @@ outline_item-returns-in_err-body-in-Again-clause-refused t c = λ why spot is k 
     let seen : (item_view c.args.item.now).what ≡ tree.again (expr_view e) n (items_view b)
     = search (rules, the_lemmas, c.deref-in-Again.ensures.value) in
     behind_own k (body_faults (names_of k) (items_view b)) seen knows.whole refl c.requires
-    ∙ (c.in_err-body-in-Again.ensures.refused why spot (handed c.from_residual-in_err-body-in-Again.result c.from_residual-in_err-body-in-Again.ensures.1 is) k look knows)
+    ∙ (c.in_err-body-in-Again.ensures.refused why spot (handed is c.from_residual-in_err-body-in-Again.ensures.1) k look knows)
 
 pub outline_item-returns-in_ok-body-in-Again-clause-ok : goal.outline_item-returns-in_ok-body-in-Again-clause-ok
 outline_item-returns-in_ok-body-in-Again-clause-ok t c = λ k look knows.
@@ -196,7 +197,7 @@ outline_item-returns-in_err-body-in-Warp-clause-refused t c = λ why spot is k l
     = search (rules, the_lemmas, c.deref-in-Warp.ensures.value) in
     under_known k name (items_view b) (shape_place (named c.args.known.now.names name.text))
     c.in_ok-number-in-Warp.number seen (knows.is_shape name.text) c.in_ok-number-in-Warp.ensures
-    ∙ (c.in_err-body-in-Warp.ensures.refused why spot (handed c.from_residual-in_err-body-in-Warp.result c.from_residual-in_err-body-in-Warp.ensures.1 is) k look knows)
+    ∙ (c.in_err-body-in-Warp.ensures.refused why spot (handed is c.from_residual-in_err-body-in-Warp.ensures.1) k look knows)
 
 pub outline_item-returns-in_ok-body-in-Warp-clause-ok : goal.outline_item-returns-in_ok-body-in-Warp-clause-ok
 outline_item-returns-in_ok-body-in-Warp-clause-ok t c = λ k look knows.
@@ -224,7 +225,7 @@ outline_item-returns-in_err-body-in-Channel-clause-refused t c = λ why spot is 
     let seen : (item_view c.args.item.now).what ≡ tree.channel n (items_view b)
     = search (rules, the_lemmas, c.deref-in-Channel.ensures.value) in
     behind_own k (body_faults (names_of k) (items_view b)) seen knows.whole refl c.requires
-    ∙ (c.in_err-body-in-Channel.ensures.refused why spot (handed c.from_residual-in_err-body-in-Channel.result c.from_residual-in_err-body-in-Channel.ensures.1 is) k look knows)
+    ∙ (c.in_err-body-in-Channel.ensures.refused why spot (handed is c.from_residual-in_err-body-in-Channel.ensures.1) k look knows)
 
 pub outline_item-returns-in_ok-body-in-Channel-clause-ok : goal.outline_item-returns-in_ok-body-in-Channel-clause-ok
 outline_item-returns-in_ok-body-in-Channel-clause-ok t c = λ k look knows.
@@ -246,7 +247,7 @@ outline_item-returns-in_err-body-in-Volume-clause-refused t c = λ why spot is k
     let seen : (item_view c.args.item.now).what ≡ tree.volume n (items_view b)
     = search (rules, the_lemmas, c.deref-in-Volume.ensures.value) in
     behind_own k (body_faults (names_of k) (items_view b)) seen knows.whole refl c.requires
-    ∙ (c.in_err-body-in-Volume.ensures.refused why spot (handed c.from_residual-in_err-body-in-Volume.result c.from_residual-in_err-body-in-Volume.ensures.1 is) k look knows)
+    ∙ (c.in_err-body-in-Volume.ensures.refused why spot (handed is c.from_residual-in_err-body-in-Volume.ensures.1) k look knows)
 
 pub outline_item-returns-in_ok-body-in-Volume-clause-ok : goal.outline_item-returns-in_ok-body-in-Volume-clause-ok
 outline_item-returns-in_ok-body-in-Volume-clause-ok t c = λ k look knows.
@@ -268,7 +269,7 @@ outline_item-returns-in_err-body-in-Gate-clause-refused t c = λ why spot is k l
     let seen : (item_view c.args.item.now).what ≡ tree.gate n (items_view b)
     = search (rules, the_lemmas, c.deref-in-Gate.ensures.value) in
     behind_own k (body_faults (names_of k) (items_view b)) seen knows.whole refl c.requires
-    ∙ (c.in_err-body-in-Gate.ensures.refused why spot (handed c.from_residual-in_err-body-in-Gate.result c.from_residual-in_err-body-in-Gate.ensures.1 is) k look knows)
+    ∙ (c.in_err-body-in-Gate.ensures.refused why spot (handed is c.from_residual-in_err-body-in-Gate.ensures.1) k look knows)
 
 pub outline_item-returns-in_ok-body-in-Gate-clause-ok : goal.outline_item-returns-in_ok-body-in-Gate-clause-ok
 outline_item-returns-in_ok-body-in-Gate-clause-ok t c = λ k look knows.
@@ -290,7 +291,7 @@ outline_item-returns-in_err-body-in-Rhythm-clause-refused t c = λ why spot is k
     let seen : (item_view c.args.item.now).what ≡ tree.rhythm l (items_view b)
     = search (rules, the_lemmas, c.deref-in-Rhythm.ensures.value, c.deref-in-Rhythm-2.ensures.value) in
     behind_own k (body_faults (names_of k) (items_view b)) seen knows.whole refl c.requires
-    ∙ (c.in_err-body-in-Rhythm.ensures.refused why spot (handed c.from_residual-in_err-body-in-Rhythm.result c.from_residual-in_err-body-in-Rhythm.ensures.1 is) k look knows)
+    ∙ (c.in_err-body-in-Rhythm.ensures.refused why spot (handed is c.from_residual-in_err-body-in-Rhythm.ensures.1) k look knows)
 
 pub outline_item-returns-in_ok-body-in-Rhythm-clause-ok : goal.outline_item-returns-in_ok-body-in-Rhythm-clause-ok
 outline_item-returns-in_ok-body-in-Rhythm-clause-ok t c = λ k look knows.
@@ -300,8 +301,13 @@ outline_item-returns-in_ok-body-in-Rhythm-clause-ok t c = λ k look knows.
     = search (rules, the_lemmas, c.deref-in-Rhythm.ensures.value, c.deref-in-Rhythm-2.ensures.value) in
     let inside = c.in_ok-body-in-Rhythm.ensures.ok k look knows in (
       behind_own k (body_faults (names_of k) (items_view b)) seen knows.whole refl c.requires ∙ inside.0,
-      rw (seen, under_seen look _ c.in_ok-list-in-Rhythm.list c.in_ok-body-in-Rhythm.body, ← ap (λ w. map (length_ticks w) l) (sym knows.whole))
-          (under_numbered k meaning.duration (map (length_ticks c.args.known.now.whole) l) (items_view b) (block_view look c.in_ok-body-in-Rhythm.body.items)
+      rw (
+        seen,
+        under_seen look _ c.in_ok-list-in-Rhythm.list c.in_ok-body-in-Rhythm.body,
+        ← ap (λ w. map (length_ticks w) l) (sym knows.whole),
+      )
+          (under_numbered k meaning.duration (map (length_ticks c.args.known.now.whole) l) (items_view b)
+          (block_view look c.in_ok-body-in-Rhythm.body.items)
           c.in_ok-list-in-Rhythm.list (tables_view c.args.tables.now) (tables_view c.add_lengths.new.tables)
           (tables_view c.outline_items-in-Rhythm.new.tables) c.in_ok-list-in-Rhythm.ensures.at
           c.in_ok-list-in-Rhythm.ensures.added inside.1),
@@ -315,7 +321,7 @@ outline_item-returns-in_err-body-in-Artic-clause-refused t c = λ why spot is k 
     let seen : (item_view c.args.item.now).what ≡ tree.artic l (items_view b)
     = search (rules, the_lemmas, c.deref-in-Artic.ensures.value, c.deref-in-Artic-2.ensures.value) in
     behind_own k (body_faults (names_of k) (items_view b)) seen knows.whole refl c.requires
-    ∙ (c.in_err-body-in-Artic.ensures.refused why spot (handed c.from_residual-in_err-body-in-Artic.result c.from_residual-in_err-body-in-Artic.ensures.1 is) k look knows)
+    ∙ (c.in_err-body-in-Artic.ensures.refused why spot (handed is c.from_residual-in_err-body-in-Artic.ensures.1) k look knows)
 
 pub outline_item-returns-in_ok-body-in-Artic-clause-ok : goal.outline_item-returns-in_ok-body-in-Artic-clause-ok
 outline_item-returns-in_ok-body-in-Artic-clause-ok t c = λ k look knows.
@@ -340,7 +346,7 @@ outline_item-returns-in_err-body-in-Loud-clause-refused t c = λ why spot is k l
     let seen : (item_view c.args.item.now).what ≡ tree.loud l (items_view b)
     = search (rules, the_lemmas, c.deref-in-Loud.ensures.value, c.deref-in-Loud-2.ensures.value) in
     behind_own k (body_faults (names_of k) (items_view b)) seen knows.whole refl c.requires
-    ∙ (c.in_err-body-in-Loud.ensures.refused why spot (handed c.from_residual-in_err-body-in-Loud.result c.from_residual-in_err-body-in-Loud.ensures.1 is) k look knows)
+    ∙ (c.in_err-body-in-Loud.ensures.refused why spot (handed is c.from_residual-in_err-body-in-Loud.ensures.1) k look knows)
 
 pub outline_item-returns-in_ok-body-in-Loud-clause-ok : goal.outline_item-returns-in_ok-body-in-Loud-clause-ok
 outline_item-returns-in_ok-body-in-Loud-clause-ok t c = λ k look knows.
@@ -375,7 +381,7 @@ outline_item-returns-in_err-block-in-Par-clause-refused t c = λ why spot is k l
     ∙ ap (λ l. first_found (branches_faults (names_of k) l)) left
     ∙ before (body_faults (names_of k) here) (branches_faults (names_of k) rest) (fault_at spot why)
     (ap (λ l. first_found (body_faults (names_of k) (items_view l))) (sym c.deref-in-loop-branch.ensures.value)
-    ∙ (c.in_err-block-in-Par.ensures.refused why spot (handed c.from_residual-in_err-block-in-Par.result c.from_residual-in_err-block-in-Par.ensures.1 is) k look knows))
+    ∙ (c.in_err-block-in-Par.ensures.refused why spot (handed is c.from_residual-in_err-block-in-Par.ensures.1) k look knows))
 
 pub outline_item-loop-branch-preserved : goal.outline_item-loop-branch-preserved
 outline_item-loop-branch-preserved t c = λ k look knows.
@@ -431,7 +437,7 @@ outline_items-returns-in_err-answered-clause-refused t c = λ why spot is k look
     ∙ before (stmt_faults (names_of k) here) (body_faults (names_of k) rest) (fault_at spot why)
     (own_told k here (fault_at spot why) knows.whole (failed c.check_own.result c.in_err-answered.field-0.0
     (own_faults c.args.known.now.whole here) c.in_err-answered.ensures c.check_own.ensures why spot
-    (handed c.from_residual-in_err-answered.result c.from_residual-in_err-answered.ensures.1 is)))
+    (handed is c.from_residual-in_err-answered.ensures.1)))
 
 pub outline_items-returns-in_err-what-clause-refused : goal.outline_items-returns-in_err-what-clause-refused
 outline_items-returns-in_err-what-clause-refused t c = λ why spot is k look knows.
@@ -444,7 +450,7 @@ outline_items-returns-in_err-what-clause-refused t c = λ why spot is k look kno
     (c.loop-item.invariant k look knows).0
     ∙ ap (λ l. first_found (body_faults (names_of k) l)) left
     ∙ before (stmt_faults (names_of k) here) (body_faults (names_of k) rest) (fault_at spot why)
-    (c.in_err-what.ensures.refused why spot (handed c.from_residual-in_err-what.result c.from_residual-in_err-what.ensures.1 is) k look knows)
+    (c.in_err-what.ensures.refused why spot (handed is c.from_residual-in_err-what.ensures.1) k look knows)
 
 pub outline_items-loop-item-preserved : goal.outline_items-loop-item-preserved
 outline_items-loop-item-preserved t c = λ k look knows.

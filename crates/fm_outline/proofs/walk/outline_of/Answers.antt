@@ -14,7 +14,7 @@ returns-in_err-answered-clause-refused c = λ why spot is.
     let head = head_faults (score_view c.args.score.now) in
     before head _ (fault_at spot why)
     (failed c.check_head.result c.in_err-answered.field-0.0 head c.in_err-answered.ensures c.check_head.ensures why spot
-    (handed c.from_residual.result c.from_residual.ensures.1 is))
+    (handed is c.from_residual.ensures.1))
 
 pub loop-entry-init : goal.loop-entry-init
 loop-entry-init c =
@@ -28,7 +28,7 @@ loop-entry-init c =
 pub returns-in_err-enter-clause-refused : goal.returns-in_err-enter-clause-refused
 returns-in_err-enter-clause-refused c = λ why spot is.
     c.in_err-enter.ensures.refused why spot
-    (handed c.from_residual-in_err-enter.result c.from_residual-in_err-enter.ensures.1 is) (score_view c.args.score.now) _
+    (handed is c.from_residual-in_err-enter.ensures.1) (score_view c.args.score.now) _
     (at_entry c.deref-entry-items.result.now c.loop-entry.entry-index c.entry-item.result c.loop-entry-test.true
     c.entry-item.is c.loop-entry.invariant)
 

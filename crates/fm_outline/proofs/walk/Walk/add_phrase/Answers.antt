@@ -17,7 +17,7 @@ returns-in_err-check_new-clause-refused c = λ why spot is score rest r.
     name_refused r name (fault_at spot why) (λ ns. body_faults ns (items_view c.args.body.now))
     (λ ns. entries_faults (record ns { phrases = name.text ∷ ns.phrases }) rest) (λ ns. refl)
     (new_told name (named c.args.self.now.known.names name.text) c.in_err-check_new.field-0.0 c.in_err-check_new.ensures
-    why spot (handed c.from_residual.result c.from_residual.ensures.1 is))
+    why spot (handed is c.from_residual.ensures.1))
 
 pub returns-in_err-steps-clause-refused : goal.returns-in_err-steps-clause-refused
 returns-in_err-steps-clause-refused c = λ why spot is score rest r.
@@ -26,7 +26,7 @@ returns-in_err-steps-clause-refused c = λ why spot is score rest r.
     (λ ns. entries_faults (record ns { phrases = name.text ∷ ns.phrases }) rest) (λ ns. refl)
     (new_free name (named c.args.self.now.known.names name.text) _ c.in_ok-check_new.ensures)
     (c.in_err-steps.ensures.refused why spot
-    (handed c.from_residual-in_err-steps.result c.from_residual-in_err-steps.ensures.1 is))
+    (handed is c.from_residual-in_err-steps.ensures.1))
 
 pub returns-clause-ok : goal.returns-clause-ok
 returns-clause-ok c = λ score rest r.

@@ -15,7 +15,7 @@ returns-in_err-check_new-clause-refused c = λ why spot is score rest r.
     name_refused r name (fault_at spot why) (λ ns. parts_faults ns.whole c.args.parts.now)
     (λ ns. entries_faults (record ns { shapes = name.text ∷ ns.shapes }) rest) (λ ns. refl)
     (new_told name (named c.args.self.now.known.names name.text) c.in_err-check_new.field-0.0 c.in_err-check_new.ensures
-    why spot (handed c.from_residual.result c.from_residual.ensures.1 is))
+    why spot (handed is c.from_residual.ensures.1))
 
 pub returns-in_err-answered-clause-refused : goal.returns-in_err-answered-clause-refused
 returns-in_err-answered-clause-refused c = λ why spot is score rest r.
@@ -28,7 +28,7 @@ returns-in_err-answered-clause-refused c = λ why spot is score rest r.
     ap (λ w. first_found (parts_faults w parts)) knows.whole
     ∙ failed c.check_parts.result c.in_err-answered.field-0.0 (parts_faults c.args.self.now.known.whole parts)
     c.in_err-answered.ensures c.check_parts.ensures why spot
-    (handed c.from_residual-in_err-answered.result c.from_residual-in_err-answered.ensures.1 is))
+    (handed is c.from_residual-in_err-answered.ensures.1))
 
 pub returns-clause-ok : goal.returns-clause-ok
 returns-clause-ok c = λ score rest r.

@@ -17,13 +17,13 @@ returns-in_err-answered-clause-refused c = λ why spot is score rest r.
     (λ k look knows.
     own_told k what (fault_at spot why) knows.whole
     (failed c.check_own.result c.in_err-answered.field-0.0 (own_faults c.args.self.now.known.whole what)
-    c.in_err-answered.ensures c.check_own.ensures why spot (handed c.from_residual.result c.from_residual.ensures.1 is)))
+    c.in_err-answered.ensures c.check_own.ensures why spot (handed is c.from_residual.ensures.1)))
 
 pub returns-in_err-what-clause-refused : goal.returns-in_err-what-clause-refused
 returns-in_err-what-clause-refused c = λ why spot is score rest r.
     play_refused r (fault_at spot why)
     (c.in_err-what.ensures.refused why spot
-    (handed c.from_residual-in_err-what.result c.from_residual-in_err-what.ensures.1 is))
+    (handed is c.from_residual-in_err-what.ensures.1))
 
 pub returns-clause-ok : goal.returns-clause-ok
 returns-clause-ok c = λ score rest r.
