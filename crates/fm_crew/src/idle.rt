@@ -1,5 +1,5 @@
 //! How a thread passes the time while it finds nothing to do.
-ghost use Rattle.std.specs.Prelude.{◌≡◌, ◌≤◌, true};
+ghost use Rattle.std.specs.Prelude.{◌≡◌, ◌/◌, ◌<◌, ◌≤◌};
 
 use std::hint::spin_loop;
 use std::sync::Wait;
@@ -20,6 +20,16 @@ const FIRST_WAIT: u64 = 20;
 
 /// The longest wait, in microseconds.
 const LONGEST_WAIT: u64 = 500;
+
+/// A worker's turn is worth its looks where it computes an event for so many of them.
+const LOOKS_AN_EVENT: u32 = 64;
+
+/// So many looks that were not worth it are a turn more.
+const LOOKS_A_TURN: u32 = 512;
+
+/// A wait is longer by a microsecond for so many looks, which take less than a quarter of that: looks
+/// in vain then take no large part of a processor, however many processes there are.
+const LOOKS_A_MICROSECOND: u32 = 8;
 
 /// How long a thread has found nothing to do.
 #[derive(Drop)]
@@ -43,19 +53,22 @@ impl Idle {
         }
     }
 
-    /// After a turn of a worker. One that found nothing is followed by the next one at once, then
-    /// by a yield, then by a wait that doubles up to half a millisecond.
-    pub fn after<R: Wait>(&mut self, rt: &R, found: bool)
-        ensures { found ≡ true → self.new.turns ≡ 0 }
+    /// After a turn of a worker, which computed so many events in so many looks. One that computed
+    /// too few is followed by the next one at once, then by a yield, then by a wait that doubles up
+    /// to half a millisecond.
+    pub fn after<R: Wait>(&mut self, rt: &R, computed: u32, looks: u32)
+        ensures { looks / LOOKS_AN_EVENT < computed → self.new.turns ≡ 0 }
     {
-        if found {
+        if looks / LOOKS_AN_EVENT < computed {
             self.turns = 0;
             self.wait = FIRST_WAIT;
         } else if self.turns < SPINS + YIELDS {
             self.yield_soon(SPINS);
+            self.turns = self.turns.saturating_add(looks / LOOKS_A_TURN);
         } else {
-            self.parker
-                .park_timeout(rt, Duration::from_micros(self.wait));
+            let more = u64::from(looks / LOOKS_A_MICROSECOND);
+            let wait = self.wait.saturating_add(more);
+            self.parker.park_timeout(rt, Duration::from_micros(wait));
             self.wait = longer(self.wait);
         }
     }

@@ -14,8 +14,8 @@ use fm_core::Tag;
 use fm_edge::Gate;
 
 /// Runs each process that the seat gets, up to the limit: first those from one of its own on,
-/// then those in front of it. Says whether it got any.
-pub fn scan<B: Calls, G: Gate>(board: &B, gate: &G, limit: u64, seat: &mut BoardSeat) -> bool
+/// then those in front of it. Says how many events it computed, and one more for each process.
+pub fn scan<B: Calls, G: Gate>(board: &B, gate: &G, limit: u64, seat: &mut BoardSeat) -> u32
     requires idle { IsIdle (B.table board.now) (B.about board.now) seat.old }
     requires above { 0 < seat.old.mind.view.number }
     requires limit { IsLimit seat.old.mind.view.paced (B.about board.now).lead limit }
@@ -25,7 +25,7 @@ pub fn scan<B: Calls, G: Gate>(board: &B, gate: &G, limit: u64, seat: &mut Board
     let first = first_of(seat.number(), processes);
     let behind = sweep(board, gate, limit, seat, first, processes);
     let before = sweep(board, gate, limit, seat, 0, first);
-    behind || before
+    behind.saturating_add(before)
 }
 
 // The process at which the scan of the seat of this number begins. The first one begins at 0, the
@@ -43,7 +43,7 @@ fn first_of(number: u32, processes: u32) -> u32
 }
 
 // Looks at the processes in front of one, from 0 on, and runs those that the seat gets of them,
-// from another one on. Says whether it got any.
+// from another one on. Says how many events it computed, and one more for each process.
 fn sweep<B: Calls, G: Gate>(
     board: &B,
     gate: &G,
@@ -51,23 +51,23 @@ fn sweep<B: Calls, G: Gate>(
     seat: &mut BoardSeat,
     from: u32,
     to: u32,
-) -> bool
+) -> u32
     requires idle { IsIdle (B.table board.now) (B.about board.now) seat.old }
     requires above { 0 < seat.old.mind.view.number }
     requires limit { IsLimit seat.old.mind.view.paced (B.about board.now).lead limit }
     requires within { to ≤ processes seat.old.mind.view }
     ensures { Scanned (B.table board.now) (B.about board.now) seat.old seat.new to }
 {
-    let mut got = false;
+    let mut computed: u32 = 0;
     for process in 0..to {
         let one = scan_one(board, gate, limit, seat, process, process < from);
-        got = got || one;
+        computed = computed.saturating_add(one);
     }
-    got
+    computed
 }
 
-// Looks at a process, and runs it if the seat gets it, unless it is to be passed over. Says whether
-// the seat got it.
+// Looks at a process, and runs it if the seat gets it, unless it is to be passed over. Says how many
+// events it computed and one more, or 0.
 fn scan_one<B: Calls, G: Gate>(
     board: &B,
     gate: &G,
@@ -75,7 +75,7 @@ fn scan_one<B: Calls, G: Gate>(
     seat: &mut BoardSeat,
     process: u32,
     passed: bool,
-) -> bool
+) -> u32
     requires idle { IsIdle (B.table board.now) (B.about board.now) seat.old }
     requires above { 0 < seat.old.mind.view.number }
     requires limit { IsLimit seat.old.mind.view.paced (B.about board.now).lead limit }
@@ -86,21 +86,22 @@ fn scan_one<B: Calls, G: Gate>(
     match seen.tag {
         Tag::Home => {
             if passed || limit < seen.clock {
-                return false;
+                return 0;
             }
             run_home(board, gate, limit, seat, process, &seen)
         }
         Tag::Unborn => {
             if passed {
-                return false;
+                return 0;
             }
             run_unborn(board, gate, limit, seat, process)
         }
-        Tag::Full | Tag::Out | Tag::Ended | Tag::EndedOut | Tag::Drained => false,
+        Tag::Full | Tag::Out | Tag::Ended | Tag::EndedOut | Tag::Drained => 0,
     }
 }
 
-// Runs a process that was seen at home, if it still is. Says whether it was.
+// Runs a process that was seen at home, if it still is. Says how many events it computed and one
+// more, or 0.
 fn run_home<B: Calls, G: Gate>(
     board: &B,
     gate: &G,
@@ -108,7 +109,7 @@ fn run_home<B: Calls, G: Gate>(
     seat: &mut BoardSeat,
     process: u32,
     seen: &Seen,
-) -> bool
+) -> u32
     requires idle { IsIdle (B.table board.now) (B.about board.now) seat.old }
     requires above { 0 < seat.old.mind.view.number }
     requires limit { IsLimit seat.old.mind.view.paced (B.about board.now).lead limit }
@@ -118,22 +119,20 @@ fn run_home<B: Calls, G: Gate>(
         (length seat.old.mind.view.sweep) }
 {
     match board.claim(seat, process, seen) {
-        Claim::Busy { .. } => false,
-        Claim::Held(berth) => {
-            advance(board, gate, limit, seat, berth, 0);
-            true
-        }
+        Claim::Busy { .. } => 0,
+        Claim::Held(berth) => u32::from(advance(board, gate, limit, seat, berth, 0)) + 1,
     }
 }
 
-// Runs a process that was seen unborn, if it can be started. Says whether it could.
+// Runs a process that was seen unborn, if it can be started. Says how many events it computed and
+// one more, or 0.
 fn run_unborn<B: Calls, G: Gate>(
     board: &B,
     gate: &G,
     limit: u64,
     seat: &mut BoardSeat,
     process: u32,
-) -> bool
+) -> u32
     requires idle { IsIdle (B.table board.now) (B.about board.now) seat.old }
     requires limit { IsLimit seat.old.mind.view.paced (B.about board.now).lead limit }
     requires there { process < processes seat.old.mind.view }
@@ -141,10 +140,7 @@ fn run_unborn<B: Calls, G: Gate>(
         (length seat.old.mind.view.sweep) }
 {
     match start(board, seat, process) {
-        None => false,
-        Some(berth) => {
-            advance(board, gate, limit, seat, berth, 0);
-            true
-        }
+        None => 0,
+        Some(berth) => u32::from(advance(board, gate, limit, seat, berth, 0)) + 1,
     }
 }
