@@ -1,7 +1,6 @@
-use Rattle.std.proofs.Common.{◌≡◌, List, [], ◌∷◌, ◌++◌, length, refl, ap, ◌∙◌, sym, subst, arith}
+use Rattle.std.proofs.Common.{◌≡◌, ap, ◌∙◌, sym, subst}
 use Rattle.std.specs.Prelude.{◌≤◌}
 use Rattle.fm_grammar.specs.View.{score_view}
-use Rattle.fm_meaning.specs.Ranges.{second_walk}
 use Rattle.fm_meaning.specs.Bounds.{score_bounds}
 use Rattle.fm_meaning.specs.Lines.{played_lines}
 use Rattle.fm_meaning.specs.Resolve.{resolved}
