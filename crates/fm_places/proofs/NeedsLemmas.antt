@@ -9,8 +9,8 @@ use Rattle.fm_meaning.specs.Faults.{first_found}
 use Rattle.fm_meaning.specs.Resolved.{Passage, phrase}
 use Rattle.fm_meaning.specs.Places.{Depths, in_one, depth_faults, gathered, place_faults, passage_faults}
 use Rattle.fm_places.specs.declared.needs.Needs.{Needs}
-use Rattle.fm_places.specs.Needs.{nothing, asks, forked, both, added, outside, is_too_deep, four, missing}
-use Rattle.fm_places.specs.Found.{Faults, IsWithin, Opens, Tells, Asks, has}
+use Rattle.fm_places.specs.Needs.{nothing, asks, forked, both, added, outside, is_too_deep, four_faults, missing}
+use Rattle.fm_places.specs.Found.{Faults, IsWithin, OpensBlock, TellsFaults, Asks, has}
 use Rattle.fm_places.proofs.NumberLemmas.{has_append, any_spot, four_both, same_four, gathered_same, gathered_four}
 
 -- ---- two parts
@@ -121,7 +121,7 @@ fork_told s =
     asks_of s _ _ (λ d. same_four s _ _ _ _ d.in_choice false false _ refl refl (no_lt d.loops) (level d.warps d.frames d.blocks)
     ∙ fork_alone d.in_choice _)
   where
-    fork_alone : (b x : Bool) → four s b false false x ≡ fault_if b s fork_in_choice ++ fault_if x s too_deep
+    fork_alone : (b x : Bool) → four_faults s b false false x ≡ fault_if b s fork_in_choice ++ fault_if x s too_deep
     fork_alone true x = refl
     fork_alone false x = refl
 
@@ -130,7 +130,7 @@ pub nothing_told : (s : Spot) → Asks s (λ d. []) nothing
 nothing_told s = asks_of s _ _ (nothing_missing s)
 
 -- a statement that brings in a phrase
-pub phrase_told : (s : Spot) (p : Passage) (n all : Needs) (o : Depths) → Opens o in_one → Tells (passage_faults p) n
+pub phrase_told : (s : Spot) (p : Passage) (n all : Needs) (o : Depths) → OpensBlock o in_one → TellsFaults (passage_faults p) n
     → all ≡ outside o n → Asks s (place_faults s (phrase p)) all
 phrase_told s p n all o opens told is = rw is (record {
   tells = record {
@@ -153,14 +153,14 @@ phrase_told s p n all o opens told is = rw is (record {
 -- ---- statements in turn, and in blocks
 
 -- no statements
-pub nothing_tells : Tells (λ d. []) nothing
+pub nothing_tells : TellsFaults (λ d. []) nothing
 nothing_tells = record { same = λ s d m. ap (has m) (append-nil (depth_faults s d) ∙ sym (nothing_missing s d)) }
 
 or_doubled : (a b c : Bool) → (a || (b || c)) ≡ ((a || b) || (a || c))
 or_doubled a b c = grind (arith, common_steps)
 
 -- two parts
-pub both_tells : (a b : Faults) (n m : Needs) → Tells a n → Tells b m → Tells (λ d. a d ++ b d) (both n m)
+pub both_tells : (a b : Faults) (n m : Needs) → TellsFaults a n → TellsFaults b m → TellsFaults (λ d. a d ++ b d) (both n m)
 both_tells a b n m h g = record {
   same = λ s d k.
       let deep = has k (depth_faults s d) in
@@ -176,9 +176,9 @@ or_parted : (a b c e : Bool) → (a || ((b || c) || e)) ≡ ((a || b) || (c || e
 or_parted a b c e = grind (arith, common_steps)
 
 -- a block
-pub block_tells : (s : Spot) (a b : Faults) (own n : Needs) (o : Depths) (inside : Depths → Depths) → Opens o inside
-    → Asks s a own → Tells b n
-    → Tells (λ d. (a d ++ depth_faults s (inside d)) ++ b (inside d)) (both own (outside o n))
+pub block_tells : (s : Spot) (a b : Faults) (own n : Needs) (o : Depths) (inside : Depths → Depths) → OpensBlock o inside
+    → Asks s a own → TellsFaults b n
+    → TellsFaults (λ d. (a d ++ depth_faults s (inside d)) ++ b (inside d)) (both own (outside o n))
 block_tells s a b own n o inside opens h g = record {
   same = λ z d k.
       let e = inside d in
@@ -194,7 +194,7 @@ block_tells s a b own n o inside opens h g = record {
 }
 
 -- inside a block that is not too deep
-pub still_within : (s : Spot) (a : List NumberedFault) (o : Depths) (inside : Depths → Depths) (d : Depths) → Opens o inside
+pub still_within : (s : Spot) (a : List NumberedFault) (o : Depths) (inside : Depths → Depths) (d : Depths) → OpensBlock o inside
     → IsWithin d → None ≡ first_found (a ++ depth_faults s (inside d)) → IsWithin (inside d)
 still_within s a o inside d opens w e =
     subst IsWithin (sym (opens.same d))

@@ -10,7 +10,7 @@ use Rattle.fm_expansion.specs.Outline.{Tables, Block, play_in, passage_in, fork_
 use Rattle.fm_outline.specs.declared.step.Step.{Step, the_lemmas}
 use Rattle.fm_outline.specs.View.{Look, step_view, block_view, arms_of_blocks}
 use Rattle.fm_places.specs.declared.found.Found.{Found}
-use Rattle.fm_places.specs.Found.{Faults, Finds, has}
+use Rattle.fm_places.specs.Found.{Faults, FindsFirst, has}
 use Rattle.fm_places.proofs.NeedsLemmas.{lt_max}
 
 -- an element passed of which indices ask
@@ -27,7 +27,7 @@ any_passed f h xs i x l n k first within is =
     or_moved a b c = grind (arith, common_steps)
 
 -- the same faults, said in another way
-pub finds_same : (a b : Faults) (d : Depths) (found : Found) → ((e : Depths) → a e ≡ b e) → Finds a d found → Finds b d found
+pub finds_same : (a b : Faults) (d : Depths) (found : Found) → ((e : Depths) → a e ≡ b e) → FindsFirst a d found → FindsFirst b d found
 finds_same a b d found same h = record {
   needs = record { same = λ s e m. ap (λ l. has m (depth_faults s e ++ l)) (sym (same e)) ∙ h.needs.same s e m };
   first = λ w. h.first w ∙ ap first_found (same d);

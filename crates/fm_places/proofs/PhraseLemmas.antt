@@ -8,7 +8,7 @@ use Rattle.fm_outline.specs.View.{Look, look_in, block_view, phrases_view}
 use Rattle.fm_outline.proofs.PhraseLemmas.{phrases_more}
 use Rattle.fm_places.specs.declared.needs.Needs.{Needs}
 use Rattle.fm_places.specs.Needs.{nothing}
-use Rattle.fm_places.specs.Found.{Tells, KnowsNeeds}
+use Rattle.fm_places.specs.Found.{TellsFaults, KnowsNeeds}
 use Rattle.fm_places.proofs.NeedsLemmas.{nothing_tells}
 use Rattle.fm_places.proofs.PassageLemmas.{map_take_more}
 
@@ -35,12 +35,12 @@ match_more R (a ∷ xs) [] x d y e same h here n = absurd (omega (arith, same))
 
 -- one block more
 known_more : (t : Tables) (needs : List Needs) (blocks : List Block) (own : Needs) (b : Block) → AreKnown t needs blocks
-    → Tells (passage_faults (passage_in t b)) own → AreKnown t (needs ++ own ∷ []) (blocks ++ b ∷ [])
+    → TellsFaults (passage_faults (passage_in t b)) own → AreKnown t (needs ++ own ∷ []) (blocks ++ b ∷ [])
 known_more t needs blocks own b known told = record {
   same = length-append needs (own ∷ []) ∙ ap (λ n. n + 1) known.same ∙ sym (length-append blocks (b ∷ []));
   knows = record {
     of_phrase =
-        match_more (λ (n : Needs) (c : Block). Tells (passage_faults (passage_in t c)) n) needs blocks own nothing b done
+        match_more (λ (n : Needs) (c : Block). TellsFaults (passage_faults (passage_in t c)) n) needs blocks own nothing b done
         known.same known.knows.of_phrase told;
   };
 }
@@ -48,7 +48,7 @@ known_more t needs blocks own b known told = record {
 -- one phrase more
 pub phrase_known : {A : Type 0} (t : Tables) (view : A → List Step) (ps : List A) (k : ℕ) (p : A) (needs : List Needs) (own : Needs)
     → k < length ps → p ≡ slice_index_or ps k p → AreKnown t needs (phrases_view (map view (take k ps)))
-    → Tells (passage_faults (passage_in t (block_view (look_in (phrases_view (map view (take k ps)))) (view p)))) own
+    → TellsFaults (passage_faults (passage_in t (block_view (look_in (phrases_view (map view (take k ps)))) (view p)))) own
     → AreKnown t (needs ++ own ∷ []) (phrases_view (map view (take (k + 1) ps)))
 phrase_known t view ps k p needs own within is known told =
     rw (map_take_more view ps k p within is, phrases_more [] (map view (take k ps)) (view p))
@@ -56,5 +56,5 @@ phrase_known t view ps k p needs own within is known told =
 
 -- what is known of a phrase, by its number
 pub asked_by_phrase : (t : Tables) (phrases : List Needs) (look : Look) (n : ℕ) (needs : Needs) → KnowsNeeds t phrases look
-    → slice_index_or phrases n nothing ≡ needs → Tells (passage_faults (passage_in t (look n))) needs
+    → slice_index_or phrases n nothing ≡ needs → TellsFaults (passage_faults (passage_in t (look n))) needs
 asked_by_phrase t phrases look n needs knows is = rw is at (knows.of_phrase n)

@@ -33,7 +33,7 @@ pub record IsWithin (d : places.Depths) : Type 0 where
   pub loops : d.loops ≤ d.frames
 
 -- a block opens so much, and its statements stand inside it
-pub record Opens (opens : places.Depths) (inside : places.Depths → places.Depths) : Type 0 where
+pub record OpensBlock (opens : places.Depths) (inside : places.Depths → places.Depths) : Type 0 where
   pub same : (d : places.Depths) → inside d ≡ added opens d
   pub warps : opens.warps ≤ 2
   pub frames : opens.frames ≤ 2
@@ -49,20 +49,20 @@ abbrev pub has : ℕ → List NumberedFault → Bool
 has number fs = list_any (λ f. nat_eq f.number number) fs
 
 -- statements that ask this have faults of the same numbers, that of the depth round them among these
-pub record Tells (fs : Faults) (n : Needs) : Type 0 where
+pub record TellsFaults (fs : Faults) (n : Needs) : Type 0 where
   pub same : (spot : Spot) (d : places.Depths) (number : ℕ)
       → has number (depth_faults spot d ++ fs d) ≡ has number (missing spot n d)
 
 -- a statement at a spot that asks this has just these faults
 pub record Asks (spot : Spot) (fs : Faults) (n : Needs) : Type 0 where
-  pub tells : Tells fs n
+  pub tells : TellsFaults fs n
   pub list : (d : places.Depths) → IsWithin d → missing spot n d ≡ fs d
 
 -- what statements ask, and their first fault where so much is open
-pub record Finds (fs : Faults) (d : places.Depths) (found : Found) : Type 0 where
-  pub needs : Tells fs found.needs
+pub record FindsFirst (fs : Faults) (d : places.Depths) (found : Found) : Type 0 where
+  pub needs : TellsFaults fs found.needs
   pub first : IsWithin d → IsFirst found.first (fs d)
 
 -- it is known what each phrase asks, by its number
 pub record KnowsNeeds (t : Tables) (phrases : List Needs) (look : Look) : Type 0 where
-  pub of_phrase : (n : ℕ) → Tells (passage_faults (passage_in t (look n))) (slice_index_or phrases n nothing)
+  pub of_phrase : (n : ℕ) → TellsFaults (passage_faults (passage_in t (look n))) (slice_index_or phrases n nothing)

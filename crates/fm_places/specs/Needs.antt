@@ -59,13 +59,13 @@ abbrev pub is_too_deep : (warps frames blocks : ℕ) → Bool
 is_too_deep w f b = nat_lt most_warps w || nat_lt most_frames f || nat_lt most_blocks b
 
 -- faults of each number of the walk at one spot
-abbrev pub four : Spot → (fork rhythm index deep : Bool) → List NumberedFault
-four spot a b c e =
+abbrev pub four_faults : Spot → (fork rhythm index deep : Bool) → List NumberedFault
+four_faults spot a b c e =
     fault_if a spot fork_in_choice ++ fault_if b spot play_outside_rhythm ++ fault_if c spot index_outside_loop
     ++ fault_if e spot too_deep
 
 -- the faults of statements that ask this where so much is open, all at one spot
 abbrev pub missing : Spot → Needs → Depths → List NumberedFault
 missing spot n d =
-    four spot (n.fork_in_choice || (n.forks && d.in_choice)) (n.rhythm && not d.in_rhythm) (nat_lt d.loops n.loops)
-    (is_too_deep (d.warps + n.warps) (d.frames + n.frames) (d.blocks + n.blocks))
+    four_faults spot (n.fork_in_choice || (n.forks && d.in_choice)) (n.rhythm && not d.in_rhythm)
+    (nat_lt d.loops n.loops) (is_too_deep (d.warps + n.warps) (d.frames + n.frames) (d.blocks + n.blocks))

@@ -5,7 +5,7 @@ ghost use Rattle.fm_meaning.specs.Places.{Depths as PlainDepths, is_computed as 
 ghost use Rattle.fm_meaning.specs.Places.{is_duration, outermost, in_one, in_branching, in_loop};
 ghost use Rattle.fm_meaning.specs.Places.{in_warp, in_list, in_fork};
 ghost use Rattle.fm_meaning.specs.Resolved.{RoundSource, Quality};
-ghost use Rattle.fm_places.specs.Found.{depths_view, IsWithin, Opens};
+ghost use Rattle.fm_places.specs.Found.{depths_view, IsWithin, OpensBlock};
 
 /// How many warps lie inside one another at most.
 pub const MAX_WARPS: u32 = 8;
@@ -44,7 +44,7 @@ pub(crate) fn nothing_open() -> Depths
 
 /// What a block opens that does no more.
 pub(crate) fn block() -> Depths
-    ensures { Opens (depths_view result) in_one }
+    ensures { OpensBlock (depths_view result) in_one }
 {
     Depths {
         blocks: 1,
@@ -54,7 +54,7 @@ pub(crate) fn block() -> Depths
 
 /// What a choice opens.
 pub(crate) fn choice() -> Depths
-    ensures { Opens (depths_view result) in_branching }
+    ensures { OpensBlock (depths_view result) in_branching }
 {
     Depths {
         in_choice: true,
@@ -66,7 +66,7 @@ pub(crate) fn choice() -> Depths
 /// What a loop opens, whose count may be computed.
 pub(crate) fn rounds(is_computed: bool) -> Depths
     ensures { (count : RoundSource) → is_computed ≡ computed_of count →
-        Opens (depths_view result) (in_loop count) }
+        OpensBlock (depths_view result) (in_loop count) }
 {
     Depths {
         in_choice: is_computed,
@@ -79,7 +79,7 @@ pub(crate) fn rounds(is_computed: bool) -> Depths
 
 /// What a fork opens: a block, and a branch of it.
 pub(crate) fn branches() -> Depths
-    ensures { Opens (depths_view result) in_fork }
+    ensures { OpensBlock (depths_view result) in_fork }
 {
     Depths {
         blocks: 2,
@@ -89,7 +89,7 @@ pub(crate) fn branches() -> Depths
 
 /// What a warp opens.
 pub(crate) fn warp() -> Depths
-    ensures { Opens (depths_view result) in_warp }
+    ensures { OpensBlock (depths_view result) in_warp }
 {
     Depths {
         warps: 1,
@@ -101,7 +101,7 @@ pub(crate) fn warp() -> Depths
 /// What a list opens, which may be a rhythm.
 pub(crate) fn list(is_rhythm: bool) -> Depths
     ensures { (quality : Quality) → is_rhythm ≡ is_duration quality →
-        Opens (depths_view result) (in_list quality) }
+        OpensBlock (depths_view result) (in_list quality) }
 {
     Depths {
         in_rhythm: is_rhythm,
@@ -114,7 +114,7 @@ pub(crate) fn list(is_rhythm: bool) -> Depths
 /// What is open inside a block that opens so much. No number overflows where no limit is passed
 /// yet.
 pub(crate) fn inside(opens: Depths, depths: Depths) -> Depths
-    ensures { (within : PlainDepths → PlainDepths) → Opens (depths_view opens) within →
+    ensures { (within : PlainDepths → PlainDepths) → OpensBlock (depths_view opens) within →
         IsWithin (depths_view depths) → depths_view result ≡ within (depths_view depths) }
 {
     Depths {

@@ -5,7 +5,8 @@ ghost use Rattle.fm_fault.specs.Found.{IsFirst};
 ghost use Rattle.fm_meaning.specs.Fault.{NumberedFault};
 ghost use Rattle.fm_meaning.specs.Faults.{first_found};
 ghost use Rattle.fm_meaning.specs.Places.{depth_faults, Depths as PlainDepths};
-ghost use Rattle.fm_places.specs.Found.{depths_view, Faults, IsWithin, Asks, Opens, Finds};
+ghost use Rattle.fm_places.specs.Found.{depths_view, Faults, IsWithin, Asks, OpensBlock};
+ghost use Rattle.fm_places.specs.Found.{FindsFirst};
 ghost use Rattle.fm_places.specs.Needs.{missing};
 
 use crate::depths::{Depths, MAX_BLOCKS, MAX_FRAMES, MAX_WARPS};
@@ -54,7 +55,7 @@ fn first_of(one: Option<Fault>, two: Option<Fault>) -> Option<Fault>
 
 /// No statements.
 pub(crate) fn nothing_found() -> Found
-    ensures { (d : PlainDepths) → Finds (λ e. []) d result }
+    ensures { (d : PlainDepths) → FindsFirst (λ e. []) d result }
 {
     Found {
         needs: no_needs(),
@@ -64,7 +65,7 @@ pub(crate) fn nothing_found() -> Found
 
 /// A statement that asks this, and has no block.
 pub(crate) fn asked(spot: Spot, needs: Needs, depths: Depths) -> Found
-    ensures { (fs : Faults) → Asks spot fs needs → Finds fs (depths_view depths) result }
+    ensures { (fs : Faults) → Asks spot fs needs → FindsFirst fs (depths_view depths) result }
 {
     Found {
         needs,
@@ -74,8 +75,8 @@ pub(crate) fn asked(spot: Spot, needs: Needs, depths: Depths) -> Found
 
 /// Statements in turn.
 pub(crate) fn then(one: Found, two: Found) -> Found
-    ensures { (a b : Faults) (d : PlainDepths) → Finds a d one → Finds b d two →
-        Finds (λ e. a e ++ b e) d result }
+    ensures { (a b : Faults) (d : PlainDepths) → FindsFirst a d one → FindsFirst b d two →
+        FindsFirst (λ e. a e ++ b e) d result }
 {
     Found {
         needs: both(one.needs, two.needs),
@@ -93,10 +94,10 @@ pub(crate) fn round(
     body: Found,
 ) -> Found
     ensures { (a b : Faults) (within : PlainDepths → PlainDepths) → Asks spot a own →
-        Opens (depths_view opens) within →
+        OpensBlock (depths_view opens) within →
         (IsWithin (depths_view depths) → depths_view inner ≡ within (depths_view depths)) →
-        Finds b (depths_view inner) body →
-        Finds (λ e. (a e ++ depth_faults spot (within e)) ++ b (within e)) (depths_view depths)
+        FindsFirst b (depths_view inner) body →
+        FindsFirst (λ e. (a e ++ depth_faults spot (within e)) ++ b (within e)) (depths_view depths)
         result }
 {
     let own_fault = first_missing(spot, own, depths);

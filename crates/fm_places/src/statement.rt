@@ -10,8 +10,8 @@ ghost use Rattle.fm_meaning.specs.Resolved.{Passage, phrase};
 ghost use Rattle.fm_lex.specs.declared.spot.Spot.{Spot};
 ghost use Rattle.fm_outline.specs.View.{Look, tables_view, lasting_view, quality_view};
 ghost use Rattle.fm_outline.specs.View.{step_view, block_view, phrase_at};
-ghost use Rattle.fm_places.specs.Found.{depths_view, Faults, Opens, Tells, Asks, Finds};
-ghost use Rattle.fm_places.specs.Found.{KnowsNeeds};
+ghost use Rattle.fm_places.specs.Found.{depths_view, Faults, OpensBlock, TellsFaults, Asks};
+ghost use Rattle.fm_places.specs.Found.{FindsFirst, KnowsNeeds};
 
 use crate::depths::{Depths, block, branches, choice, inside, list, rounds, warp};
 use crate::found::{Found, asked, nothing_found, round, then};
@@ -57,7 +57,7 @@ fn is_rhythm(quality: Quality) -> bool
 #[tactic(auto, using(crate::proofs::PhraseLemmas::asked_by_phrase))]
 fn needs_of_phrase(phrases: &[Needs], number: Option<u32>) -> Needs
     ensures { (t : PlainTables) (look : Look) → KnowsNeeds t phrases.now look →
-        Tells (passage_faults (passage_in t (phrase_at look number))) result }
+        TellsFaults (passage_faults (passage_in t (phrase_at look number))) result }
 {
     match number {
         Some(n) => match phrases.get(n as usize) {
@@ -70,7 +70,7 @@ fn needs_of_phrase(phrases: &[Needs], number: Option<u32>) -> Needs
 
 // What a statement asks that brings in a phrase which asks this.
 fn brought_in(needs: Needs) -> Needs
-    ensures { (spot : Spot) (p : Passage) → Tells (passage_faults p) needs →
+    ensures { (spot : Spot) (p : Passage) → TellsFaults (passage_faults p) needs →
         Asks spot (place_faults spot (phrase p)) result }
 {
     outside(block(), needs)
@@ -80,7 +80,7 @@ fn brought_in(needs: Needs) -> Needs
 #[cycle(found)]
 fn look_at(tables: &Tables, phrases: &[Needs], step: &Step, depths: Depths) -> Found
     ensures { (look : Look) → KnowsNeeds (tables_view tables.now) phrases.now look →
-        Finds (place_faults step.now.spot
+        FindsFirst (place_faults step.now.spot
         (play_in (tables_view tables.now) (step_view look step.now).what)) (depths_view depths)
         result }
 {
@@ -172,9 +172,9 @@ fn look_inside(
 ) -> Found
     ensures { (look : Look) → KnowsNeeds (tables_view tables.now) phrases.now look →
         (a : Faults) (within : PlainDepths → PlainDepths) → Asks spot a own →
-        Opens (depths_view opens) within →
+        OpensBlock (depths_view opens) within →
         let p = passage_in (tables_view tables.now) (block_view look steps.now) in
-        Finds (λ e. (a e ++ depth_faults spot (within e)) ++ passage_faults p (within e))
+        FindsFirst (λ e. (a e ++ depth_faults spot (within e)) ++ passage_faults p (within e))
         (depths_view depths) result }
 {
     let inner = inside(opens, depths);
@@ -191,8 +191,8 @@ pub(crate) fn look_through(
     depths: Depths,
 ) -> Found
     ensures { (look : Look) → KnowsNeeds (tables_view tables.now) phrases.now look →
-        Finds (passage_faults (passage_in (tables_view tables.now) (block_view look steps.now)))
-        (depths_view depths) result }
+        let p = passage_in (tables_view tables.now) (block_view look steps.now) in
+        FindsFirst (passage_faults p) (depths_view depths) result }
 {
     let mut found = nothing_found();
     for step in steps {

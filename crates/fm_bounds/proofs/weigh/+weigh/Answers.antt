@@ -58,8 +58,7 @@ weigh_step-returns-in-Channel t c = λ n look is knows.
 pub weigh_step-returns-in-Steady : goal.weigh_step-returns-in-Steady
 weigh_step-returns-in-Steady t c = λ n look is knows.
     let seen : (step_view look c.args.step.now).what ≡ plain.steady (quality_view c.in-Steady.quality) c.in-Steady.entry
-    (block_view look c.in-Steady.body.items)
-    = search (rules, the_lemmas) in
+    (block_view look c.in-Steady.body.items) = search (rules, the_lemmas) in
     rw (seen, ← c.deref-in-Steady.ensures.value)
     (c.inside-in-Steady.ensures _ _ (c.weigh_steps-in-Steady.ensures n look is knows))
 
