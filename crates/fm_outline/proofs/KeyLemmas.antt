@@ -53,7 +53,7 @@ key_fits (text.named key spot) none = tt
 key_fits (text.keyed (text.literal v spot) s) none = search rules
 key_fits (text.keyed (text.Amount.computed e) s) none = tt
 
--- the pitch at a place fits
+-- the pitch at an index fits
 pub pitch_at : (xs : List Pitch) → pitches_faults (map pitch_view xs) ≡ [] → (i : ℕ) (x : Pitch) → i < length xs
     → x ≡ get_or xs i x → PitchFits (pitch_view x)
 pitch_at xs none i x within is =

@@ -20,7 +20,7 @@ use Rattle.fm_expansion.specs.Numbering.{Catalogue}
 use Rattle.fm_outline.specs.declared.known.Known.{Known}
 use Rattle.fm_outline.specs.declared.known.Meaning.{Meaning}
 use Rattle.fm_outline.specs.declared.known.Meaning.TheVariants.{Shape, Phrase}
-use Rattle.fm_outline.specs.Knows.{Knows, labels, names_of, new_or_told, number_or_told, phrase_number, shape_place}
+use Rattle.fm_outline.specs.Knows.{Knows, labels, names_of, new_or_told, number_or_told, phrase_number, shape_index}
 use Rattle.fm_outline.specs.View.{Look}
 use Rattle.fm_outline.proofs.RefusalLemmas.{told_by}
 
@@ -76,7 +76,7 @@ other_kind f q name m o new same =
     choice false is = refl
 
 -- a name is one of either kind where it stands for something
-either_kind : (o : Option Meaning) → (is_some (shape_place o) || is_some (phrase_number o)) ≡ is_some o
+either_kind : (o : Option Meaning) → (is_some (shape_index o) || is_some (phrase_number o)) ≡ is_some o
 either_kind None = refl
 either_kind (Some (Shape p)) = refl
 either_kind (Some (Phrase n)) = refl

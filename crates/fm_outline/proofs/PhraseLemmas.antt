@@ -12,7 +12,7 @@ pub phrases_more : (blocks : List Block) (ps : List (List Step)) (p : List Step)
 phrases_more blocks [] p = refl
 phrases_more blocks (q ∷ ps) p = phrases_more (blocks ++ block_view (look_in blocks) q ∷ []) ps p
 
--- a list that is mapped, at a place
+-- a list that is mapped, at an index
 pub get_mapped : {A B : Type 0} (f : A → B) (xs : List A) (n : ℕ) (d : A) → get_or (map f xs) n (f d) ≡ f (get_or xs n d)
 get_mapped f [] n d = refl
 get_mapped f (x ∷ xs) zero d = refl

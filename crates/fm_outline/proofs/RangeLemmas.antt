@@ -5,7 +5,7 @@ use Rattle.fm_meaning.specs.Fault.{NumberedFault}
 use Rattle.fm_meaning.specs.Ranges.{each_faults}
 use Rattle.fm_version.proofs.RangeLemmas.{none_first, none_second}
 
--- the entry at a place has no fault, of what the entries of a list stand for
+-- the entry at an index has no fault, of what the entries of a list stand for
 pub entry_seen : {A B : Type 0} (view : A → B) (faults : B → List NumberedFault) (spot : B → Spot) (most : ℕ) (xs : List A)
     → each_faults faults spot most (map view xs) ≡ [] → (i : ℕ) (x : A) → i < length xs → x ≡ get_or xs i x
     → faults (view x) ≡ []

@@ -27,7 +27,7 @@ use Rattle.fm_outline.specs.declared.known.Meaning.TheVariants.{Shape, Phrase}
 use Rattle.fm_outline.specs.declared.step.Step.{Step}
 use Rattle.fm_outline.specs.View.{Look, phrase_at, look_in, phrases_behind, phrases_view, instruction_view, step_view, block_view}
 use Rattle.fm_outline.specs.Growing.{followed}
-use Rattle.fm_outline.specs.Knows.{Knows, labels, names_of, phrase_number, shape_place}
+use Rattle.fm_outline.specs.Knows.{Knows, labels, names_of, phrase_number, shape_index}
 use Rattle.fm_outline.specs.Walked.{Extends, WalkedBy}
 use Rattle.fm_outline.proofs.NameLemmas.{either_of, either_known, other_kind, double_is, new_behind}
 use Rattle.fm_outline.proofs.PhraseLemmas.{phrases_more, get_mapped}
@@ -51,13 +51,13 @@ behind_length blocks (p ∷ ps) =
 pub phrases_length : (ps : List (List Step)) → length (phrases_view ps) ≡ length ps
 phrases_length ps = omega (arith, behind_length [] ps)
 
--- a place before the end
+-- an index before the end
 get_before : {A : Type 0} (xs : List A) (y d : A) (n : ℕ) → n < length xs → get_or (xs ++ y ∷ []) n d ≡ get_or xs n d
 get_before [] y d n within = absurd (omega arith)
 get_before (x ∷ xs) y d zero within = refl
 get_before (x ∷ xs) y d (suc n) within = get_before xs y d n (omega arith)
 
--- the place at the end
+-- the index at the end
 get_end : {A : Type 0} (xs : List A) (y d : A) → get_or (xs ++ y ∷ []) (length xs) d ≡ y
 get_end [] y d = refl
 get_end (x ∷ xs) y d = get_end xs y d
@@ -91,9 +91,9 @@ begun score known t names empty is clean =
       first = behind (head_faults score) (entries_faults (names_of k) score.entries) clean;
       knows = λ look more. record {
         whole = sym is;
-        shapes = λ q. ap (λ o. unwrap_or (shape_place o) 0) (names q);
+        shapes = λ q. ap (λ o. unwrap_or (shape_index o) 0) (names q);
         phrases = λ q. ap (λ o. phrase_at look (phrase_number o)) (names q);
-        is_shape = λ q. ap (λ o. is_some (shape_place o)) (names q);
+        is_shape = λ q. ap (λ o. is_some (shape_index o)) (names q);
         is_phrase = λ q. ap (λ o. is_some (phrase_number o)) (names q);
       };
       stand = λ look more. refl;
@@ -154,16 +154,16 @@ module _ {score : text.Score} {known : Known} {phrases : List (List Step)} {bloc
             record {
               whole = knows.whole;
               shapes = λ q.
-                  ap (λ o. unwrap_or (shape_place o) 0) (defined q)
-                  ∙ either_of (λ o. unwrap_or (shape_place o) 0) (bytes_eq q name.text) (Shape p) (named known.names q)
+                  ap (λ o. unwrap_or (shape_index o) 0) (defined q)
+                  ∙ either_of (λ o. unwrap_or (shape_index o) 0) (bytes_eq q name.text) (Shape p) (named known.names q)
                   (length t.warps) (meaning_of q 0 r.k.shapes) at (knows.shapes q);
               phrases = λ q.
                   ap (λ o. phrase_at look (phrase_number o)) (defined q)
                   ∙ other_kind (λ o. phrase_at look (phrase_number o)) q name.text (Shape p) (named known.names) new refl
                   ∙ knows.phrases q;
               is_shape = λ q.
-                  ap (λ o. is_some (shape_place o)) (defined q)
-                  ∙ either_known (λ o. is_some (shape_place o)) (bytes_eq q name.text) (Shape p) (named known.names q)
+                  ap (λ o. is_some (shape_index o)) (defined q)
+                  ∙ either_known (λ o. is_some (shape_index o)) (bytes_eq q name.text) (Shape p) (named known.names q)
                   (list_any (bytes_eq q) (labels r.k.shapes)) refl (knows.is_shape q);
               is_phrase = λ q.
                   ap (λ o. is_some (phrase_number o)) (defined q)
@@ -215,16 +215,16 @@ module _ {score : text.Score} {known : Known} {phrases : List (List Step)} {bloc
             record {
               whole = knows.whole;
               shapes = λ q.
-                  ap (λ o. unwrap_or (shape_place o) 0) (defined q)
-                  ∙ other_kind (λ o. unwrap_or (shape_place o) 0) q name.text (Phrase p) (named known.names) new refl
+                  ap (λ o. unwrap_or (shape_index o) 0) (defined q)
+                  ∙ other_kind (λ o. unwrap_or (shape_index o) 0) q name.text (Phrase p) (named known.names) new refl
                   ∙ knows.shapes q;
               phrases = λ q.
                   ap (λ o. phrase_at look (phrase_number o)) (defined q)
                   ∙ either_of (λ o. phrase_at look (phrase_number o)) (bytes_eq q name.text) (Phrase p)
                   (named known.names q) value (meaning_of q plain.done r.k.phrases) found (knows.phrases q);
               is_shape = λ q.
-                  ap (λ o. is_some (shape_place o)) (defined q)
-                  ∙ other_kind (λ o. is_some (shape_place o)) q name.text (Phrase p) (named known.names) new refl
+                  ap (λ o. is_some (shape_index o)) (defined q)
+                  ∙ other_kind (λ o. is_some (shape_index o)) q name.text (Phrase p) (named known.names) new refl
                   ∙ knows.is_shape q;
               is_phrase = λ q.
                   ap (λ o. is_some (phrase_number o)) (defined q)

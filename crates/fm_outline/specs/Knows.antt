@@ -16,10 +16,10 @@ use Rattle.fm_outline.specs.declared.known.Meaning.{Meaning}
 use Rattle.fm_outline.specs.declared.known.Meaning.TheVariants.{Shape, Phrase}
 use Rattle.fm_outline.specs.View.{Look, phrase_at}
 
--- the place of a shape, where a name stands for one
-abbrev pub shape_place : Option Meaning → Option ℕ
-shape_place (Some (Shape place)) = Some place
-shape_place _ = None
+-- the index of a shape, where a name stands for one
+abbrev pub shape_index : Option Meaning → Option ℕ
+shape_index (Some (Shape index)) = Some index
+shape_index _ = None
 
 -- the number of a phrase, where a name stands for one
 abbrev pub phrase_number : Option Meaning → Option ℕ
@@ -47,10 +47,10 @@ names_of k = record { whole = k.whole; shapes = labels k.shapes; phrases = label
 -- a whole note has as many ticks, each name stands for the same, and the same names are known
 pub record Knows (known : Known) (look : Look) (k : Catalogue) : Type 0 where
   pub whole : k.whole ≡ known.whole
-  pub shapes : (name : List ℕ) → unwrap_or (shape_place (named known.names name)) 0 ≡ meaning_of name 0 k.shapes
+  pub shapes : (name : List ℕ) → unwrap_or (shape_index (named known.names name)) 0 ≡ meaning_of name 0 k.shapes
   pub phrases : (name : List ℕ)
       → phrase_at look (phrase_number (named known.names name)) ≡ meaning_of name done k.phrases
   pub is_shape : (name : List ℕ)
-      → is_some (shape_place (named known.names name)) ≡ list_any (bytes_eq name) (labels k.shapes)
+      → is_some (shape_index (named known.names name)) ≡ list_any (bytes_eq name) (labels k.shapes)
   pub is_phrase : (name : List ℕ)
       → is_some (phrase_number (named known.names name)) ≡ list_any (bytes_eq name) (labels k.phrases)

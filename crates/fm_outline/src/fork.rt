@@ -1,6 +1,6 @@
 //! The first statement of a block that forks, found once while the block is outlined.
 //!
-//! It is a place to look at first, so that nobody goes over a block to find out whether it forks.
+//! It is where to look first, so that nobody goes over a block to find out whether it forks.
 
 ghost use Rattle.std.specs.Prelude.{◌≤◌, length};
 
@@ -34,9 +34,9 @@ fn forks(step: &Step, phrases: &[bool]) -> bool {
 pub(crate) fn before_fork(steps: &[Step], phrases: &[bool]) -> usize
     ensures { result ≤ length steps.now }
 {
-    for (place, step) in steps.iter().enumerate() {
+    for (index, step) in steps.iter().enumerate() {
         if forks(step, phrases) {
-            return place;
+            return index;
         }
     }
     steps.len()

@@ -1,9 +1,9 @@
-//! The names that are defined before a place of the text.
+//! The names that are defined before a spot of the text.
 
 ghost use Rattle.std.specs.Prelude.{◌≡◌};
 ghost use Rattle.fm_grammar.specs.View.{name_view};
 ghost use Rattle.fm_names.specs.Named.{named};
-ghost use Rattle.fm_outline.specs.Knows.{new_or_told, number_or_told, shape_place, phrase_number};
+ghost use Rattle.fm_outline.specs.Knows.{new_or_told, number_or_told, shape_index, phrase_number};
 
 use fm_fault::{CheckFault, Why};
 use fm_grammar::Name;
@@ -12,8 +12,8 @@ use fm_names::Names;
 /// What a name stands for.
 #[derive(Clone, Copy, Drop)]
 pub(crate) enum Meaning {
-    /// A shape, by its place in the table of deformations.
-    Shape { place: u32 },
+    /// A shape, by its index in the table of deformations.
+    Shape { index: u32 },
     /// A phrase, by its number.
     Phrase { number: u32 },
 }
@@ -28,13 +28,13 @@ pub(crate) struct Known<'s> {
 }
 
 impl<'s> Known<'s> {
-    /// The place of a shape.
+    /// The index of a shape.
     pub(crate) fn shape(&self, name: &Name) -> Result<u32, CheckFault>
         ensures { result ≡ number_or_told (name_view name.now)
-            (shape_place (named self.now.names (name_view name.now).text)) }
+            (shape_index (named self.now.names (name_view name.now).text)) }
     {
         match self.names.get(name.text).copied() {
-            Some(Meaning::Shape { place }) => Ok(place),
+            Some(Meaning::Shape { index }) => Ok(index),
             _ => Err(CheckFault::Refused {
                 why: Why::UnknownName,
                 spot: name.spot,

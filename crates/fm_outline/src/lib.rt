@@ -1,5 +1,5 @@
 //! The outline of a score: its expressions, lists, chords and deformations in tables, and its
-//! statements with the places of what they name. A phrase is written down once and named by its
+//! statements with the indices of what they name. A phrase is written down once and named by its
 //! number.
 //!
 //! A contract sees an [`Outline`] through `specs/View`, where each phrase stands in the place of

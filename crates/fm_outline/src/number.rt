@@ -36,7 +36,7 @@ fn numbers(alloc: Global, list: &[Number]) -> Result<Vec<u32>, AllocError>
     Ok(entries)
 }
 
-/// Appends a rhythm, whose entries have no fault, and gives its place. A whole note has `whole`
+/// Appends a rhythm, whose entries have no fault, and gives its index. A whole note has `whole`
 /// ticks.
 pub(crate) fn add_lengths(
     alloc: Global,
@@ -53,7 +53,7 @@ pub(crate) fn add_lengths(
     tables.add_list(entries)
 }
 
-/// Appends a list of numbers and gives its place.
+/// Appends a list of numbers and gives its index.
 pub(crate) fn add_numbers(
     alloc: Global,
     list: &[Number],

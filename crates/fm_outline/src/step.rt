@@ -11,12 +11,12 @@ use fm_program::{Count, Draw, Point};
 pub struct Step {
     pub spot: Spot,
     /// How many statements of its block stand before the first that forks, all of them where none
-    /// does. No clause speaks of it, so a caller asks the statement at this place.
+    /// does. No clause speaks of it, so a caller asks the statement at this index.
     pub before_fork: usize,
     pub what: Instruction,
 }
 
-/// What a statement says. Expressions, lists, chords and deformations are given by their places in
+/// What a statement says. Expressions, lists, chords and deformations are given by their indices in
 /// the tables, phrases by their numbers, all from 0.
 #[derive(Drop)]
 #[cycle(step)]

@@ -10,10 +10,10 @@ use fm_value::Expr;
 use fm_warp::Warp;
 use std::alloc::{AllocError, Global};
 
-/// What a text names, each entry by its place, in the order of the text.
+/// What a text names, each entry by its index, in the order of the text.
 #[derive(Drop)]
 pub struct Tables {
-    /// Expressions, without the places of their nodes in the text.
+    /// Expressions, without the spots of their nodes in the text.
     pub exprs: Vec<Expr>,
     /// Lists of durations in ticks, of articulations in percent, or of velocities.
     pub lists: Vec<Vec<u32>>,
@@ -23,13 +23,13 @@ pub struct Tables {
     pub warps: Vec<Warp>,
 }
 
-/// The place of the next entry of a table with so many entries. A table that outgrows `u32` counts
+/// The index of the next entry of a table with so many entries. A table that outgrows `u32` counts
 /// as want of memory.
-pub(crate) fn place(entries: usize) -> Result<u32, AllocError>
+pub(crate) fn next_index(entries: usize) -> Result<u32, AllocError>
     ensures { IfOk result (λ p. p ≡ entries) }
 {
     match u32::try_from(entries) {
-        Ok(place) => Ok(place),
+        Ok(index) => Ok(index),
         Err(_) => Err(AllocError),
     }
 }
@@ -42,7 +42,7 @@ pub(crate) fn append<T: Drop>(list: &mut Vec<T>, entry: T) -> Result<(), AllocEr
     Ok(())
 }
 
-// A copy of an expression without the places of its nodes in the text.
+// A copy of an expression without the spots of its nodes in the text.
 fn nodes_alone(alloc: Global, expr: &Expr) -> Result<Expr, AllocError>
     ensures nodes { IfOk result (λ e. expr_nodes e ≡ expr_nodes expr.now) }
     ensures alone { IfOk result (λ e. e.spots.items ≡ []) }
@@ -67,47 +67,47 @@ impl Tables {
         }
     }
 
-    /// Appends a copy of an expression and gives its place.
+    /// Appends a copy of an expression and gives its index.
     pub(crate) fn add_expr(&mut self, alloc: Global, expr: &Expr) -> Result<u32, AllocError>
         ensures at { IfOk result (λ p. p ≡ length (tables_view self.old).exprs) }
         ensures added { OnOk result
             (tables_view self.new ≡ expr_added (expr_nodes expr.now) (tables_view self.old)) }
     {
-        let place = place(self.exprs.len())?;
+        let index = next_index(self.exprs.len())?;
         self.exprs.push(nodes_alone(alloc, expr)?)?;
-        Ok(place)
+        Ok(index)
     }
 
-    /// Appends a list and gives its place.
+    /// Appends a list and gives its index.
     pub(crate) fn add_list(&mut self, list: Vec<u32>) -> Result<u32, AllocError>
         ensures at { IfOk result (λ p. p ≡ length (tables_view self.old).lists) }
         ensures added { OnOk result
             (tables_view self.new ≡ list_added list.items (tables_view self.old)) }
     {
-        let place = place(self.lists.len())?;
+        let index = next_index(self.lists.len())?;
         self.lists.push(list)?;
-        Ok(place)
+        Ok(index)
     }
 
-    /// Appends a chord and gives its place.
+    /// Appends a chord and gives its index.
     pub(crate) fn add_chord(&mut self, chord: Vec<Draw>) -> Result<u32, AllocError>
         ensures at { IfOk result (λ p. p ≡ length (tables_view self.old).chords) }
         ensures added { OnOk result
             (tables_view self.new ≡ chord_added chord.items (tables_view self.old)) }
     {
-        let place = place(self.chords.len())?;
+        let index = next_index(self.chords.len())?;
         self.chords.push(chord)?;
-        Ok(place)
+        Ok(index)
     }
 
-    /// Appends a deformation and gives its place.
+    /// Appends a deformation and gives its index.
     pub(crate) fn add_warp(&mut self, warp: Warp) -> Result<u32, AllocError>
         ensures at { IfOk result (λ p. p ≡ length (tables_view self.old).warps) }
         ensures added { OnOk result
             (tables_view self.new ≡ warp_added warp (tables_view self.old)) }
     {
-        let place = place(self.warps.len())?;
+        let index = next_index(self.warps.len())?;
         self.warps.push(warp)?;
-        Ok(place)
+        Ok(index)
     }
 }

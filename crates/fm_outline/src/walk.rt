@@ -23,7 +23,7 @@ use crate::outline::Outline;
 use crate::refusal::answered;
 use crate::statement::{outline_item, outline_items};
 use crate::step::Step;
-use crate::tables::{Tables, append, place};
+use crate::tables::{Tables, append, next_index};
 use fm_expansion::outlines_stand_for_scores;
 use fm_fault::CheckFault;
 use fm_grammar::{Entry, Item, Name, PartText, Score};
@@ -32,7 +32,7 @@ use fm_ranges::{check_head, check_own, check_parts};
 use fm_version::{rules_of, warp_of};
 use std::alloc::Global;
 
-/// What stands before a place of the text, and what is known there.
+/// What stands before a spot of the text, and what is known there.
 #[derive(Drop)]
 pub(crate) struct Walk<'s> {
     pub(crate) known: Known<'s>,
@@ -70,7 +70,7 @@ impl<'s> Walk<'s> {
             (tree.phrase (name_view name.now) (items_view body.now))) }
     {
         self.known.check_new(name)?;
-        let number = place(self.phrases.len())?;
+        let number = next_index(self.phrases.len())?;
         let steps = outline_items(alloc, body, &self.known, &mut self.tables)?;
         let forks = before_fork(&steps, &self.known.forking) < steps.len();
         append(&mut self.phrases, steps)?;
@@ -94,8 +94,8 @@ impl<'s> Walk<'s> {
         self.known.check_new(name)?;
         answered(check_parts(self.known.whole, parts))?;
         let warp = warp_of(alloc, self.known.whole, parts)?;
-        let place = self.tables.add_warp(warp)?;
-        let shape = Meaning::Shape { place };
+        let index = self.tables.add_warp(warp)?;
+        let shape = Meaning::Shape { index };
         Ok(self.known.names.define(name.text, shape)?)
     }
 
@@ -124,7 +124,7 @@ fn seed(score: &Score) -> u32
 
 /// The outline of a score, or its first fault of names and numbers: a name that was defined before
 /// or not at all, a number outside its range, a length of no whole number of ticks. The outline has
-/// its tables in the order of the text, and its statements with the places of what they name; it
+/// its tables in the order of the text, and its statements with the indices of what they name; it
 /// stands for what the score plays.
 pub fn outline_of(alloc: Global, score: &Score) -> Result<Outline, CheckFault>
     ensures outline { IfOk result (λ o. outline_view o ≡ outline (score_view score.now)) }

@@ -44,7 +44,7 @@ fn loops_of_nodes(nodes: &[Node]) -> u32
     loops
 }
 
-/// For an expression by its place in the table.
+/// For an expression by its index in the table.
 pub(crate) fn loops_of_expr(tables: &Tables, expr: u32) -> u32
     ensures { (l : ℕ) → nat_lt l result ≡ has_outside l (expr_in (tables_view tables.now) expr) }
 {
@@ -77,7 +77,7 @@ fn loops_of_draws(tables: &Tables, draws: &[Draw]) -> u32
     loops
 }
 
-// For a chord by its place in the table.
+// For a chord by its index in the table.
 fn loops_of_chord(tables: &Tables, chord: u32) -> u32
     ensures { (l : ℕ) → nat_lt l result ≡ list_any (draw_outside l)
         (map (source_of (tables_view tables.now)) (chord_in (tables_view tables.now) chord)) }

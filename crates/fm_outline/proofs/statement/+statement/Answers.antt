@@ -14,7 +14,7 @@ use Rattle.fm_expansion.specs.Numbering.{numbered, block_of, arms_of}
 use Rattle.fm_names.specs.Named.{named}
 use Rattle.fm_ranges.specs.Own.{own_faults}
 use Rattle.fm_version.proofs.RangeLemmas.{none_first, none_second}
-use Rattle.fm_outline.specs.Knows.{names_of, shape_place}
+use Rattle.fm_outline.specs.Knows.{names_of, shape_index}
 use Rattle.fm_outline.specs.View.{tables_view, block_view, step_view}
 use Rattle.fm_outline.specs.Growing.{followed, joined_behind}
 use Rattle.fm_outline.specs.declared.step.Step.{Step}
@@ -195,7 +195,7 @@ outline_item-returns-in_err-body-in-Warp-clause-refused t c = λ why spot is k l
     let name = name_view c.in-Warp.name in
     let seen : (item_view c.args.item.now).what ≡ tree.warp name (items_view b)
     = search (rules, the_lemmas, c.deref-in-Warp.ensures.value) in
-    under_known k name (items_view b) (shape_place (named c.args.known.now.names name.text))
+    under_known k name (items_view b) (shape_index (named c.args.known.now.names name.text))
     c.in_ok-number-in-Warp.number seen (knows.is_shape name.text) c.in_ok-number-in-Warp.ensures
     ∙ (c.in_err-body-in-Warp.ensures.refused why spot (handed is c.from_residual-in_err-body-in-Warp.ensures.1) k look knows)
 
@@ -206,12 +206,12 @@ outline_item-returns-in_ok-body-in-Warp-clause-ok t c = λ k look knows.
     let seen : (item_view c.args.item.now).what ≡ tree.warp name (items_view b)
     = search (rules, the_lemmas, c.deref-in-Warp.ensures.value) in
     let inside = c.in_ok-body-in-Warp.ensures.ok k look knows in (
-      under_known k name (items_view b) (shape_place (named c.args.known.now.names name.text))
+      under_known k name (items_view b) (shape_index (named c.args.known.now.names name.text))
           c.in_ok-number-in-Warp.number seen (knows.is_shape name.text) c.in_ok-number-in-Warp.ensures ∙ inside.0,
       rw (
         seen,
         warp_seen look c.in_ok-number-in-Warp.number c.in_ok-body-in-Warp.body,
-        ← number_of name (shape_place (named c.args.known.now.names name.text)) c.in_ok-number-in-Warp.number
+        ← number_of name (shape_index (named c.args.known.now.names name.text)) c.in_ok-number-in-Warp.number
             c.in_ok-number-in-Warp.ensures ∙ knows.shapes name.text,
       )
           (ap (λ v. numbered (plain.warp c.in_ok-number-in-Warp.number v.value) v.tables) inside.1),

@@ -33,8 +33,8 @@ returns-in_err-answered-clause-refused c = λ why spot is score rest r.
 pub returns-clause-ok : goal.returns-clause-ok
 returns-clause-ok c = λ score rest r.
     let known = c.args.self.now.known in
-    shape_walked c.in_ok-place.place c.in_ok-warp.warp r
+    shape_walked c.in_ok-index.index c.in_ok-warp.warp r
     (new_free (name_view c.args.name.now) (named known.names c.args.name.now.text.now) _ c.in_ok-check_new.ensures)
     (passed c.check_parts.result _ (parts_faults known.whole c.args.parts.now) c.in_ok-answered.ensures
     c.check_parts.ensures)
-    c.in_ok-warp.ensures c.in_ok-place.ensures.at c.in_ok-place.ensures.added c.in_ok-define.ensures.ok
+    c.in_ok-warp.ensures c.in_ok-index.ensures.at c.in_ok-index.ensures.added c.in_ok-define.ensures.ok
