@@ -7,7 +7,7 @@ use Rattle.fm_grammar.specs.View.{PlacedStmt, body_of, branches_of}
 use Rattle.fm_meaning.specs.Resolve.{longest_entry, longest_inside, longest_among, longest_of}
 use Rattle.fm_bounds.specs.Saturation.{capped}
 use Rattle.fm_bounds.proofs.SaturationLemmas.{capped_max}
-use Rattle.fm_bounds.proofs.WeightLemmas.{map_take_at}
+use Rattle.fm_outline.proofs.MapLemmas.{map_take_at}
 
 -- a number more
 pub greatest_more : (xs : List ℕ) (x : ℕ) → greatest (xs ++ x ∷ []) ≡ max (greatest xs) x

@@ -19,13 +19,14 @@ use Rattle.fm_expansion.specs.Outline.{Tables, play_in, passage_in}
 use Rattle.fm_outline.specs.declared.step.Step.{Step}
 use Rattle.fm_outline.specs.View.{Look, Placed, step_view, block_view}
 use Rattle.fm_outline.proofs.SeenLemmas.{step_seen}
+use Rattle.fm_outline.proofs.RefusalLemmas.{before as stays_first}
 use Rattle.fm_bounds.specs.declared.sums.Sums.{Sums}
 use Rattle.fm_bounds.specs.Saturation.{saturated}
 use Rattle.fm_bounds.specs.Reached.{Reached}
 use Rattle.fm_bounds.proofs.SaturationLemmas.{capped_below}
 use Rattle.fm_bounds.proofs.SumsLemmas.{none_saturated, sums}
 use Rattle.fm_bounds.proofs.WeightLemmas.{same_totals, plus_plus}
-use Rattle.fm_bounds.proofs.LimitLemmas.{are_within, first_stays}
+use Rattle.fm_bounds.proofs.LimitLemmas.{are_within}
 
 -- the totals with a statement more
 abbrev pub after : {score : tree.Score} {before : Sums} {spot : Spot} {play : Play} {rest : Passage}
@@ -54,7 +55,7 @@ pub play_refused : (score : tree.Score) (before : Sums) (spot : Spot) (play : Pl
     → first_found (fourth_walk (score_rules score) (resolved score)) ≡ Some f
 play_refused score before spot play rest f r found =
     ap first_found r.faults
-    ∙ first_stays (limit_faults (score_rules score) spot (score_totals (after r)))
+    ∙ stays_first (limit_faults (score_rules score) spot (score_totals (after r)))
     (sums_faults (score_rules score) (resolved score).longest (after r) rest) f found
 
 -- ---- the beginning and the end

@@ -1,7 +1,6 @@
 -- Totals of statements in turn and of branches, one more at the end.
-use Rattle.std.proofs.Common.{◌≡◌, ℕ, ◌+◌, Bool, true, false, List, [], ◌∷◌, ◌++◌}
-use Rattle.std.proofs.Common.{◌<◌, map, take, get_or, length, refl, ap, sym, ◌∙◌, arith}
-use Rattle.std.proofs.lemmas.List.{take_more, map-append}
+use Rattle.std.proofs.Common.{◌≡◌, ℕ, Bool, true, false, List, [], ◌∷◌, ◌++◌}
+use Rattle.std.proofs.Common.{refl, ap, ◌∙◌, arith}
 use Rattle.std.specs.Prelude.{◌||◌}
 use Rattle.fm_expansion.specs.Outline.{Tables, Block, play_in, passage_in, fork_in}
 use Rattle.fm_outline.specs.declared.step.Step.{Step}
@@ -63,21 +62,3 @@ beside_more longest t (d ∷ bs) b =
     ap (beside (bounds_in longest (passage_in t d))) (beside_more longest t bs b)
     ∙ beside_beside (bounds_in longest (passage_in t d)) (bounds_in longest (passage_in t b))
     (bounds_beside longest (fork_in t (arms_of_blocks bs)))
-
--- one element more is taken
-pub take_one_more : {A : Type 0} (xs : List A) (i : ℕ) (x : A) → i < length xs → x ≡ get_or xs i x
-    → take (i + 1) xs ≡ take i xs ++ x ∷ []
-take_one_more xs i x within is = take_more xs i x within ∙ ap (λ y. take i xs ++ y ∷ []) (sym is)
-
--- elements of a list seen in another way, one more at the end
-pub map_take_more : {A B : Type 0} (f : A → B) (xs : List A) (i : ℕ) (x : A) → i < length xs → x ≡ get_or xs i x
-    → map f (take (i + 1) xs) ≡ map f (take i xs) ++ f x ∷ []
-map_take_more f xs i x within is =
-    ap (map f) (take_one_more xs i x within is)
-    ∙ map-append f (take i xs) (x ∷ [])
-
--- the same of the element at an index
-pub map_take_at : {A B : Type 0} (f : A → B) (xs : List A) (i : ℕ) (d : A) → i < length xs
-    → map f (take (i + 1) xs) ≡ map f (take i xs) ++ f (get_or xs i d) ∷ []
-map_take_at f xs i d within =
-    ap (map f) (take_more xs i d within) ∙ map-append f (take i xs) (get_or xs i d ∷ [])

@@ -1,30 +1,17 @@
 -- What a statement says itself, before what stands inside it.
-use Rattle.std.proofs.Common.{◌≡◌, ℕ, List, [], ◌++◌, Option, Some, None, Ok, is_some, ap, sym, ◌∙◌, rules}
-use Rattle.std.specs.Prelude.{pos, neg_ℤ, ◌-ℤ◌}
+use Rattle.std.proofs.Common.{◌≡◌, ℕ, List, [], ◌++◌, Option, Some, None, Ok, is_some, ap, sym, ◌∙◌}
 use Rattle.std.specs.List.{list_any}
 use Rattle.std.specs.Str.{bytes_eq}
 use Rattle.fm_grammar.specs.Score as text
 use Rattle.fm_meaning.specs.Fault.{NumberedFault}
 use Rattle.fm_meaning.specs.Faults.{first_found}
-use Rattle.fm_meaning.specs.Rules.{most_rounds, most_channel, most_data, most_gate, bend_centre, most_bend}
-use Rattle.fm_meaning.specs.Ranges.{stmt_faults, body_faults, amount_faults, expr_faults, number_faults, numbers_faults, unknown_faults}
+use Rattle.fm_meaning.specs.Rules.{most_rounds, most_channel, most_data, most_gate}
+use Rattle.fm_meaning.specs.Ranges.{stmt_faults, body_faults, expr_faults, number_faults, numbers_faults, unknown_faults}
 use Rattle.fm_expansion.specs.Numbering.{Catalogue}
 use Rattle.fm_ranges.specs.Own.{own_faults}
-use Rattle.fm_outline.specs.InRange.{AmountFits}
 use Rattle.fm_outline.specs.Knows.{labels, names_of, number_or_told}
 use Rattle.fm_outline.proofs.RefusalLemmas.{before, behind, no_first}
 use Rattle.fm_outline.proofs.NameLemmas.{number_clean}
-
--- a number of seven bits fits
-pub data_fits : (a : text.Amount) → amount_faults (pos 0) (pos most_data) a ≡ [] → AmountFits a
-data_fits (text.literal v spot) none = search rules
-data_fits (text.Amount.computed e) none = tt
-
--- so does a bend
-pub bend_fits : (a : text.Amount) → amount_faults (neg_ℤ (pos bend_centre)) (pos most_bend -ℤ pos bend_centre) a ≡ []
-    → AmountFits a
-bend_fits (text.literal v spot) none = search rules
-bend_fits (text.Amount.computed e) none = tt
 
 -- no fault of its own, of what it is
 pub own_clean : {x s : text.Stmt} (whole : ℕ) → x ≡ s → None ≡ first_found (own_faults whole x) → own_faults whole s ≡ []

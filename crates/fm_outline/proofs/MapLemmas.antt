@@ -2,14 +2,26 @@
 use Rattle.std.proofs.Common.{◌≡◌, ℕ, ◌+◌, ◌<◌, ◌≤◌, List, [], ◌∷◌, ◌++◌, map, take, length, get_or, ap, sym, ◌∙◌}
 use Rattle.std.proofs.lemmas.List.{map-append, take_more, take_all}
 
+-- one entry more is taken
+pub take_one_more : {A : Type 0} (xs : List A) (i : ℕ) (x : A) → i < length xs → x ≡ get_or xs i x
+    → take (i + 1) xs ≡ take i xs ++ x ∷ []
+take_one_more xs i x within is = take_more xs i x within ∙ ap (λ y. take i xs ++ y ∷ []) (sym is)
+
+-- the same of a list seen in another way
+pub map_take_more : {A B : Type 0} (f : A → B) (xs : List A) (i : ℕ) (x : A) → i < length xs → x ≡ get_or xs i x
+    → map f (take (i + 1) xs) ≡ map f (take i xs) ++ f x ∷ []
+map_take_more f xs i x within is = ap (map f) (take_one_more xs i x within is) ∙ map-append f (take i xs) (x ∷ [])
+
+-- the same of the entry at an index
+pub map_take_at : {A B : Type 0} (f : A → B) (xs : List A) (i : ℕ) (d : A) → i < length xs
+    → map f (take (i + 1) xs) ≡ map f (take i xs) ++ f (get_or xs i d) ∷ []
+map_take_at f xs i d within = ap (map f) (take_more xs i d within) ∙ map-append f (take i xs) (get_or xs i d ∷ [])
+
 -- one entry more is done
 pub mapped_more : {A B : Type 0} (f : A → B) (xs : List A) (i : ℕ) (d : A) (entries grown : List B) → i < length xs
     → entries ≡ map f (take i xs) → grown ≡ entries ++ f (get_or xs i d) ∷ [] → grown ≡ map f (take (i + 1) xs)
 mapped_more f xs i d entries grown within so_far pushed =
-    pushed
-    ∙ ap (λ l. l ++ f (get_or xs i d) ∷ []) so_far
-    ∙ sym (map-append f (take i xs) (get_or xs i d ∷ []))
-    ∙ ap (map f) (sym (take_more xs i d within))
+    pushed ∙ ap (λ l. l ++ f (get_or xs i d) ∷ []) so_far ∙ sym (map_take_at f xs i d within)
 
 -- no entry is left
 pub mapped_end : {A B : Type 0} (f : A → B) (xs : List A) (i : ℕ) (entries : List B) → length xs ≤ i

@@ -1,10 +1,11 @@
 -- What is found once of each phrase, in the order of the phrases.
 use Rattle.std.proofs.Common.{◌≡◌, ℕ, zero, suc, ◌+◌, ◌<◌, ◌≤◌, List, [], ◌∷◌, ◌++◌, map, take, length, get_or, refl, sym, ap, ap₂, ◌∙◌}
 use Rattle.std.specs.Prelude.{slice_index_or}
-use Rattle.std.proofs.lemmas.List.{map-append, take_more, take_all}
+use Rattle.std.proofs.lemmas.List.{map-append, take_all}
 use Rattle.fm_expansion.specs.Outline.{Block, done}
 use Rattle.fm_outline.specs.declared.step.Step.{Step}
 use Rattle.fm_outline.specs.View.{look_in, block_view, phrases_behind, phrases_view}
+use Rattle.fm_outline.proofs.MapLemmas.{map_take_more}
 
 -- a phrase behind others sees them
 pub phrases_more : (blocks : List Block) (ps : List (List Step)) (p : List Step) → phrases_behind blocks (ps ++ p ∷ [])
@@ -30,11 +31,8 @@ pub found_more : {A B : Type 0} (f : Block → A) (view : B → List Step) (ps :
     → xs ++ own ∷ [] ≡ map f (phrases_view (map view (take (k + 1) ps)))
 found_more f view ps k p xs own within is known here =
     let qs = map view (take k ps) in
-    let next : take (k + 1) ps ≡ take k ps ++ p ∷ []
-    = take_more ps k p within ∙ ap (λ y. take k ps ++ y ∷ []) (sym is) in
     ap₂ (λ l b. l ++ b ∷ []) known here
-    ∙ sym (ap (λ l. map f (phrases_view (map view l))) next
-    ∙ ap (λ l. map f (phrases_view l)) (map-append view (take k ps) (p ∷ []))
+    ∙ sym (ap (λ l. map f (phrases_view l)) (map_take_more view ps k p within is)
     ∙ ap (map f) (phrases_more [] qs (view p))
     ∙ map-append f (phrases_view qs) (block_view (look_in (phrases_view qs)) (view p) ∷ []))
 

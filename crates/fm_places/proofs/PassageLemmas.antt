@@ -1,9 +1,8 @@
 -- Statements, branches and phrases, one more at the end.
-use Rattle.std.proofs.Common.{◌≡◌, ℕ, suc, ◌+◌, ◌<◌, List, [], ◌∷◌, ◌++◌, Bool, ◌||◌, nat_lt, max, map, take, drop, get_or, length}
+use Rattle.std.proofs.Common.{◌≡◌, ℕ, suc, ◌+◌, ◌<◌, List, [], ◌∷◌, ◌++◌, Bool, ◌||◌, nat_lt, max, drop, get_or, length}
 use Rattle.std.proofs.Common.{sym, ap, ap₂, ◌∙◌, rules, append_assoc, append-nil, add-one, arith}
 use Rattle.std.proofs.Math.Seq.{drop-cons}
 use Rattle.std.proofs.lemmas.Grind.{common_steps}
-use Rattle.std.proofs.lemmas.List.{take_more, map-append}
 use Rattle.fm_meaning.specs.Faults.{first_found}
 use Rattle.fm_meaning.specs.Places.{Depths, place_faults, passage_faults, fork_faults, depth_faults}
 use Rattle.fm_expansion.specs.Outline.{Tables, Block, play_in, passage_in, fork_in}
@@ -53,17 +52,3 @@ fork_more t [] b d = sym (append-nil (passage_faults (passage_in t b) d))
 fork_more t (c ∷ bs) b d =
     append_assoc (passage_faults (passage_in t c) d) _ _
     ∙ ap (λ l. passage_faults (passage_in t c) d ++ l) (fork_more t bs b d)
-
--- ---- lists
-
--- one element more is taken
-pub take_one_more : {A : Type 0} (xs : List A) (i : ℕ) (x : A) → i < length xs → x ≡ get_or xs i x
-    → take (i + 1) xs ≡ take i xs ++ x ∷ []
-take_one_more xs i x within is = take_more xs i x within ∙ ap (λ y. take i xs ++ y ∷ []) (sym is)
-
--- the same of a list seen in another way
-pub map_take_more : {A B : Type 0} (f : A → B) (xs : List A) (i : ℕ) (x : A) → i < length xs → x ≡ get_or xs i x
-    → map f (take (i + 1) xs) ≡ map f (take i xs) ++ f x ∷ []
-map_take_more f xs i x within is =
-    ap (map f) (take_one_more xs i x within is)
-    ∙ map-append f (take i xs) (x ∷ [])

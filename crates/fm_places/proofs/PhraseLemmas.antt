@@ -10,7 +10,7 @@ use Rattle.fm_places.specs.declared.needs.Needs.{Needs}
 use Rattle.fm_places.specs.Needs.{nothing}
 use Rattle.fm_places.specs.Found.{TellsFaults, KnowsNeeds}
 use Rattle.fm_places.proofs.NeedsLemmas.{nothing_tells}
-use Rattle.fm_places.proofs.PassageLemmas.{map_take_more}
+use Rattle.fm_outline.proofs.MapLemmas.{map_take_more}
 
 -- it is known what each of these blocks asks
 pub record AreKnown (t : Tables) (needs : List Needs) (blocks : List Block) : Type 0 where

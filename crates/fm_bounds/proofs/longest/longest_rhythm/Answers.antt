@@ -2,7 +2,7 @@ use Rattle.std.proofs.Common.{take, map, ap₂, ◌∙◌, max, ◌∷◌, []}
 use Rattle.fm_grammar.specs.View.{entry_view}
 use Rattle.fm_meaning.specs.Resolve.{longest_of}
 use Rattle.fm_bounds.proofs.SaturationLemmas.{capped_max}
-use Rattle.fm_bounds.proofs.WeightLemmas.{map_take_more}
+use Rattle.fm_outline.proofs.MapLemmas.{map_take_more}
 use Rattle.fm_bounds.proofs.LongestLemmas.{entries_more}
 use Rattle.fm_bounds.proofs.longest.longest_rhythm.Goals as goal
 

@@ -6,7 +6,7 @@ use Rattle.fm_meaning.specs.Resolve.{resolved}
 use Rattle.fm_meaning.specs.Bounds.{score_totals, bounds_of, forks, limit_faults}
 use Rattle.fm_fault.specs.declared.why.Why.{Why}
 use Rattle.fm_fault.specs.Why.{fault_at}
-use Rattle.fm_bounds.proofs.LimitLemmas.{empty_list}
+use Rattle.fm_outline.proofs.RefusalLemmas.{no_first}
 use Rattle.fm_bounds.proofs.WalkLemmas.{after, play_reached, play_refused}
 use Rattle.fm_bounds.proofs.walk.add.Goals as goal
 
@@ -17,8 +17,8 @@ returns-in-None-clause-ok c = λ s play rest most weighs r.
     let found = c.first_excess.ensures (score_rules s) spot (score_totals (after r)) (r.forks || forks play) (sym most)
     (c.whole.ensures (after r) (r.forks || forks play) sums) in
     play_reached s c.args.before c.plus-sums.result spot play rest r sums
-    (empty_list (limit_faults (score_rules s) spot (score_totals (after r)))
-    (found ∙ ap (option_map (fault_at spot)) c.in-None.is))
+    (no_first (limit_faults (score_rules s) spot (score_totals (after r)))
+    (sym (found ∙ ap (option_map (fault_at spot)) c.in-None.is)))
 
 pub returns-in-Some-clause-refused : goal.returns-in-Some-clause-refused
 returns-in-Some-clause-refused c = λ why at is s play rest most weighs r.

@@ -1,12 +1,11 @@
-use Rattle.std.proofs.Common.{◌≡◌, ◌+◌, ◌∙◌, Err, map, drop, ap, ap₂, sym}
-use Rattle.std.proofs.lemmas.Result.{err_from_is_err_and}
+use Rattle.std.proofs.Common.{◌≡◌, ◌+◌, ◌∙◌, map, drop, ap, ap₂}
 use Rattle.fm_grammar.specs.View.{score_view, entry_view}
 use Rattle.fm_meaning.specs.Rules.{VersionRules}
 use Rattle.fm_meaning.specs.Resolve.{longest_of, resolved}
 use Rattle.fm_expansion.specs.Outline.{play_in, passage_in}
 use Rattle.fm_outline.specs.View.{tables_view, look_of, step_view, block_view}
 use Rattle.fm_outline.specs.OfScore.{passage_of_outline}
-use Rattle.fm_fault.specs.declared.fault.CheckFault.TheVariants.{Refused}
+use Rattle.fm_outline.proofs.RefusalLemmas.{handed}
 use Rattle.fm_bounds.specs.Saturation.{capped}
 use Rattle.fm_bounds.proofs.WalkLemmas.{begun, at_end, at_step}
 use Rattle.fm_bounds.proofs.walk.find_bounds.Goals as goal
@@ -45,10 +44,7 @@ returns-in_err-before-clause-refused c = λ why spot failed.
     = c.longest_rhythm-longest.ensures
     ∙ ap₂ (λ w es. capped (longest_of w (map entry_view es))) (ap VersionRules.whole_note c.rules_of-rules.ensures.rules)
     c.deref.ensures.value in
-    let handed = err_from_is_err_and c.from_residual-in_err-before.result c.from_residual-in_err-before.ensures.1 in
-    let joined = sym handed.1 ∙ failed in
-    let same : handed.0 ≡ Refused why spot = cc in
-    c.in_err-before.ensures.refused why spot (ap Err (sym handed.2 ∙ same)) s
+    c.in_err-before.ensures.refused why spot (handed failed c.from_residual-in_err-before.ensures.1) s
     (play_in t (step_view look c.step-item.result).what) (passage_in t (block_view look (drop (i + 1) o.block.items)))
     (ap VersionRules.most_processes c.rules_of-rules.ensures.rules)
     (c.weigh_step-weight.ensures (resolved s).longest look is (rw c.deref-in-loop-step.ensures.value

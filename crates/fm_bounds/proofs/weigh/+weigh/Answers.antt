@@ -6,7 +6,8 @@ use Rattle.fm_meaning.specs.Bounds.{with_more, bounds_in}
 use Rattle.fm_outline.specs.declared.step.Step.{Step, the_lemmas}
 use Rattle.fm_outline.specs.View.{tables_view, step_view, block_view, lasting_view, quality_view, arms_of_blocks, phrase_at}
 use Rattle.fm_bounds.proofs.SumsLemmas.{span_saturated, warp_saturated, none_saturated, joined_saturated}
-use Rattle.fm_bounds.proofs.WeightLemmas.{bounds_more, forks_more, beside_more, map_take_more, take_one_more}
+use Rattle.fm_bounds.proofs.WeightLemmas.{bounds_more, forks_more, beside_more}
+use Rattle.fm_outline.proofs.MapLemmas.{map_take_more, take_one_more}
 use Rattle.fm_outline.proofs.SeenLemmas.{map_twice}
 use Rattle.fm_bounds.proofs.weigh.+weigh.Goals as goal
 

@@ -9,7 +9,8 @@ use Rattle.fm_meaning.specs.Places.{draw_outside, span_outside, has_outside, cou
 use Rattle.fm_outline.specs.declared.step.Step.{Step, the_lemmas}
 use Rattle.fm_outline.specs.View.{tables_view, step_view, block_view, lasting_view, quality_view, arms_of_blocks, phrase_at}
 use Rattle.fm_places.proofs.NeedsLemmas.{asks_told, fork_told, nothing_told}
-use Rattle.fm_places.proofs.PassageLemmas.{finds_same, passage_more, fork_more, take_one_more, map_take_more}
+use Rattle.fm_places.proofs.PassageLemmas.{finds_same, passage_more, fork_more}
+use Rattle.fm_outline.proofs.MapLemmas.{take_one_more, map_take_more}
 use Rattle.fm_outline.proofs.SeenLemmas.{map_twice}
 use Rattle.fm_places.proofs.statement.+found.Goals as goal
 
