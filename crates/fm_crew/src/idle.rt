@@ -7,16 +7,16 @@ use std::thread::{Parker, yield_now};
 use std::time::Duration;
 
 /// How many turns in a row are tried again at once.
-const SPINS: u32 = 8;
+const SPINS: u32 = 2;
 
 /// The same for the conductor, who waits for a time slice to end and not for work.
 pub const LONG_SPINS: u32 = 64;
 
 /// How many more of them let another thread run first.
-const YIELDS: u32 = 4;
+const YIELDS: u32 = 2;
 
 /// The first wait after these, in microseconds.
-const FIRST_WAIT: u64 = 20;
+const FIRST_WAIT: u64 = 50;
 
 /// The longest wait, in microseconds.
 const LONGEST_WAIT: u64 = 500;
@@ -27,8 +27,8 @@ const LOOKS_AN_EVENT: u32 = 64;
 /// So many looks that were not worth it are a turn more.
 const LOOKS_A_TURN: u32 = 512;
 
-/// A wait is longer by a microsecond for so many looks, which take less than a quarter of that: looks
-/// in vain then take no large part of a processor, however many processes there are.
+/// A wait is longer by a microsecond for so many looks. These take a fraction of that, so looks in
+/// vain take no large part of a processor, however many processes there are.
 const LOOKS_A_MICROSECOND: u32 = 8;
 
 /// How long a thread has found nothing to do.

@@ -8,13 +8,13 @@ ghost use Rattle.fm_meaning.specs.Resolved.{RoundSource, Quality};
 ghost use Rattle.fm_places.specs.Found.{depths_view, IsWithin, OpensBlock};
 
 /// How many warps lie inside one another at most.
-pub const MAX_WARPS: u32 = 8;
+pub const MAX_WARPS: u16 = 8;
 
 /// How many loops and lists lie inside one another at most.
-pub const MAX_FRAMES: u32 = 16;
+pub const MAX_FRAMES: u16 = 16;
 
 /// How many blocks of any kind lie inside one another at most.
-pub const MAX_BLOCKS: u32 = 64;
+pub const MAX_BLOCKS: u16 = 64;
 
 /// What is open: whether a choice or a rhythm is, and how many loops, warps, loops and lists, and
 /// blocks.
@@ -22,10 +22,10 @@ pub const MAX_BLOCKS: u32 = 64;
 pub(crate) struct Depths {
     pub(crate) in_choice: bool,
     pub(crate) in_rhythm: bool,
-    pub(crate) loops: u32,
-    pub(crate) warps: u32,
-    pub(crate) frames: u32,
-    pub(crate) blocks: u32,
+    pub(crate) loops: u16,
+    pub(crate) warps: u16,
+    pub(crate) frames: u16,
+    pub(crate) blocks: u16,
 }
 
 /// Nothing is open.

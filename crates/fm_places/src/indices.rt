@@ -12,11 +12,11 @@ use fm_program::{Count, Draw};
 use fm_value::Node;
 
 // For a node.
-fn loops_of_node(node: Node) -> u32
+fn loops_of_node(node: Node) -> u16
     ensures { (l : ℕ) → nat_lt l result ≡ is_outside l node }
 {
     match node {
-        Node::Index(index) => u32::from(index) + 1,
+        Node::Index(index) => u16::from(index) + 1,
         Node::Literal(_)
         | Node::Register(_)
         | Node::Negate
@@ -34,7 +34,7 @@ fn loops_of_node(node: Node) -> u32
 }
 
 // For an expression.
-fn loops_of_nodes(nodes: &[Node]) -> u32
+fn loops_of_nodes(nodes: &[Node]) -> u16
     ensures { (l : ℕ) → nat_lt l result ≡ has_outside l nodes.now }
 {
     let mut loops = 0;
@@ -45,7 +45,7 @@ fn loops_of_nodes(nodes: &[Node]) -> u32
 }
 
 /// For an expression by its index in the table.
-pub(crate) fn loops_of_expr(tables: &Tables, expr: u32) -> u32
+pub(crate) fn loops_of_expr(tables: &Tables, expr: u32) -> u16
     ensures { (l : ℕ) → nat_lt l result ≡ has_outside l (expr_in (tables_view tables.now) expr) }
 {
     match tables.exprs.get(expr as usize) {
@@ -55,7 +55,7 @@ pub(crate) fn loops_of_expr(tables: &Tables, expr: u32) -> u32
 }
 
 /// For a number of a message.
-pub(crate) fn loops_of_draw(tables: &Tables, draw: Draw) -> u32
+pub(crate) fn loops_of_draw(tables: &Tables, draw: Draw) -> u16
     ensures { (l : ℕ) → nat_lt l result
         ≡ draw_outside l (source_of (tables_view tables.now) draw) }
 {
@@ -66,7 +66,7 @@ pub(crate) fn loops_of_draw(tables: &Tables, draw: Draw) -> u32
 }
 
 // For the pitches of a note.
-fn loops_of_draws(tables: &Tables, draws: &[Draw]) -> u32
+fn loops_of_draws(tables: &Tables, draws: &[Draw]) -> u16
     ensures { (l : ℕ) → nat_lt l result
         ≡ list_any (draw_outside l) (map (source_of (tables_view tables.now)) draws.now) }
 {
@@ -78,7 +78,7 @@ fn loops_of_draws(tables: &Tables, draws: &[Draw]) -> u32
 }
 
 // For a chord by its index in the table.
-fn loops_of_chord(tables: &Tables, chord: u32) -> u32
+fn loops_of_chord(tables: &Tables, chord: u32) -> u16
     ensures { (l : ℕ) → nat_lt l result ≡ list_any (draw_outside l)
         (map (source_of (tables_view tables.now)) (chord_in (tables_view tables.now) chord)) }
 {
@@ -89,7 +89,7 @@ fn loops_of_chord(tables: &Tables, chord: u32) -> u32
 }
 
 /// For a duration.
-pub(crate) fn loops_of_lasting(tables: &Tables, lasting: Lasting) -> u32
+pub(crate) fn loops_of_lasting(tables: &Tables, lasting: Lasting) -> u16
     ensures { (l : ℕ) → nat_lt l result
         ≡ span_outside l (length_of (tables_view tables.now) (lasting_view lasting)) }
 {
@@ -100,7 +100,7 @@ pub(crate) fn loops_of_lasting(tables: &Tables, lasting: Lasting) -> u32
 }
 
 /// For a note.
-pub(crate) fn loops_of_note(tables: &Tables, chord: u32, lasting: Lasting) -> u32
+pub(crate) fn loops_of_note(tables: &Tables, chord: u32, lasting: Lasting) -> u16
     ensures { (l : ℕ) → nat_lt l result ≡ (list_any (draw_outside l)
         (map (source_of (tables_view tables.now)) (chord_in (tables_view tables.now) chord))
         || span_outside l (length_of (tables_view tables.now) (lasting_view lasting))) }
@@ -109,7 +109,7 @@ pub(crate) fn loops_of_note(tables: &Tables, chord: u32, lasting: Lasting) -> u3
 }
 
 /// For a count.
-pub(crate) fn loops_of_count(tables: &Tables, count: Count) -> u32
+pub(crate) fn loops_of_count(tables: &Tables, count: Count) -> u16
     ensures { (l : ℕ) → nat_lt l result
         ≡ count_outside l (rounds_of (tables_view tables.now) count) }
 {

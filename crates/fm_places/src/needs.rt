@@ -17,13 +17,13 @@ pub(crate) struct Needs {
     /// A duration of the rhythm is asked for outside each rhythm of theirs.
     pub(crate) rhythm: bool,
     /// How many loops have to be open for each index that is asked for.
-    pub(crate) loops: u32,
+    pub(crate) loops: u16,
     /// How many warps of theirs lie inside one another, up to one more than there may be.
-    pub(crate) warps: u32,
+    pub(crate) warps: u16,
     /// How many loops and lists, up to one more than there may be.
-    pub(crate) frames: u32,
+    pub(crate) frames: u16,
     /// How many blocks of any kind, up to one more than there may be.
-    pub(crate) blocks: u32,
+    pub(crate) blocks: u16,
 }
 
 /// Nothing is asked.
@@ -42,7 +42,7 @@ pub(crate) fn no_needs() -> Needs
 }
 
 /// A rhythm, and so many open loops.
-pub(crate) fn asks(rhythm: bool, loops: u32) -> Needs
+pub(crate) fn asks(rhythm: bool, loops: u16) -> Needs
     ensures { result ≡ asks_for rhythm loops }
 {
     Needs {
@@ -78,7 +78,7 @@ pub(crate) fn both(a: Needs, b: Needs) -> Needs
 }
 
 // So many levels more, up to one more than there may be.
-fn deeper(most: u32, levels: u32, more: u32) -> u32
+fn deeper(most: u16, levels: u16, more: u16) -> u16
     requires { most < 100 }
     ensures { result ≡ min (most + 1) (levels + more) }
 {

@@ -78,6 +78,7 @@ fn brought_in(needs: Needs) -> Needs
 
 // What is found of a statement where so much is open.
 #[cycle(found)]
+#[inline(never)]
 fn look_at(tables: &Tables, phrases: &[Needs], step: &Step, depths: Depths) -> Found
     ensures { (look : Look) → KnowsNeeds (tables_view tables.now) phrases.now look →
         FindsFirst (place_faults step.now.spot
