@@ -21,17 +21,28 @@ flag_named id = record (new_rule id) { long = Some id; action = Some SetTrue }
 abbrev pub bare_command : App
 bare_command = on_top (λ s. record s { no_binary_name = true; disable_help_flag = true }) (new_app (codes "formula"))
 
--- two texts, eight options and five flags
-unfoldable pub command : App
-command = with_rule (with_rule (with_rule (with_rule (with_rule (with_rule (with_rule (with_rule
-    (with_rule (with_rule (with_rule (with_rule (with_rule (with_rule (with_rule bare_command
+-- the two texts, and with how many threads, which lead and which room they are played
+abbrev pub with_playing : App → App
+with_playing a = with_rule (with_rule (with_rule (with_rule (with_rule a
     (text_named (codes "IN"))) (text_named (codes "OUT")))
-    (option_named (codes "workers"))) (option_named (codes "lead"))) (option_named (codes "room")))
+    (option_named (codes "workers"))) (option_named (codes "lead"))) (option_named (codes "room"))
+
+-- a large score, rounds, and what is made of a file
+abbrev pub with_files : App → App
+with_files a = with_rule (with_rule (with_rule (with_rule a
     (option_named (codes "generate"))) (flag_named (codes "rounds")))
-    (flag_named (codes "list"))) (flag_named (codes "parts")))
+    (flag_named (codes "list"))) (flag_named (codes "parts"))
+
+-- a tick that is located, an excerpt, and records
+abbrev pub with_questions : App → App
+with_questions a = with_rule (with_rule (with_rule (with_rule (with_rule (with_rule a
     (option_named (codes "locate"))) (option_named (codes "process")))
     (option_named (codes "from"))) (option_named (codes "to")))
     (flag_named (codes "record"))) (flag_named (codes "audit"))
+
+-- two texts, eight options and five flags
+unfoldable pub command : App
+command = with_questions (with_files (with_playing bare_command))
 
 -- an option of a table
 abbrev pub option_of : Choice → Rule

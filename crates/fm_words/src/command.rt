@@ -2,24 +2,49 @@
 ghost use Rattle.std.specs.Prelude.{◌≡◌, IfOk, false};
 ghost use Rattle.clap.specs.Words.{app_of, rule_of};
 ghost use Rattle.fm_words.specs.Command.{bare_command, command, flag_named, option_named, text_named};
+ghost use Rattle.fm_words.specs.Command.{with_playing, with_files, with_questions};
 
 use clap::{Arg, ArgAction, Command};
 use std::alloc::{AllocError, Global};
 
+#[tactic(auto, unfolding(crate::specs::Command::command))]
 /// The command: two texts, eight options with a value, and five flags; no help and no version.
 pub fn formula_command<'a>(alloc: Global) -> Result<Command<'a>, AllocError>
     ensures { IfOk result (λ c. app_of c ≡ command) }
 {
-    bare(alloc)
+    let command = with_playing(alloc, bare(alloc))?;
+    let command = with_files(alloc, command)?;
+    with_questions(alloc, command)
+}
+
+// With the two texts, and what says how they are played.
+fn with_playing<'a>(alloc: Global, command: Command<'a>) -> Result<Command<'a>, AllocError>
+    ensures { IfOk result (λ c. app_of c ≡ with_playing (app_of command.entry)) }
+{
+    command
         .arg(text(alloc, "IN"))?
         .arg(text(alloc, "OUT"))?
         .arg(option(alloc, "workers"))?
         .arg(option(alloc, "lead"))?
-        .arg(option(alloc, "room"))?
+        .arg(option(alloc, "room"))
+}
+
+// With a large score, rounds, and what is made of a file.
+fn with_files<'a>(alloc: Global, command: Command<'a>) -> Result<Command<'a>, AllocError>
+    ensures { IfOk result (λ c. app_of c ≡ with_files (app_of command.entry)) }
+{
+    command
         .arg(option(alloc, "generate"))?
         .arg(flag(alloc, "rounds"))?
         .arg(flag(alloc, "list"))?
-        .arg(flag(alloc, "parts"))?
+        .arg(flag(alloc, "parts"))
+}
+
+// With a tick that is located, an excerpt, and records.
+fn with_questions<'a>(alloc: Global, command: Command<'a>) -> Result<Command<'a>, AllocError>
+    ensures { IfOk result (λ c. app_of c ≡ with_questions (app_of command.entry)) }
+{
+    command
         .arg(option(alloc, "locate"))?
         .arg(option(alloc, "process"))?
         .arg(option(alloc, "from"))?
