@@ -89,6 +89,7 @@ fn weigh_phrase(phrases: &[Sums], number: Option<u32>) -> Sums
 
 /// What a statement adds at most.
 #[cycle(weigh)]
+#[inline(never)]
 pub(crate) fn weigh_step(tables: &Tables, phrases: &[Sums], longest: u64, step: &Step) -> Sums
     ensures { (n : ℕ) (look : Look) → longest ≡ capped n →
         KnowsWeights (tables_view tables.now) phrases.now n look →

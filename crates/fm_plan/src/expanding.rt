@@ -45,6 +45,7 @@ fn written_rounds(count: Count) -> u32
 // A statement, which may name the phrases before it. It is written out where `forking` says that it
 // may fork.
 #[cycle(expand)]
+#[inline(never)]
 fn expand_step(
     m: &mut Emitter,
     earlier: Earlier<'_>,
