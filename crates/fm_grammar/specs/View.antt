@@ -29,12 +29,12 @@ expr_view e = record { nodes = e.nodes.items; spots = e.spots.items }
 -- a duration
 abbrev pub duration_view : code_duration.Duration → Duration
 duration_view (durations.Fixed l) = tree.fixed l
-duration_view (durations.Computed e most) = tree.Duration.computed (expr_view e) most
+duration_view (durations.Computed e most) = tree.Duration.computed (expr_view e.value) most
 
 -- an amount
 abbrev pub amount_view : code_amount.Amount → Amount
 amount_view (amounts.Literal v s) = tree.literal v s
-amount_view (amounts.Computed e) = tree.Amount.computed (expr_view e)
+amount_view (amounts.Computed e) = tree.Amount.computed (expr_view e.value)
 
 -- a pitch
 abbrev pub pitch_view : code_pitch.Pitch → Pitch
@@ -65,10 +65,10 @@ what_level What-F.Skip = tree.skip
 what_level (What-F.Control c a) = tree.control c (amount_view a)
 what_level (What-F.Program a) = tree.program (amount_view a)
 what_level (What-F.Bend a) = tree.bend (amount_view a)
-what_level (What-F.Set r e) = tree.set r (expr_view e)
-what_level (What-F.If e ys ns) = tree.choice (expr_view e) (body_of ys.items) (body_of ns.items)
+what_level (What-F.Set r e) = tree.set r (expr_view e.value)
+what_level (What-F.If e ys ns) = tree.choice (expr_view e.value) (body_of ys.items) (body_of ns.items)
 what_level (What-F.Repeat n b) = tree.repeat n (body_of b.items)
-what_level (What-F.Again e n b) = tree.again (expr_view e) n (body_of b.items)
+what_level (What-F.Again e n b) = tree.again (expr_view e.value) n (body_of b.items)
 what_level (What-F.Do n) = tree.call (name_view n)
 what_level (What-F.Par bs) = tree.par (branches_of (map (λ b. body_of b.items) bs.items))
 what_level (What-F.Warp n b) = tree.warp (name_view n) (body_of b.items)

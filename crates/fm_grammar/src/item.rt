@@ -44,10 +44,10 @@ pub enum What<'s> {
     },
     Set {
         register: u8,
-        value: Expr,
+        value: Box<Expr>,
     },
     If {
-        test: Expr,
+        test: Box<Expr>,
         yes: Vec<Item<'s>>,
         no: Vec<Item<'s>>,
     },
@@ -56,7 +56,7 @@ pub enum What<'s> {
         body: Vec<Item<'s>>,
     },
     Again {
-        count: Expr,
+        count: Box<Expr>,
         most: Number,
         body: Vec<Item<'s>>,
     },

@@ -2,6 +2,7 @@
 use Rattle.std.proofs.Common.{◌≡◌, ℕ, List, [], ◌∷◌, map, rules, refl, ap, ap₂, ◌∙◌}
 use Rattle.std.specs.Prelude.{Vec}
 use Rattle.std.specs.declared.alloc.Global.{Global}
+use Rattle.std.specs.Global.{Box}
 use Rattle.fm_lex.specs.declared.spot.Spot.{Spot}
 use Rattle.fm_value.specs.declared.expr.Expr.{Expr}
 use Rattle.fm_grammar.specs.declared.number.Number.{Number}
@@ -89,17 +90,17 @@ pub bend_view : (s : Spot) (a : code_amount.Amount) (x : tree.Amount) → amount
     → seen s (code.Bend a) ≡ placed s (tree.bend x)
 bend_view s a x p = bend_seen s a ∙ ap (λ (v : tree.Amount). placed s (tree.bend v)) p
 
-set_seen : (s : Spot) (a : ℕ) (b : Expr)
-    → seen s (code.Set a b) ≡ placed s (tree.set a (expr_view b))
+set_seen : (s : Spot) (a : ℕ) (b : Box Expr)
+    → seen s (code.Set a b) ≡ placed s (tree.set a (expr_view b.value))
 set_seen s a b = search (rules, the_lemmas)
 
 -- the setting of a register
-pub set_view : (s : Spot) (a : ℕ) (b : Expr) (x : ℕ) (y : Postfix) → a ≡ x → expr_view b ≡ y
+pub set_view : (s : Spot) (a : ℕ) (b : Box Expr) (x : ℕ) (y : Postfix) → a ≡ x → expr_view b.value ≡ y
     → seen s (code.Set a b) ≡ placed s (tree.set x y)
 set_view s a b x y p q = set_seen s a b ∙ ap₂ (λ (v : ℕ) (w : Postfix). placed s (tree.set v w)) p q
 
-pub choice_seen : (s : Spot) (a : Expr) (b : Vec Item Global) (c : Vec Item Global)
-    → seen s (code.If a b c) ≡ placed s (tree.choice (expr_view a) (items_view b.items) (items_view c.items))
+pub choice_seen : (s : Spot) (a : Box Expr) (b : Vec Item Global) (c : Vec Item Global)
+    → seen s (code.If a b c) ≡ placed s (tree.choice (expr_view a.value) (items_view b.items) (items_view c.items))
 choice_seen s a b c = search (rules, the_lemmas)
 
 -- a choice
@@ -120,13 +121,13 @@ pub repeat_view : (s : Spot) (a : Number) (b : Vec Item Global)
 repeat_view s a b x y p q =
     repeat_seen s a b ∙ ap₂ (λ (v : Number) (w : Body). placed s (tree.repeat v w)) p q
 
-again_seen : (s : Spot) (a : Expr) (b : Number) (c : Vec Item Global)
-    → seen s (code.Again a b c) ≡ placed s (tree.again (expr_view a) b (items_view c.items))
+again_seen : (s : Spot) (a : Box Expr) (b : Number) (c : Vec Item Global)
+    → seen s (code.Again a b c) ≡ placed s (tree.again (expr_view a.value) b (items_view c.items))
 again_seen s a b c = search (rules, the_lemmas)
 
 -- a loop with a drawn count
-pub again_view : (s : Spot) (a : Expr) (b : Number) (c : Vec Item Global)
-    (x : Postfix) (y : Number) (z : Body) → expr_view a ≡ x → b ≡ y → items_view c.items ≡ z
+pub again_view : (s : Spot) (a : Box Expr) (b : Number) (c : Vec Item Global)
+    (x : Postfix) (y : Number) (z : Body) → expr_view a.value ≡ x → b ≡ y → items_view c.items ≡ z
     → seen s (code.Again a b c) ≡ placed s (tree.again x y z)
 again_view s a b c x y z p q r =
     again_seen s a b c

@@ -19,7 +19,7 @@ use crate::simple::read_plain;
 use crate::words::{braces_of, ends_with_block, starter_of};
 use fm_grammar::{Item, What};
 use fm_lex::{Keyword, Kind, Spot};
-use fm_terms::{ParseFault, Reader, check_limit, expect, push, read_expr};
+use fm_terms::{ParseFault, Reader, check_limit, expect, push, read_boxed};
 use fm_value::Expr;
 use std::alloc::Global;
 
@@ -35,9 +35,14 @@ const BRANCH: Kind = Kind::Keyword(Keyword::Branch);
 const ELSE: Kind = Kind::Keyword(Keyword::Else);
 
 // A choice between two blocks.
-fn choice_of<'s>(spot: Spot, test: Expr, taken: Vec<Item<'s>>, other: Vec<Item<'s>>) -> Item<'s>
+fn choice_of<'s>(
+    spot: Spot,
+    test: Box<Expr>,
+    taken: Vec<Item<'s>>,
+    other: Vec<Item<'s>>,
+) -> Item<'s>
     ensures { item_view result ≡ placed spot
-        (choice (expr_view test) (items_view taken.entry.items) (items_view other.entry.items)) }
+        (choice (expr_view test.value) (items_view taken.entry.items) (items_view other.entry.items)) }
 {
     Item {
         spot,
@@ -98,7 +103,7 @@ fn read_if<'s>(alloc: Global, r: &mut Reader<'s>, depth: u32) -> Result<Item<'s>
     ensures follows { FollowsIn depth (stmt_syms If) result r.old r.new }
 {
     let spot = expect(r, Kind::Keyword(Keyword::If))?;
-    let test = read_expr(alloc, r)?;
+    let test = read_boxed(alloc, r)?;
     let taken = read_block(alloc, r, depth)?;
     let other = read_else(alloc, r, depth)?;
     Ok(choice_of(spot, test, taken, other))

@@ -12,7 +12,7 @@ use crate::sorts::Sent;
 use fm_grammar::{Item, What};
 use fm_lex::{Keyword, Kind};
 use fm_terms::{
-    ParseFault, Reader, expect, read_amount, read_duration, read_expr, read_name, read_number,
+    ParseFault, Reader, expect, read_amount, read_boxed, read_duration, read_name, read_number,
     read_pitches, read_register,
 };
 use std::alloc::Global;
@@ -101,7 +101,7 @@ fn read_set<'s>(alloc: Global, r: &mut Reader<'s>) -> Result<Item<'s>, ParseFaul
     let spot = expect(r, Kind::Keyword(Keyword::Set))?;
     let register = read_register(r)?;
     expect(r, EQUALS)?;
-    let value = read_expr(alloc, r)?;
+    let value = read_boxed(alloc, r)?;
     expect(r, SEMICOLON)?;
     let what = What::Set { register, value };
     Ok(Item { spot, what })

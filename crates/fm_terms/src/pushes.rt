@@ -1,12 +1,13 @@
-//! Pushing onto the lists of a tree.
+//! Storing what a tree is made of.
 
-ghost use Rattle.std.specs.Prelude.{◌≡◌, [], ◌∷◌, ◌++◌, OnOk, IfErr};
+ghost use Rattle.std.specs.Prelude.{◌≡◌, [], ◌∷◌, ◌++◌, IfOk, OnOk, IfErr};
 ghost use Rattle.fm_grammar.specs.View.{expr_view};
 ghost use Rattle.fm_terms.specs.Drafts.{spotted, extended};
 
 use crate::fault::ParseFault;
 use fm_lex::Spot;
 use fm_value::{Expr, Node, Spot2};
+use std::alloc::Global;
 
 /// Puts an item at the end of a list. The first one takes room for itself alone, since most lists
 /// of a score have one entry.
@@ -37,4 +38,15 @@ pub fn push_node(draft: &mut Expr, node: Node, spot: Spot) -> Result<(), ParseFa
             column: spot.column,
         },
     )
+}
+
+/// Puts an expression behind a box.
+pub fn boxed(alloc: Global, expr: Expr) -> Result<Box<Expr>, ParseFault>
+    ensures ok { IfOk result (λ b. b.value ≡ expr) }
+    ensures memory { IfErr result (λ e. e ≡ ParseFault.Memory) }
+{
+    match Box::new(alloc, expr) {
+        Ok(value) => Ok(value),
+        Err(_) => Err(ParseFault::Memory),
+    }
 }

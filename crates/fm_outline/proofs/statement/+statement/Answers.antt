@@ -93,8 +93,8 @@ outline_item-returns-in_ok-outline_send-in-Bend-clause-ok t c = λ k look knows.
 pub outline_item-returns-in_ok-outline_set-in-Set-clause-ok :
     goal.outline_item-returns-in_ok-outline_set-in-Set-clause-ok
 outline_item-returns-in_ok-outline_set-in-Set-clause-ok t c = λ k look knows.
-    let seen : (item_view c.args.item.now).what ≡ tree.set c.in-Set.register (expr_view c.in-Set.value)
-    = search (rules, the_lemmas) in
+    let seen : (item_view c.args.item.now).what ≡ tree.set c.in-Set.register (expr_view c.deref-in-Set.result.now)
+    = search (rules, the_lemmas, c.deref-in-Set.ensures) in
     (leaf_clean k seen knows.whole refl c.requires, rw seen (c.in_ok-outline_set-in-Set.ensures k look))
 
 -- ---- statements with blocks
@@ -102,32 +102,32 @@ outline_item-returns-in_ok-outline_set-in-Set-clause-ok t c = λ k look knows.
 pub outline_item-returns-in_err-yes-in-If-clause-refused :
     goal.outline_item-returns-in_err-yes-in-If-clause-refused
 outline_item-returns-in_err-yes-in-If-clause-refused t c = λ why spot is k look knows.
-    let e = expr_view c.in-If.test in
-    let a = c.deref-in-If.result.now in
+    let e = expr_view c.deref-in-If.result.now in
+    let a = c.deref-in-If-2.result.now in
     let b = c.in-If.no.items in
     let seen : (item_view c.args.item.now).what ≡ tree.choice e (items_view a) (items_view b)
-    = search (rules, the_lemmas, c.deref-in-If.ensures.value) in
+    = search (rules, the_lemmas, c.deref-in-If.ensures, c.deref-in-If-2.ensures.value) in
     first_block c.args.known.now.whole k e (items_view a) (items_view b) (fault_at spot why) seen c.requires
     (c.in_err-yes-in-If.ensures.refused why spot (handed is c.from_residual-in_err-yes-in-If.ensures.1) k look knows)
 
 pub outline_item-returns-in_err-no-in-If-clause-refused :
     goal.outline_item-returns-in_err-no-in-If-clause-refused
 outline_item-returns-in_err-no-in-If-clause-refused t c = λ why spot is k look knows.
-    let e = expr_view c.in-If.test in
-    let a = c.deref-in-If.result.now in
-    let b = c.deref-in-If-2.result.now in
+    let e = expr_view c.deref-in-If.result.now in
+    let a = c.deref-in-If-2.result.now in
+    let b = c.deref-in-If-3.result.now in
     let seen : (item_view c.args.item.now).what ≡ tree.choice e (items_view a) (items_view b)
-    = search (rules, the_lemmas, c.deref-in-If.ensures.value, c.deref-in-If-2.ensures.value) in
+    = search (rules, the_lemmas, c.deref-in-If.ensures, c.deref-in-If-2.ensures.value, c.deref-in-If-3.ensures.value) in
     second_block c.args.known.now.whole k e (items_view a) (items_view b) seen c.requires (c.in_ok-yes-in-If.ensures.ok k look knows).0
     ∙ (c.in_err-no-in-If.ensures.refused why spot (handed is c.from_residual-in_err-no-in-If.ensures.1) k look knows)
 
 pub outline_item-returns-in_ok-no-in-If-clause-ok : goal.outline_item-returns-in_ok-no-in-If-clause-ok
 outline_item-returns-in_ok-no-in-If-clause-ok t c = λ k look knows.
-    let e = expr_view c.in-If.test in
-    let a = c.deref-in-If.result.now in
-    let b = c.deref-in-If-2.result.now in
+    let e = expr_view c.deref-in-If.result.now in
+    let a = c.deref-in-If-2.result.now in
+    let b = c.deref-in-If-3.result.now in
     let seen : (item_view c.args.item.now).what ≡ tree.choice e (items_view a) (items_view b)
-    = search (rules, the_lemmas, c.deref-in-If.ensures.value, c.deref-in-If-2.ensures.value) in
+    = search (rules, the_lemmas, c.deref-in-If.ensures, c.deref-in-If-2.ensures.value, c.deref-in-If-3.ensures.value) in
     let inside = c.in_ok-no-in-If.ensures.ok k look knows in (
       second_block c.args.known.now.whole k e (items_view a) (items_view b) seen c.requires
           (c.in_ok-yes-in-If.ensures.ok k look knows).0 ∙ inside.0,
@@ -164,21 +164,21 @@ outline_item-returns-in_ok-body-in-Repeat-clause-ok t c = λ k look knows.
 pub outline_item-returns-in_err-body-in-Again-clause-refused :
     goal.outline_item-returns-in_err-body-in-Again-clause-refused
 outline_item-returns-in_err-body-in-Again-clause-refused t c = λ why spot is k look knows.
-    let b = c.deref-in-Again.result.now in
-    let e = c.in-Again.count in
+    let b = c.deref-in-Again-2.result.now in
+    let e = c.deref-in-Again.result.now in
     let n = c.in-Again.most in
     let seen : (item_view c.args.item.now).what ≡ tree.again (expr_view e) n (items_view b)
-    = search (rules, the_lemmas, c.deref-in-Again.ensures.value) in
+    = search (rules, the_lemmas, c.deref-in-Again.ensures, c.deref-in-Again-2.ensures.value) in
     behind_own k (body_faults (names_of k) (items_view b)) seen knows.whole refl c.requires
     ∙ (c.in_err-body-in-Again.ensures.refused why spot (handed is c.from_residual-in_err-body-in-Again.ensures.1) k look knows)
 
 pub outline_item-returns-in_ok-body-in-Again-clause-ok : goal.outline_item-returns-in_ok-body-in-Again-clause-ok
 outline_item-returns-in_ok-body-in-Again-clause-ok t c = λ k look knows.
-    let b = c.deref-in-Again.result.now in
-    let e = c.in-Again.count in
+    let b = c.deref-in-Again-2.result.now in
+    let e = c.deref-in-Again.result.now in
     let n = c.in-Again.most in
     let seen : (item_view c.args.item.now).what ≡ tree.again (expr_view e) n (items_view b)
-    = search (rules, the_lemmas, c.deref-in-Again.ensures.value) in
+    = search (rules, the_lemmas, c.deref-in-Again.ensures, c.deref-in-Again-2.ensures.value) in
     let inside = c.in_ok-body-in-Again.ensures.ok k look knows in (
       behind_own k (body_faults (names_of k) (items_view b)) seen knows.whole refl c.requires ∙ inside.0,
       rw (seen, loop_seen look (count.Drawn c.in_ok-expr-in-Again.expr n.value) c.in_ok-body-in-Again.body)
