@@ -17,8 +17,6 @@ mod operations;
 mod pending;
 mod places;
 mod player;
-#[cfg(test)]
-mod tests;
 mod timeline;
 
 pub use answers::Stepped;

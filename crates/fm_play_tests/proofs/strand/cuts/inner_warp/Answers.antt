@@ -1,0 +1,15 @@
+use Rattle.std.proofs.Common.{List, [], ◌∷◌, ◌++◌, ap, ◌∙◌}
+use Rattle.std.proofs.Math.Nat.{le-add_right}
+use Rattle.fm_tick.specs.declared.stretch.Stretch.{Stretch}
+use Rattle.fm_warp.specs.declared.part.Part.{Part}
+use Rattle.fm_warp.specs.declared.part.Part.TheVariants as part
+use Rattle.fm_strand.proofs.RichRows.{stretch-is}
+use Rattle.fm_play_tests.proofs.strand.cuts.inner_warp.Goals as goal
+
+pub returns : goal.returns
+returns c =
+    c.in_ok-push-2.ensures.ok
+    ∙ ap (λ (ps : List Part). ps ++ part.Flat 300 c.stretch.result ∷ [])
+    (c.in_ok-push.ensures.ok ∙ ap (λ (ps : List Part). ps ++ part.Pause 10 ∷ []) c.new-warp.ensures)
+    ∙ ap (λ (s : Stretch). part.Pause 10 ∷ part.Flat 300 s ∷ [])
+    (stretch-is c.stretch.result 500 c.stretch.ensures (le-add_right 1 499) (le-add_right 500 999500))

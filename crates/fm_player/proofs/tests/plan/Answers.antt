@@ -1,7 +1,0 @@
--- The plan of one note fits.
-use Rattle.std.proofs.Common.{rules}
-use Rattle.fm_program.proofs.Rows.{note_fits_as}
-use Rattle.fm_player.proofs.tests.plan.Goals as goal
-
-pub of-requires : goal.of-requires
-of-requires c = note_fits_as _ (search rules)

@@ -1,7 +1,0 @@
-use Rattle.fm_strand.proofs.RingRows.{ring_of}
-use Rattle.fm_strand.proofs.tests.overlaps.plan.Goals as goal
-
-pub of-requires : goal.of-requires
-of-requires c =
-    ring_of c.in_ok-stock.stock c.in_ok-programs.programs.items c.in_ok-program.program c.first.result c.in_ok-stock.ensures
-    c.in_ok-programs.ensures.items c.in_ok-program.ensures c.first.ensures
