@@ -16,8 +16,6 @@ mod release;
 mod rounds;
 mod run;
 mod slot;
-#[cfg(test)]
-mod tests;
 mod watch;
 
 pub use fm_play::Played;

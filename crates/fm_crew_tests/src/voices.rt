@@ -1,25 +1,14 @@
-//! Three voices that start together and end at different times, played by crews of several sizes.
-ghost use Rattle.std.specs.Prelude.{◌≡◌, ◌≤◌, ◌<◌, [], ◌∷◌, IfOk, pos};
-ghost use Rattle.fm_buffer.specs.declared.outbox.TheConstants.{MAX_ROOM};
-ghost use Rattle.fm_core.specs.declared.limits.TheConstants.{MAX_LEAD, MAX_SEATS};
+//! Three voices that start together and end at different times: their plan and its file.
+ghost use Rattle.std.specs.Prelude.{◌≡◌, [], ◌∷◌, IfOk, pos};
 ghost use Rattle.fm_program.specs.Parts.{program_parts, stock_parts};
 ghost use Rattle.fm_program.specs.declared.op.Draw.TheVariants as draw;
 
-mod bounded;
-mod taped;
-
-use crate::{open, play};
-use fm_edge::{MemorySink, OpenGate};
 use fm_msg::Profile;
 use fm_program::{Draw, Op, Plan, Program, Scopes, Span, Stock, Turn};
 use std::alloc::{AllocError, Global};
-use std::process::Abort;
-use std::sync::Wait;
-use std::test::*;
-use std::thread::Threads;
 
 /// The file: three note-ons at 0, note-offs at 216, 432 and 864, the end at 960.
-const FILE: [u8; 60] = [
+pub const FILE: [u8; 60] = [
     0x4D, 0x54, 0x68, 0x64, 0, 0, 0, 6, 0, 0, 0, 1, 1, 0xE0, 0x4D, 0x54, 0x72, 0x6B, 0, 0, 0, 0x26,
     0, 0xFF, 0x51, 3, 7, 0xA1, 0x20, 0, 0x90, 0x3C, 0x40, 0, 0x90, 0x40, 0x40, 0, 0x90, 0x43, 0x40,
     0x81, 0x58, 0x80, 0x40, 0x40, 0x81, 0x58, 0x80, 0x3C, 0x40, 0x83, 0x30, 0x80, 0x43, 0x40, 0x60,
@@ -110,7 +99,7 @@ fn voice(alloc: Global, note: Op) -> Result<Program, AllocError>
 }
 
 // Three voices between two empty processes.
-fn plan_of_three_voices(alloc: Global) -> Result<Plan, AllocError> {
+pub fn plan_of_three_voices(alloc: Global) -> Result<Plan, AllocError> {
     let root = behind(alloc, Vec::new(alloc), Vec::new(alloc));
     let quarter = voice(alloc, QUARTER)?;
     let eighth = voice(alloc, EIGHTH)?;
@@ -119,46 +108,4 @@ fn plan_of_three_voices(alloc: Global) -> Result<Plan, AllocError> {
     let programs = vec![in alloc; root, quarter, eighth, half, close]?;
     let stock = three_chords(alloc)?;
     Ok(Plan::of(stock, programs, 0, Profile::first()))
-}
-
-// Plays the plan with such a crew, and compares the file.
-fn plays<R: Abort + AllocGlobal + Threads + Wait + Sync>(
-    rt: &R,
-    workers: u32,
-    room: u32,
-    lead: u64,
-) -> Result<(), Fail>
-    requires room { (1 ≤ room) × (room ≤ MAX_ROOM) }
-    requires lead { lead ≤ MAX_LEAD }
-    requires workers { workers < MAX_SEATS }
-{
-    let alloc = rt.alloc();
-    let mut sink = MemorySink::new(alloc, 100, Vec::new(alloc))?;
-    let plan = plan_of_three_voices(alloc)?;
-    let (board, mut seat, others, mut gather) = open(alloc, plan, room, lead, workers)?;
-    let played = play(
-        rt,
-        &board,
-        &mut seat,
-        others,
-        &mut gather,
-        &OpenGate,
-        &mut sink,
-    );
-    assert_eq!(rt;
-        played.ok().map(|p| (p.events, p.last, p.bytes)),
-        Some((6, 960, 60))
-    );
-    assert_eq!(rt; sink.content(), FILE.as_slice());
-    Ok(())
-}
-
-#[test]
-fn crews_of_every_size_write_the_same_file(rt: HostRuntime) -> Result<(), Fail> {
-    plays(&rt, 0, 1, 0)?;
-    plays(&rt, 0, 64, 7_680)?;
-    plays(&rt, 1, 1, 0)?;
-    plays(&rt, 1, 64, 7_680)?;
-    plays(&rt, 4, 1, 7_680)?;
-    plays(&rt, 4, 64, 0)
 }

@@ -2,7 +2,7 @@ use Rattle.std.proofs.Common.{refl, subst}
 use Rattle.fm_program.specs.Parts.{PlanParts}
 use Rattle.fm_strand.specs.Strand.{MakesQuantum}
 use Rattle.fm_board.proofs.Advancing.{makes}
-use Rattle.fm_board.proofs.tests.plays.Goals as goal
+use Rattle.fm_crew_tests.proofs.board.plays.Goals as goal
 
 pub give_back-requires-clause-made : goal.give_back-requires-clause-made
 give_back-requires-clause-made g c =

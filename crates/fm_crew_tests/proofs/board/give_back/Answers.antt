@@ -3,7 +3,7 @@ use Rattle.fm_board.specs.Calls.{MayGive}
 use Rattle.fm_board.specs.Seats.{Sight}
 use Rattle.fm_board.specs.declared.view.View.{View}
 use Rattle.fm_board.proofs.Advancing.{gives_recorded}
-use Rattle.fm_board.proofs.tests.give_back.Goals as goal
+use Rattle.fm_crew_tests.proofs.board.give_back.Goals as goal
 
 pub give-requires-clause-may : goal.give-requires-clause-may
 give-requires-clause-may c =

@@ -7,7 +7,7 @@ ghost use Rattle.fm_core.specs.declared.floor.Floor.TheVariants.{At};
 ghost use Rattle.fm_core.specs.declared.tag.Tag.TheVariants.{Ended};
 
 use super::{claims, opened_with, plan_of_a_note, plays, sees};
-use crate::{Board, BoardSeat, Claim, Seen};
+use fm_board::{Board, BoardSeat, Claim, Seen};
 use fm_buffer::Gather;
 use fm_core::{Floor, Tag};
 use fm_strand::Quantum;

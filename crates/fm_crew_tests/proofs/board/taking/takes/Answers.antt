@@ -1,7 +1,7 @@
 use Rattle.std.proofs.Common.{ap}
 use Rattle.fm_board.specs.Seats.{Sight}
 use Rattle.fm_board.proofs.Taking.{gathers_due, gives_due}
-use Rattle.fm_board.proofs.tests.taking.takes.Goals as goal
+use Rattle.fm_crew_tests.proofs.board.taking.takes.Goals as goal
 
 pub give-requires-clause-may : goal.give-requires-clause-may
 give-requires-clause-may g c =

@@ -6,7 +6,7 @@ ghost use Rattle.fm_core.specs.declared.floor.Floor.TheVariants.{At};
 ghost use Rattle.fm_board.specs.Seats.{IsIdle};
 
 use super::{claims, opened, plan_of_a_note, plays, sees};
-use crate::{Board, BoardSeat, Claim, Sweep};
+use fm_board::{Board, BoardSeat, Claim, Sweep};
 use fm_core::{Floor, Tag};
 use fm_strand::Quantum;
 use std::process::Abort;

@@ -12,7 +12,7 @@ mod births;
 mod floors;
 mod taking;
 
-use crate::{Berth, Board, BoardSeat, Claim, Seen};
+use fm_board::{Berth, Board, BoardSeat, Claim, Seen};
 use fm_core::Tag;
 use fm_msg::Profile;
 use fm_program::{Draw, Op, Plan, Program, Scopes, Span, Stock, Turn};

@@ -1,114 +1,14 @@
 //! Three voices between two empty processes: one seat ends the first process, and then both start
 //! a voice, the same one.
-ghost use Rattle.std.specs.Prelude.{◌≡◌, [], ◌∷◌, IfOk, pos};
 ghost use Rattle.fm_board.specs.Seats.{IsIdle};
-ghost use Rattle.fm_program.specs.Parts.{program_parts, stock_parts};
-ghost use Rattle.fm_program.specs.declared.op.Draw.TheVariants as draw;
 
 use super::{claims, is_busy, opened, plays, sees};
-use crate::{Board, BoardSeat, Claim, Recalled, Started};
+use crate::voices::plan_of_three_voices;
+use fm_board::{Board, BoardSeat, Claim, Recalled, Started};
 use fm_core::Tag;
-use fm_msg::Profile;
-use fm_program::{Draw, Op, Plan, Program, Scopes, Span, Stock, Turn};
 use fm_strand::Quantum;
-use std::alloc::{AllocError, Global};
 use std::process::Abort;
 use std::test::*;
-
-/// A quarter note of the first chord.
-const QUARTER: Op = Op::Note {
-    chord: 0,
-    span: Span::Ticks { ticks: 480 },
-    channel: 0,
-    gate: Turn::Steady { value: 90 },
-    loud: Turn::Steady { value: 64 },
-    scope: 0,
-};
-
-/// An eighth note of the second one.
-const EIGHTH: Op = Op::Note {
-    chord: 1,
-    span: Span::Ticks { ticks: 240 },
-    channel: 0,
-    gate: Turn::Steady { value: 90 },
-    loud: Turn::Steady { value: 64 },
-    scope: 0,
-};
-
-/// A half note of the third one.
-const HALF: Op = Op::Note {
-    chord: 2,
-    span: Span::Ticks { ticks: 960 },
-    channel: 0,
-    gate: Turn::Steady { value: 90 },
-    loud: Turn::Steady { value: 64 },
-    scope: 0,
-};
-
-// Three chords of one key each.
-fn three_chords(alloc: Global) -> Result<Stock, AllocError>
-    ensures { IfOk result (λ s. stock_parts s ≡ record {
-      exprs = [];
-      lists = [];
-      chords = (draw.Fixed (pos 60) ∷ []) ∷ (draw.Fixed (pos 64) ∷ [])
-          ∷ (draw.Fixed (pos 67) ∷ []) ∷ [];
-      scopes = [] ∷ [];
-      warps = [];
-    }) }
-{
-    let first = vec![in alloc; Draw::Fixed { value: 60 }]?;
-    let second = vec![in alloc; Draw::Fixed { value: 64 }]?;
-    let third = vec![in alloc; Draw::Fixed { value: 67 }]?;
-    Ok(Stock {
-        exprs: Vec::new(alloc),
-        lists: Vec::new(alloc),
-        chords: vec![in alloc; first, second, third]?,
-        scopes: Scopes::new(alloc),
-        warps: Vec::new(alloc),
-    })
-}
-
-// These operations behind these processes.
-fn behind(alloc: Global, predecessors: Vec<u32>, ops: Vec<Op>) -> Program
-    ensures { program_parts result ≡ record {
-      ops = ops.items;
-      cycles = [];
-      levels = [];
-      predecessors = predecessors.items;
-    } }
-{
-    Program {
-        ops,
-        cycles: Vec::new(alloc),
-        levels: Vec::new(alloc),
-        predecessors,
-    }
-}
-
-// A note behind process 0.
-fn voice(alloc: Global, note: Op) -> Result<Program, AllocError>
-    ensures { IfOk result (λ p. program_parts p ≡ record {
-      ops = note ∷ [];
-      cycles = [];
-      levels = [];
-      predecessors = 0 ∷ [];
-    }) }
-{
-    let ops = vec![in alloc; note]?;
-    Ok(behind(alloc, vec![in alloc; 0]?, ops))
-}
-
-// Three voices between two empty processes.
-fn plan_of_three_voices(alloc: Global) -> Result<Plan, AllocError> {
-    let root = behind(alloc, Vec::new(alloc), Vec::new(alloc));
-    let quarter = voice(alloc, QUARTER)?;
-    let eighth = voice(alloc, EIGHTH)?;
-    let half = voice(alloc, HALF)?;
-    let close = behind(alloc, vec![in alloc; 1, 2, 3]?, Vec::new(alloc));
-    let programs = vec![in alloc; root, quarter, eighth, half, close]?;
-    let stock = three_chords(alloc)?;
-    Ok(Plan::of(stock, programs, 0, Profile::first()))
-}
 
 // A start that finds this predecessor not at its end, with this word.
 fn is_not_yet<R: Abort>(

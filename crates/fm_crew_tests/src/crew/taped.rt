@@ -3,9 +3,9 @@ ghost use Rattle.std.specs.Prelude.{◌≤◌, ◌<◌};
 ghost use Rattle.fm_buffer.specs.declared.outbox.TheConstants.{MAX_ROOM};
 ghost use Rattle.fm_core.specs.declared.limits.TheConstants.{MAX_LEAD, MAX_SEATS};
 
-use super::{FILE, plan_of_three_voices};
-use crate::{open, play_taped};
+use crate::voices::{FILE, plan_of_three_voices};
 use fm_core::Step;
+use fm_crew::{open, play_taped};
 use fm_edge::{MemorySink, OpenGate};
 use fm_record::{Tape, read_step};
 use std::process::Abort;

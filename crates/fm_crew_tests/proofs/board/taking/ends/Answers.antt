@@ -1,6 +1,6 @@
 use Rattle.std.proofs.Common.{◌∙◌}
 use Rattle.fm_board.proofs.Taking.{runs_to_lead}
-use Rattle.fm_board.proofs.tests.taking.ends.Goals as goal
+use Rattle.fm_crew_tests.proofs.board.taking.ends.Goals as goal
 
 pub plays-requires-clause-may : goal.plays-requires-clause-may
 plays-requires-clause-may g c =

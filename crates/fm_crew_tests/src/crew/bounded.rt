@@ -6,19 +6,19 @@ ghost use Rattle.std.specs.Thread.{IsSync};
 ghost use Rattle.fm_crew.specs.Conduct.{IsConductor};
 ghost use Rattle.fm_crew.specs.Workers.{AreWorkers, IsWorker};
 
-use super::{FILE, plan_of_three_voices};
-use crate::playing::work_all;
-use crate::{Calls, Work, conduct, open, worker};
+use crate::voices::{FILE, plan_of_three_voices};
 use fm_board::{Berth, Board, BoardSeat, Claim, Seen, Started};
 use fm_buffer::Gather;
 use fm_core::Floor;
+use fm_crew::{Calls, Work, conduct, open, worker};
 use fm_edge::{Gate, MemorySink, Moment, OpenGate};
 use fm_strand::Plan;
+use std::alloc::AllocError;
 use std::process::Abort;
 use std::sync::Wait;
 use std::sync::atomic::{AtomicU64, Ordering};
 use std::test::*;
-use std::thread::{Threads, join_mut, yield_now};
+use std::thread::{Threads, join, map_vec, yield_now};
 
 /// A board, and how many more calls may be made on it.
 #[derive(Drop)]
@@ -147,36 +147,53 @@ fn watch(board: &Board, gate: &CountingGate, seat: &mut BoardSeat)
     board.halt(seat);
 }
 
+// Lets each of the seats work, each in a thread of its own where one can be made.
+fn work_all<R: Threads + Wait + Sync>(
+    rt: &R,
+    board: &Board,
+    gate: &CountingGate,
+    others: Vec<BoardSeat>,
+) -> Result<Vec<BoardSeat>, AllocError>
+    requires { AreWorkers board.now.table.shared.table_id board.now.about others.items }
+{
+    let work = |one: BoardSeat| -> BoardSeat
+        requires { IsWorker board.now.table.shared.table_id board.now.about one }
+    { worker(rt, board, one, gate) };
+    map_vec(rt, others, &work)
+}
+
 // Lets the workers work until one of them began a time slice.
 fn work_watched<R: Abort + Threads + Wait + Sync>(
     rt: &R,
     board: &Board,
     gate: &CountingGate,
     seat: &mut BoardSeat,
-    others: &mut [BoardSeat],
-)
+    others: Vec<BoardSeat>,
+) -> Result<(), AllocError>
     requires conductor { IsConductor board.now.table.shared.table_id board.now.about seat.old }
-    requires workers { AreWorkers board.now.table.shared.table_id board.now.about others.old }
+    requires workers { AreWorkers board.now.table.shared.table_id board.now.about others.items }
 {
-    let mut work = ||
+    let work = move || -> Result<Vec<BoardSeat>, AllocError>
         requires { IsSync R.row
-            × AreWorkers board.now.table.shared.table_id board.now.about others.now }
+            × AreWorkers board.now.table.shared.table_id board.now.about others.items }
     { work_all(rt, board, gate, others) };
-    let mut watching = ||
+    let watching = ||
         requires { IsConductor board.now.table.shared.table_id board.now.about seat.now }
     { watch(board, gate, seat) };
-    join_mut(rt, &mut work, &mut watching);
+    let (worked, ()) = join(rt, work, watching);
+    worked?;
+    Ok(())
 }
 
 #[test]
 fn workers_run_what_they_find(rt: HostRuntime) -> Result<(), Fail> {
     let alloc = rt.alloc();
     let plan = plan_of_three_voices(alloc)?;
-    let (board, mut seat, mut others, _) = open(alloc, plan, 1, 0, 2)?;
+    let (board, mut seat, others, _) = open(alloc, plan, 1, 0, 2)?;
     let gate = CountingGate {
         begun: AtomicU64::new(0),
     };
-    work_watched(&rt, &board, &gate, &mut seat, others.as_mut_slice());
+    work_watched(&rt, &board, &gate, &mut seat, others)?;
     assert!(&rt;
         gate.begun.load(Ordering::SeqCst) > 0,
         "no worker ran a process"
