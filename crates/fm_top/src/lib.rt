@@ -27,8 +27,6 @@ mod status;
 mod taping;
 mod task;
 mod tell;
-#[cfg(test)]
-mod tests;
 mod told;
 mod top;
 

@@ -13,8 +13,6 @@ mod command;
 mod laws;
 mod limits;
 mod options;
-#[cfg(test)]
-mod tests;
 mod words_fault;
 
 pub use laws::{tables_obey_rules, words_obey_rules};

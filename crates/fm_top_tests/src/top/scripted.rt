@@ -1,8 +1,8 @@
 //! Small scores played by a conductor and one worker, whose time slices begin in the order that a
 //! script says.
 use super::{CAPACITY, sum_of, words_of};
-use crate::formula;
 use fm_edge::{Gate, MemorySink, Moment, SureSource};
+use fm_top::formula;
 use std::alloc::{AllocError, Global};
 use std::hint::spin_loop;
 use std::process::Abort;

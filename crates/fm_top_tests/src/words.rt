@@ -1,4 +1,6 @@
-use super::*;
+//! Lines of words: what each asks for, and which are refused.
+
+use fm_words::{WordsFault, names, read_options};
 use std::alloc::{AllocError, Global};
 use std::test::Fail;
 

@@ -1,3 +1,4 @@
+//! Runs of the whole command, and what each leaves.
 ghost use Rattle.std.specs.Prelude.{◌≡◌, [], IfOk};
 
 mod breaks;
@@ -10,8 +11,8 @@ mod tasks;
 mod texts;
 mod ways;
 
-use super::*;
 use fm_edge::{Gate, MemorySink, MemorySource, OpenGate};
+use fm_top::formula;
 use std::alloc::{AllocError, Global};
 use std::process::Abort;
 use std::sync::Wait;

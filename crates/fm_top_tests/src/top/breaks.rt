@@ -4,8 +4,8 @@
 use super::{
     CAPACITY, FILES, NOTE, QUARTER, Ran, SOUND, check_left, file_with, memory_of, run_on, words_of,
 };
-use crate::formula;
 use fm_edge::{MemorySource, OpenGate};
+use fm_top::formula;
 use std::alloc::{AllocError, Global};
 use std::process::Abort;
 use std::sync::Wait;

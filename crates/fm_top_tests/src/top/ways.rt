@@ -2,9 +2,11 @@
 
 use super::tasks::MANY_PROCESSES;
 use super::{CAPACITY, FILES, NOTE, SOUND, THREE_BRANCHES, repeated, run_on, sum_of};
-use crate::run_fault::RunFault;
-use crate::score::read_score;
-use fm_edge::{MemorySink, SureSource};
+use fm_check::{Checked, check_outline};
+use fm_edge::MemorySink;
+use fm_lex::MAX_TEXT;
+use fm_parse::parse;
+use fm_plan::plan_outline;
 use fm_program::Plan;
 use fm_round::Rounds;
 use std::alloc::{AllocError, Global};
@@ -148,12 +150,17 @@ const TOTALS: &[(&[u8], Totals)] = &[
 
 type Totals = (u32, u64, u64, u64);
 
-fn plan_of(alloc: Global, text: &[u8]) -> Result<Plan, RunFault> {
-    let mut source = SureSource::new(text.to_vec(alloc)?);
-    read_score(alloc, None, &mut source)
+// The plan of an accepted text, made by the calls of which the command is put together.
+fn plan_of(alloc: Global, text: &[u8]) -> Result<Plan, Fail> {
+    if text.len() > MAX_TEXT {
+        return Err(Fail::from("too much text"));
+    }
+    let score = parse(alloc, text)?;
+    let Checked { outline, bounds } = check_outline(alloc, &score)?;
+    Ok(plan_outline(alloc, outline, &bounds)?)
 }
 
-fn copy_of(alloc: Global, text: &[u8]) -> Result<Plan, RunFault> {
+fn copy_of(alloc: Global, text: &[u8]) -> Result<Plan, Fail> {
     let plan = plan_of(alloc, text)?;
     Ok(plan.copy(alloc)?)
 }
@@ -186,7 +193,7 @@ fn check_plans<R: Abort + Threads + Wait + Sync>(
     alloc: Global,
     text: &[u8],
     totals: Totals,
-) -> Result<(), RunFault> {
+) -> Result<(), Fail> {
     let ran = run_on(rt, alloc, FILES, text, SOUND)?;
     let file = ran.sink.content();
     check_plan(rt, alloc, plan_of(alloc, text)?, totals, file)?;
