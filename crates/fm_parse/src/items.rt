@@ -191,6 +191,7 @@ fn read_worded<'s>(
 
 /// Reads a statement with this word.
 #[cycle(item)]
+#[inline(always)]
 pub fn read_statement<'s>(
     alloc: Global,
     r: &mut Reader<'s>,

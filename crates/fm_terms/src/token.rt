@@ -30,6 +30,7 @@ pub fn check_limit(r: &Reader, needed: u32, most: u32) -> Result<(), ParseFault>
 }
 
 /// Takes the token of a kind, and answers its spot.
+#[inline(always)]
 pub fn expect(r: &mut Reader, kind: Kind) -> Result<Spot, ParseFault>
     requires { IsMark kind }
     ensures text { IfOk result (λ s. Marked kind s r.old r.new) }
