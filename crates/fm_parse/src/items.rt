@@ -42,7 +42,8 @@ fn choice_of<'s>(
     other: Vec<Item<'s>>,
 ) -> Item<'s>
     ensures { item_view result ≡ placed spot
-        (choice (expr_view test.value) (items_view taken.entry.items) (items_view other.entry.items)) }
+        (choice (expr_view test.value) (items_view taken.entry.items)
+        (items_view other.entry.items)) }
 {
     Item {
         spot,
