@@ -31,6 +31,7 @@ use std::alloc::Global;
 /// A statement whose own numbers have no fault, or the first fault of its name and of what stands
 /// inside.
 #[cycle(statement)]
+#[inline(always)]
 pub(crate) fn outline_item(
     alloc: Global,
     item: &Item,

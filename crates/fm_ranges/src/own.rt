@@ -28,6 +28,7 @@ pub const LEAST_BEND: i64 = -8_192;
 pub const MAX_BEND: i64 = 8_191;
 
 /// The first fault of the numbers of a statement itself, where a whole note has `whole` ticks.
+#[inline(always)]
 pub fn check_own(item: &Item, whole: u32) -> Result<(), Fault>
     ensures { found result ≡ first_found (own_faults whole (item_view item.now).what) }
 {
