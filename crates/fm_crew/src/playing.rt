@@ -22,7 +22,8 @@ use std::sync::Wait;
 use std::thread::{Threads, join_mut};
 
 /// Plays the board's plan into a new sink, in the plan's profile: a worker for each of the other
-/// seats, where a thread can be made for it, and the conductor on this thread. No memory is taken.
+/// seats, where a thread can be made for it, and the conductor on this thread. A plan of one process
+/// has nothing to run beside it, so the conductor plays it alone. No memory is taken.
 pub fn play<R: Threads + Wait + Sync, B: Calls + Sync, G: Gate + Sync, K: Sink>(
     rt: &R,
     board: &B,
@@ -46,6 +47,9 @@ pub fn play<R: Threads + Wait + Sync, B: Calls + Sync, G: Gate + Sync, K: Sink>(
         seat.new) }
     ensures halted { OnErr result (seat.new.mind.view.halted ≡ true) }
 {
+    if board.plan().processes() < 2 {
+        return conduct(rt, board, seat, gather, gate, sink);
+    }
     play_beside(rt, board, seat, others.as_mut_slice(), gather, gate, sink)
 }
 
