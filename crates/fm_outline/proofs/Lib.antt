@@ -3,6 +3,7 @@ pub mod RefusalLemmas
 pub mod NameLemmas
 pub mod InsideLemmas
 pub mod SeenLemmas
+pub mod ItemLemmas
 pub mod GrowingLemmas
 pub mod KeyLemmas
 pub mod PhraseLemmas

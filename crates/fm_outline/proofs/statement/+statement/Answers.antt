@@ -1,6 +1,6 @@
 use Rattle.std.proofs.Common.{◌≡◌, ◌+◌, [], refl, rules, map, drop, ap, sym, ◌∙◌, drop_of_length-le, arith, Vec, Global}
 use Rattle.fm_program.specs.declared.op.Count.TheVariants as count
-use Rattle.fm_grammar.specs.declared.item.Item.{Item, the_lemmas}
+use Rattle.fm_grammar.specs.declared.item.Item.{Item}
 use Rattle.fm_grammar.specs.declared.number.Number.{Number}
 use Rattle.fm_grammar.specs.Score as tree
 use Rattle.fm_grammar.specs.View.{amount_view, expr_view, duration_view, items_view, item_view, pitch_view, name_view, branches_of}
@@ -18,6 +18,7 @@ use Rattle.fm_outline.specs.Knows.{names_of, shape_index}
 use Rattle.fm_outline.specs.View.{tables_view, block_view, step_view}
 use Rattle.fm_outline.specs.Growing.{followed, joined_behind}
 use Rattle.fm_outline.specs.declared.step.Step.{Step}
+use Rattle.fm_outline.proofs.ItemLemmas.{note_what, play_what, rest_what, control_what, program_what, bend_what, set_what, choice_what, repeat_what, again_what, par_what, warp_what, channel_what, volume_what, gate_what, rhythm_what, artic_what, loud_what}
 use Rattle.fm_outline.proofs.InsideLemmas.{own_clean, own_told, leaf_clean, behind_own, first_block, second_block, under_known}
 use Rattle.fm_outline.proofs.RefusalLemmas.{handed, before, behind, failed}
 use Rattle.fm_outline.proofs.NameLemmas.{number_of}
@@ -33,7 +34,7 @@ outline_item-outline_note-requires-clause-pitches t c =
     let ps = map pitch_view c.deref.result.now in
     let d = duration_view c.in-Note.duration in
     let seen : (item_view c.args.item.now).what ≡ tree.note ps d
-    = search (rules, the_lemmas, c.deref.ensures.value) in
+    = note_what c.args.item.now c.in-Note.pitches c.in-Note.duration c.deref.result.now c.in-Note.is c.deref.ensures.value in
     none_first (pitches_faults ps) (duration_faults c.args.known.now.whole d) (own_clean c.args.known.now.whole seen c.requires)
 
 pub outline_item-outline_note-requires-clause-duration :
@@ -42,7 +43,7 @@ outline_item-outline_note-requires-clause-duration t c =
     let ps = map pitch_view c.deref.result.now in
     let d = duration_view c.in-Note.duration in
     let seen : (item_view c.args.item.now).what ≡ tree.note ps d
-    = search (rules, the_lemmas, c.deref.ensures.value) in
+    = note_what c.args.item.now c.in-Note.pitches c.in-Note.duration c.deref.result.now c.in-Note.is c.deref.ensures.value in
     none_second (pitches_faults ps) (duration_faults c.args.known.now.whole d) (own_clean c.args.known.now.whole seen c.requires)
 
 pub outline_item-returns-in_ok-outline_note-in-Note-clause-ok :
@@ -51,7 +52,7 @@ outline_item-returns-in_ok-outline_note-in-Note-clause-ok t c = λ k look knows.
     let ps = map pitch_view c.deref.result.now in
     let d = duration_view c.in-Note.duration in
     let seen : (item_view c.args.item.now).what ≡ tree.note ps d
-    = search (rules, the_lemmas, c.deref.ensures.value) in
+    = note_what c.args.item.now c.in-Note.pitches c.in-Note.duration c.deref.result.now c.in-Note.is c.deref.ensures.value in
     (leaf_clean k seen knows.whole refl c.requires, rw (seen, knows.whole) (c.in_ok-outline_note-in-Note.ensures look))
 
 pub outline_item-returns-in_ok-outline_play-in-Play-clause-ok :
@@ -59,42 +60,42 @@ pub outline_item-returns-in_ok-outline_play-in-Play-clause-ok :
 outline_item-returns-in_ok-outline_play-in-Play-clause-ok t c = λ k look knows.
     let ps = c.deref-in-Play.result.now in
     let seen : (item_view c.args.item.now).what ≡ tree.play (map pitch_view ps)
-    = search (rules, the_lemmas, c.deref-in-Play.ensures.value) in
+    = play_what c.args.item.now c.in-Play.pitches ps c.in-Play.is c.deref-in-Play.ensures.value in
     (leaf_clean k seen knows.whole refl c.requires, rw seen (c.in_ok-outline_play-in-Play.ensures look))
 
 pub outline_item-returns-in_ok-outline_rest-in-Rest-clause-ok :
     goal.outline_item-returns-in_ok-outline_rest-in-Rest-clause-ok
 outline_item-returns-in_ok-outline_rest-in-Rest-clause-ok t c = λ k look knows.
     let seen : (item_view c.args.item.now).what ≡ tree.rest (duration_view c.in-Rest.duration)
-    = search (rules, the_lemmas) in
+    = rest_what c.args.item.now c.in-Rest.duration c.in-Rest.is in
     (leaf_clean k seen knows.whole refl c.requires, rw seen (c.in_ok-outline_rest-in-Rest.ensures k look knows.whole))
 
 pub outline_item-returns-in_ok-outline_control-in-Control-clause-ok :
     goal.outline_item-returns-in_ok-outline_control-in-Control-clause-ok
 outline_item-returns-in_ok-outline_control-in-Control-clause-ok t c = λ k look knows.
     let seen : (item_view c.args.item.now).what ≡ tree.control c.in-Control.controller (amount_view c.in-Control.amount)
-    = search (rules, the_lemmas) in
+    = control_what c.args.item.now c.in-Control.controller c.in-Control.amount c.in-Control.is in
     (leaf_clean k seen knows.whole refl c.requires, rw seen (c.in_ok-outline_control-in-Control.ensures k look))
 
 pub outline_item-returns-in_ok-outline_send-in-Program-clause-ok :
     goal.outline_item-returns-in_ok-outline_send-in-Program-clause-ok
 outline_item-returns-in_ok-outline_send-in-Program-clause-ok t c = λ k look knows.
     let seen : (item_view c.args.item.now).what ≡ tree.program (amount_view c.in-Program.amount)
-    = search (rules, the_lemmas) in
+    = program_what c.args.item.now c.in-Program.amount c.in-Program.is in
     (leaf_clean k seen knows.whole refl c.requires, rw seen (c.in_ok-outline_send-in-Program.ensures look))
 
 pub outline_item-returns-in_ok-outline_send-in-Bend-clause-ok :
     goal.outline_item-returns-in_ok-outline_send-in-Bend-clause-ok
 outline_item-returns-in_ok-outline_send-in-Bend-clause-ok t c = λ k look knows.
     let seen : (item_view c.args.item.now).what ≡ tree.bend (amount_view c.in-Bend.amount)
-    = search (rules, the_lemmas) in
+    = bend_what c.args.item.now c.in-Bend.amount c.in-Bend.is in
     (leaf_clean k seen knows.whole refl c.requires, rw seen (c.in_ok-outline_send-in-Bend.ensures look))
 
 pub outline_item-returns-in_ok-outline_set-in-Set-clause-ok :
     goal.outline_item-returns-in_ok-outline_set-in-Set-clause-ok
 outline_item-returns-in_ok-outline_set-in-Set-clause-ok t c = λ k look knows.
     let seen : (item_view c.args.item.now).what ≡ tree.set c.in-Set.register (expr_view c.deref-in-Set.result.now)
-    = search (rules, the_lemmas, c.deref-in-Set.ensures) in
+    = set_what c.args.item.now c.in-Set.register c.in-Set.value c.deref-in-Set.result.now c.in-Set.is c.deref-in-Set.ensures in
     (leaf_clean k seen knows.whole refl c.requires, rw seen (c.in_ok-outline_set-in-Set.ensures k look))
 
 -- ---- statements with blocks
@@ -106,7 +107,8 @@ outline_item-returns-in_err-yes-in-If-clause-refused t c = λ why spot is k look
     let a = c.deref-in-If-2.result.now in
     let b = c.in-If.no.items in
     let seen : (item_view c.args.item.now).what ≡ tree.choice e (items_view a) (items_view b)
-    = search (rules, the_lemmas, c.deref-in-If.ensures, c.deref-in-If-2.ensures.value) in
+    = choice_what c.args.item.now c.in-If.test c.in-If.yes c.in-If.no c.deref-in-If.result.now a b c.in-If.is c.deref-in-If.ensures
+    c.deref-in-If-2.ensures.value refl in
     first_block c.args.known.now.whole k e (items_view a) (items_view b) (fault_at spot why) seen c.requires
     (c.in_err-yes-in-If.ensures.refused why spot (handed is c.from_residual-in_err-yes-in-If.ensures.1) k look knows)
 
@@ -117,7 +119,8 @@ outline_item-returns-in_err-no-in-If-clause-refused t c = λ why spot is k look 
     let a = c.deref-in-If-2.result.now in
     let b = c.deref-in-If-3.result.now in
     let seen : (item_view c.args.item.now).what ≡ tree.choice e (items_view a) (items_view b)
-    = search (rules, the_lemmas, c.deref-in-If.ensures, c.deref-in-If-2.ensures.value, c.deref-in-If-3.ensures.value) in
+    = choice_what c.args.item.now c.in-If.test c.in-If.yes c.in-If.no c.deref-in-If.result.now a b c.in-If.is c.deref-in-If.ensures
+    c.deref-in-If-2.ensures.value c.deref-in-If-3.ensures.value in
     second_block c.args.known.now.whole k e (items_view a) (items_view b) seen c.requires (c.in_ok-yes-in-If.ensures.ok k look knows).0
     ∙ (c.in_err-no-in-If.ensures.refused why spot (handed is c.from_residual-in_err-no-in-If.ensures.1) k look knows)
 
@@ -127,7 +130,8 @@ outline_item-returns-in_ok-no-in-If-clause-ok t c = λ k look knows.
     let a = c.deref-in-If-2.result.now in
     let b = c.deref-in-If-3.result.now in
     let seen : (item_view c.args.item.now).what ≡ tree.choice e (items_view a) (items_view b)
-    = search (rules, the_lemmas, c.deref-in-If.ensures, c.deref-in-If-2.ensures.value, c.deref-in-If-3.ensures.value) in
+    = choice_what c.args.item.now c.in-If.test c.in-If.yes c.in-If.no c.deref-in-If.result.now a b c.in-If.is c.deref-in-If.ensures
+    c.deref-in-If-2.ensures.value c.deref-in-If-3.ensures.value in
     let inside = c.in_ok-no-in-If.ensures.ok k look knows in (
       second_block c.args.known.now.whole k e (items_view a) (items_view b) seen c.requires
           (c.in_ok-yes-in-If.ensures.ok k look knows).0 ∙ inside.0,
@@ -145,7 +149,7 @@ outline_item-returns-in_err-body-in-Repeat-clause-refused t c = λ why spot is k
     let b = c.deref-in-Repeat.result.now in
     let n = c.in-Repeat.count in
     let seen : (item_view c.args.item.now).what ≡ tree.repeat n (items_view b)
-    = search (rules, the_lemmas, c.deref-in-Repeat.ensures.value) in
+    = repeat_what c.args.item.now n c.in-Repeat.body b c.in-Repeat.is c.deref-in-Repeat.ensures.value in
     behind_own k (body_faults (names_of k) (items_view b)) seen knows.whole refl c.requires
     ∙ (c.in_err-body-in-Repeat.ensures.refused why spot (handed is c.from_residual-in_err-body-in-Repeat.ensures.1) k look knows)
 
@@ -154,7 +158,7 @@ outline_item-returns-in_ok-body-in-Repeat-clause-ok t c = λ k look knows.
     let b = c.deref-in-Repeat.result.now in
     let n = c.in-Repeat.count in
     let seen : (item_view c.args.item.now).what ≡ tree.repeat n (items_view b)
-    = search (rules, the_lemmas, c.deref-in-Repeat.ensures.value) in
+    = repeat_what c.args.item.now n c.in-Repeat.body b c.in-Repeat.is c.deref-in-Repeat.ensures.value in
     let inside = c.in_ok-body-in-Repeat.ensures.ok k look knows in (
       behind_own k (body_faults (names_of k) (items_view b)) seen knows.whole refl c.requires ∙ inside.0,
       rw (seen, loop_seen look (count.Fixed c.in-Repeat.count.value) c.in_ok-body-in-Repeat.body)
@@ -168,7 +172,7 @@ outline_item-returns-in_err-body-in-Again-clause-refused t c = λ why spot is k 
     let e = c.deref-in-Again.result.now in
     let n = c.in-Again.most in
     let seen : (item_view c.args.item.now).what ≡ tree.again (expr_view e) n (items_view b)
-    = search (rules, the_lemmas, c.deref-in-Again.ensures, c.deref-in-Again-2.ensures.value) in
+    = again_what c.args.item.now c.in-Again.count n c.in-Again.body e b c.in-Again.is c.deref-in-Again.ensures c.deref-in-Again-2.ensures.value in
     behind_own k (body_faults (names_of k) (items_view b)) seen knows.whole refl c.requires
     ∙ (c.in_err-body-in-Again.ensures.refused why spot (handed is c.from_residual-in_err-body-in-Again.ensures.1) k look knows)
 
@@ -178,7 +182,7 @@ outline_item-returns-in_ok-body-in-Again-clause-ok t c = λ k look knows.
     let e = c.deref-in-Again.result.now in
     let n = c.in-Again.most in
     let seen : (item_view c.args.item.now).what ≡ tree.again (expr_view e) n (items_view b)
-    = search (rules, the_lemmas, c.deref-in-Again.ensures, c.deref-in-Again-2.ensures.value) in
+    = again_what c.args.item.now c.in-Again.count n c.in-Again.body e b c.in-Again.is c.deref-in-Again.ensures c.deref-in-Again-2.ensures.value in
     let inside = c.in_ok-body-in-Again.ensures.ok k look knows in (
       behind_own k (body_faults (names_of k) (items_view b)) seen knows.whole refl c.requires ∙ inside.0,
       rw (seen, loop_seen look (count.Drawn c.in_ok-expr-in-Again.expr n.value) c.in_ok-body-in-Again.body)
@@ -194,7 +198,7 @@ outline_item-returns-in_err-body-in-Warp-clause-refused t c = λ why spot is k l
     let b = c.deref-in-Warp.result.now in
     let name = name_view c.in-Warp.name in
     let seen : (item_view c.args.item.now).what ≡ tree.warp name (items_view b)
-    = search (rules, the_lemmas, c.deref-in-Warp.ensures.value) in
+    = warp_what c.args.item.now c.in-Warp.name c.in-Warp.body b c.in-Warp.is c.deref-in-Warp.ensures.value in
     under_known k name (items_view b) (shape_index (named c.args.known.now.names name.text))
     c.in_ok-number-in-Warp.number seen (knows.is_shape name.text) c.in_ok-number-in-Warp.ensures
     ∙ (c.in_err-body-in-Warp.ensures.refused why spot (handed is c.from_residual-in_err-body-in-Warp.ensures.1) k look knows)
@@ -204,7 +208,7 @@ outline_item-returns-in_ok-body-in-Warp-clause-ok t c = λ k look knows.
     let b = c.deref-in-Warp.result.now in
     let name = name_view c.in-Warp.name in
     let seen : (item_view c.args.item.now).what ≡ tree.warp name (items_view b)
-    = search (rules, the_lemmas, c.deref-in-Warp.ensures.value) in
+    = warp_what c.args.item.now c.in-Warp.name c.in-Warp.body b c.in-Warp.is c.deref-in-Warp.ensures.value in
     let inside = c.in_ok-body-in-Warp.ensures.ok k look knows in (
       under_known k name (items_view b) (shape_index (named c.args.known.now.names name.text))
           c.in_ok-number-in-Warp.number seen (knows.is_shape name.text) c.in_ok-number-in-Warp.ensures ∙ inside.0,
@@ -223,7 +227,7 @@ outline_item-returns-in_err-body-in-Channel-clause-refused t c = λ why spot is 
     let b = c.deref-in-Channel.result.now in
     let n = c.in-Channel.number in
     let seen : (item_view c.args.item.now).what ≡ tree.channel n (items_view b)
-    = search (rules, the_lemmas, c.deref-in-Channel.ensures.value) in
+    = channel_what c.args.item.now n c.in-Channel.body b c.in-Channel.is c.deref-in-Channel.ensures.value in
     behind_own k (body_faults (names_of k) (items_view b)) seen knows.whole refl c.requires
     ∙ (c.in_err-body-in-Channel.ensures.refused why spot (handed is c.from_residual-in_err-body-in-Channel.ensures.1) k look knows)
 
@@ -232,7 +236,7 @@ outline_item-returns-in_ok-body-in-Channel-clause-ok t c = λ k look knows.
     let b = c.deref-in-Channel.result.now in
     let n = c.in-Channel.number in
     let seen : (item_view c.args.item.now).what ≡ tree.channel n (items_view b)
-    = search (rules, the_lemmas, c.deref-in-Channel.ensures.value) in
+    = channel_what c.args.item.now n c.in-Channel.body b c.in-Channel.is c.deref-in-Channel.ensures.value in
     let inside = c.in_ok-body-in-Channel.ensures.ok k look knows in (
       behind_own k (body_faults (names_of k) (items_view b)) seen knows.whole refl c.requires ∙ inside.0,
       rw (seen, channel_seen look n.value c.in_ok-body-in-Channel.body)
@@ -245,7 +249,7 @@ outline_item-returns-in_err-body-in-Volume-clause-refused t c = λ why spot is k
     let b = c.deref-in-Volume.result.now in
     let n = c.in-Volume.number in
     let seen : (item_view c.args.item.now).what ≡ tree.volume n (items_view b)
-    = search (rules, the_lemmas, c.deref-in-Volume.ensures.value) in
+    = volume_what c.args.item.now n c.in-Volume.body b c.in-Volume.is c.deref-in-Volume.ensures.value in
     behind_own k (body_faults (names_of k) (items_view b)) seen knows.whole refl c.requires
     ∙ (c.in_err-body-in-Volume.ensures.refused why spot (handed is c.from_residual-in_err-body-in-Volume.ensures.1) k look knows)
 
@@ -254,7 +258,7 @@ outline_item-returns-in_ok-body-in-Volume-clause-ok t c = λ k look knows.
     let b = c.deref-in-Volume.result.now in
     let n = c.in-Volume.number in
     let seen : (item_view c.args.item.now).what ≡ tree.volume n (items_view b)
-    = search (rules, the_lemmas, c.deref-in-Volume.ensures.value) in
+    = volume_what c.args.item.now n c.in-Volume.body b c.in-Volume.is c.deref-in-Volume.ensures.value in
     let inside = c.in_ok-body-in-Volume.ensures.ok k look knows in (
       behind_own k (body_faults (names_of k) (items_view b)) seen knows.whole refl c.requires ∙ inside.0,
       rw (seen, steady_seen look _ n.value c.in_ok-body-in-Volume.body)
@@ -267,7 +271,7 @@ outline_item-returns-in_err-body-in-Gate-clause-refused t c = λ why spot is k l
     let b = c.deref-in-Gate.result.now in
     let n = c.in-Gate.number in
     let seen : (item_view c.args.item.now).what ≡ tree.gate n (items_view b)
-    = search (rules, the_lemmas, c.deref-in-Gate.ensures.value) in
+    = gate_what c.args.item.now n c.in-Gate.body b c.in-Gate.is c.deref-in-Gate.ensures.value in
     behind_own k (body_faults (names_of k) (items_view b)) seen knows.whole refl c.requires
     ∙ (c.in_err-body-in-Gate.ensures.refused why spot (handed is c.from_residual-in_err-body-in-Gate.ensures.1) k look knows)
 
@@ -276,7 +280,7 @@ outline_item-returns-in_ok-body-in-Gate-clause-ok t c = λ k look knows.
     let b = c.deref-in-Gate.result.now in
     let n = c.in-Gate.number in
     let seen : (item_view c.args.item.now).what ≡ tree.gate n (items_view b)
-    = search (rules, the_lemmas, c.deref-in-Gate.ensures.value) in
+    = gate_what c.args.item.now n c.in-Gate.body b c.in-Gate.is c.deref-in-Gate.ensures.value in
     let inside = c.in_ok-body-in-Gate.ensures.ok k look knows in (
       behind_own k (body_faults (names_of k) (items_view b)) seen knows.whole refl c.requires ∙ inside.0,
       rw (seen, steady_seen look _ n.value c.in_ok-body-in-Gate.body)
@@ -289,7 +293,7 @@ outline_item-returns-in_err-body-in-Rhythm-clause-refused t c = λ why spot is k
     let b = c.deref-in-Rhythm-2.result.now in
     let l = c.deref-in-Rhythm.result.now in
     let seen : (item_view c.args.item.now).what ≡ tree.rhythm l (items_view b)
-    = search (rules, the_lemmas, c.deref-in-Rhythm.ensures.value, c.deref-in-Rhythm-2.ensures.value) in
+    = rhythm_what c.args.item.now c.in-Rhythm.list c.in-Rhythm.body l b c.in-Rhythm.is c.deref-in-Rhythm.ensures.value c.deref-in-Rhythm-2.ensures.value in
     behind_own k (body_faults (names_of k) (items_view b)) seen knows.whole refl c.requires
     ∙ (c.in_err-body-in-Rhythm.ensures.refused why spot (handed is c.from_residual-in_err-body-in-Rhythm.ensures.1) k look knows)
 
@@ -298,7 +302,7 @@ outline_item-returns-in_ok-body-in-Rhythm-clause-ok t c = λ k look knows.
     let b = c.deref-in-Rhythm-2.result.now in
     let l = c.deref-in-Rhythm.result.now in
     let seen : (item_view c.args.item.now).what ≡ tree.rhythm l (items_view b)
-    = search (rules, the_lemmas, c.deref-in-Rhythm.ensures.value, c.deref-in-Rhythm-2.ensures.value) in
+    = rhythm_what c.args.item.now c.in-Rhythm.list c.in-Rhythm.body l b c.in-Rhythm.is c.deref-in-Rhythm.ensures.value c.deref-in-Rhythm-2.ensures.value in
     let inside = c.in_ok-body-in-Rhythm.ensures.ok k look knows in (
       behind_own k (body_faults (names_of k) (items_view b)) seen knows.whole refl c.requires ∙ inside.0,
       rw (
@@ -319,7 +323,7 @@ outline_item-returns-in_err-body-in-Artic-clause-refused t c = λ why spot is k 
     let b = c.deref-in-Artic-2.result.now in
     let l = c.deref-in-Artic.result.now in
     let seen : (item_view c.args.item.now).what ≡ tree.artic l (items_view b)
-    = search (rules, the_lemmas, c.deref-in-Artic.ensures.value, c.deref-in-Artic-2.ensures.value) in
+    = artic_what c.args.item.now c.in-Artic.list c.in-Artic.body l b c.in-Artic.is c.deref-in-Artic.ensures.value c.deref-in-Artic-2.ensures.value in
     behind_own k (body_faults (names_of k) (items_view b)) seen knows.whole refl c.requires
     ∙ (c.in_err-body-in-Artic.ensures.refused why spot (handed is c.from_residual-in_err-body-in-Artic.ensures.1) k look knows)
 
@@ -328,7 +332,7 @@ outline_item-returns-in_ok-body-in-Artic-clause-ok t c = λ k look knows.
     let b = c.deref-in-Artic-2.result.now in
     let l = c.deref-in-Artic.result.now in
     let seen : (item_view c.args.item.now).what ≡ tree.artic l (items_view b)
-    = search (rules, the_lemmas, c.deref-in-Artic.ensures.value, c.deref-in-Artic-2.ensures.value) in
+    = artic_what c.args.item.now c.in-Artic.list c.in-Artic.body l b c.in-Artic.is c.deref-in-Artic.ensures.value c.deref-in-Artic-2.ensures.value in
     let inside = c.in_ok-body-in-Artic.ensures.ok k look knows in (
       behind_own k (body_faults (names_of k) (items_view b)) seen knows.whole refl c.requires ∙ inside.0,
       rw (seen, under_seen look _ c.in_ok-list-in-Artic.list c.in_ok-body-in-Artic.body)
@@ -344,7 +348,7 @@ outline_item-returns-in_err-body-in-Loud-clause-refused t c = λ why spot is k l
     let b = c.deref-in-Loud-2.result.now in
     let l = c.deref-in-Loud.result.now in
     let seen : (item_view c.args.item.now).what ≡ tree.loud l (items_view b)
-    = search (rules, the_lemmas, c.deref-in-Loud.ensures.value, c.deref-in-Loud-2.ensures.value) in
+    = loud_what c.args.item.now c.in-Loud.list c.in-Loud.body l b c.in-Loud.is c.deref-in-Loud.ensures.value c.deref-in-Loud-2.ensures.value in
     behind_own k (body_faults (names_of k) (items_view b)) seen knows.whole refl c.requires
     ∙ (c.in_err-body-in-Loud.ensures.refused why spot (handed is c.from_residual-in_err-body-in-Loud.ensures.1) k look knows)
 
@@ -353,7 +357,7 @@ outline_item-returns-in_ok-body-in-Loud-clause-ok t c = λ k look knows.
     let b = c.deref-in-Loud-2.result.now in
     let l = c.deref-in-Loud.result.now in
     let seen : (item_view c.args.item.now).what ≡ tree.loud l (items_view b)
-    = search (rules, the_lemmas, c.deref-in-Loud.ensures.value, c.deref-in-Loud-2.ensures.value) in
+    = loud_what c.args.item.now c.in-Loud.list c.in-Loud.body l b c.in-Loud.is c.deref-in-Loud.ensures.value c.deref-in-Loud-2.ensures.value in
     let inside = c.in_ok-body-in-Loud.ensures.ok k look knows in (
       behind_own k (body_faults (names_of k) (items_view b)) seen knows.whole refl c.requires ∙ inside.0,
       rw (seen, under_seen look _ c.in_ok-list-in-Loud.list c.in_ok-body-in-Loud.body)
@@ -376,7 +380,7 @@ outline_item-returns-in_err-block-in-Par-clause-refused t c = λ why spot is k l
     let rest = branches_of (map view (drop (i + 1) bs)) in
     let left = arms_from view bs i b c.loop-branch-test.true c.branch-item.is in
     let seen : (item_view c.args.item.now).what ≡ tree.par (branches_of (map view bs))
-    = search (rules, the_lemmas, map_twice, c.deref-branch-items.ensures.value) in
+    = par_what c.args.item.now c.in-Par.branches bs c.in-Par.is c.deref-branch-items.ensures.value in
     ap (λ s. first_found (stmt_faults (names_of k) s)) seen ∙ (c.loop-branch.invariant k look knows).0
     ∙ ap (λ l. first_found (branches_faults (names_of k) l)) left
     ∙ before (body_faults (names_of k) here) (branches_faults (names_of k) rest) (fault_at spot why)
@@ -411,7 +415,7 @@ outline_item-returns-after-loop-branch-clause-ok t c = λ k look knows.
     let blocks = map (λ (b : Vec Step Global). block_view look b.items) c.loop-branch.outlined.items in
     let bs = c.deref-branch-items.result.now in
     let seen : (item_view c.args.item.now).what ≡ tree.par (branches_of (map view bs))
-    = search (rules, the_lemmas, map_twice, c.deref-branch-items.ensures.value) in
+    = par_what c.args.item.now c.in-Par.branches bs c.in-Par.is c.deref-branch-items.ensures.value in
     let none : drop c.loop-branch.branch-index bs ≡ [] = drop_of_length-le bs (omega arith) in
     let whole = c.loop-branch.invariant k look knows in (
       ap (λ s. first_found (stmt_faults (names_of k) s)) seen ∙ whole.0
