@@ -19,8 +19,6 @@ mod open_gate;
 mod sink;
 mod source;
 mod sure_source;
-#[cfg(test)]
-mod tests;
 mod unread;
 mod whole;
 

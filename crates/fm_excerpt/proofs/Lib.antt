@@ -11,7 +11,6 @@ pub mod PutLemmas
 pub mod RangeLemmas
 pub mod SlotLemmas
 pub mod StateLemmas
-pub mod TestFiles
 pub mod WholeLemmas
 pub mod WindowLemmas
 mod Rows

@@ -9,8 +9,6 @@ mod counts;
 mod laws;
 mod output;
 mod state;
-#[cfg(test)]
-mod tests;
 mod whole;
 mod window;
 

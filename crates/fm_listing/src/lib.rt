@@ -5,8 +5,6 @@
 
 mod laws;
 mod line;
-#[cfg(test)]
-mod tests;
 mod whole;
 
 pub use laws::written_files_are_listed;

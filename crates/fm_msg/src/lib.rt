@@ -10,8 +10,6 @@ mod event;
 mod msg;
 mod profile;
 mod running;
-#[cfg(test)]
-mod tests;
 
 pub use event::Event;
 pub use msg::{BEND_VALUES, CHANNELS, DATA_VALUES, Msg};

@@ -5,5 +5,4 @@ pub mod PushLemmas
 pub mod SplitLemmas
 pub mod Rising
 pub mod TallyLemmas
-pub mod TestFiles
 mod Rows

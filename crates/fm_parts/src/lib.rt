@@ -9,8 +9,6 @@ mod event;
 mod laws;
 mod parts;
 mod tally;
-#[cfg(test)]
-mod tests;
 mod whole;
 
 pub use laws::each_event_has_its_track;

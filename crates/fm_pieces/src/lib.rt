@@ -4,7 +4,5 @@
 #![tactic(auto)]
 
 mod gatherer;
-#[cfg(test)]
-mod tests;
 
 pub use gatherer::{Gatherer, PIECE_LENGTH};

@@ -12,8 +12,6 @@ mod file;
 mod laws;
 mod limits;
 mod quantity;
-#[cfg(test)]
-mod tests;
 mod track;
 
 pub use chunk::{Chunk, Chunks};

@@ -10,8 +10,6 @@ mod fault;
 mod laws;
 mod limits;
 mod piece;
-#[cfg(test)]
-mod tests;
 mod whole;
 mod writer;
 

@@ -1,0 +1,2 @@
+mod ExcerptFiles
+mod PartsFiles

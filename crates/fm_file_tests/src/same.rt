@@ -1,0 +1,13 @@
+//! Comparisons, for all modules: an `assert_eq!` in each test is dear to prove.
+use std::fmt::Debug;
+use std::process::Abort;
+
+// What was found has to be what is wanted.
+pub fn same<R: Abort, T: PartialEq + Debug>(rt: &R, found: &T, wanted: &T) {
+    assert_eq!(rt; *found, *wanted);
+}
+
+// The same for bytes.
+pub fn same_bytes<R: Abort>(rt: &R, found: &[u8], wanted: &[u8]) {
+    assert_eq!(rt; found, wanted);
+}
