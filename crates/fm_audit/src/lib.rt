@@ -10,8 +10,6 @@ mod checked;
 mod fault;
 mod laws;
 mod replay;
-#[cfg(test)]
-mod tests;
 
 pub use checked::audit;
 pub use fault::AuditFault;

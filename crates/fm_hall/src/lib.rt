@@ -15,8 +15,6 @@ mod handover;
 mod refusals;
 mod searches;
 mod taken;
-#[cfg(test)]
-mod tests;
 
 pub use checks::are_valid;
 pub use fm_core::{Floor, MAX_LEAD, MAX_SEATS, Reason, Step};

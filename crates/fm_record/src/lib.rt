@@ -12,8 +12,6 @@ mod laws;
 mod limits;
 mod read;
 mod tape;
-#[cfg(test)]
-mod tests;
 mod write;
 
 pub use fm_core::Step;

@@ -1,10 +1,11 @@
+//! Worked runs of three processes, step by step.
 ghost use Rattle.std.specs.Prelude.{◌≡◌, ◌+◌, ◌<◌, length, IfOk};
 ghost use Rattle.fm_core.specs.State.{desk};
 
 mod pieces;
 
-use crate::{Hall, Taken, are_valid};
 use fm_core::{Floor, Reason, Step};
+use fm_hall::{Hall, Taken, are_valid};
 use fm_line::{Events, Line, Processes};
 use fm_msg::{Event, Msg};
 use std::alloc::{AllocError, Global};

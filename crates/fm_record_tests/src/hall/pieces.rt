@@ -1,7 +1,7 @@
 //! Small pieces played to their end by the next steps alone.
 use super::lines;
-use crate::{Hall, MAX_LEAD, Taken, are_valid};
 use fm_core::Floor;
+use fm_hall::{Hall, MAX_LEAD, Taken, are_valid};
 use fm_msg::Event;
 use std::process::Abort;
 use std::test::*;

@@ -1,10 +1,10 @@
 //! A tape with steps of all kinds, the record that it is, and heads that cannot stand.
 
-ghost use Rattle.std.specs.Prelude.{◌≡◌, ◌≤◌, length};
+ghost use Rattle.fm_record.specs.StepBytes.{HasFields};
 
-use super::*;
-use std::alloc::{AllocError, Global};
-use std::test::Fail;
+use fm_record::{BadHeader, MAX_RECORD, Step, Tape, header, read_step};
+use std::process::Abort;
+use std::test::*;
 
 /// What stands before the steps: 3 seats, room 32, lead 7,680, and the text `formula 1;`.
 const HEAD: [u8; 24] = *b"FMR1\x03\x20\0\0\x1E\0\0\0\0\x0Aformula 1;";
@@ -24,51 +24,71 @@ const GIVE: Step = Step::Give {
     ended: true,
 };
 
+// Pushes a step, for which there has to be memory.
+fn pushes<R: Abort>(rt: &R, tape: &mut Tape, step: Step)
+    requires { HasFields step }
+{
+    assert!(rt; tape.push(&step).is_ok());
+}
+
 // A tape with a step of each kind.
-fn filled(alloc: Global) -> Result<Tape, AllocError> {
-    let mut tape = Tape::new(alloc, 3, 32, 7_680, b"formula 1;")?;
-    push_pairs(&mut tape)?;
-    tape.push(&Step::Give {
-        seat: 16,
-        process: 16_383,
-        taken: 64,
-        computed: 300,
-        clock: 1_099_511_627_776,
-        ended: true,
-    })?;
-    tape.push(&Step::Publish)?;
-    tape.push(&Step::Pace { seat: 3 })?;
-    tape.push(&Step::Release { count: 0x0102_0304 })?;
+fn filled<R: Abort + AllocGlobal>(rt: &R) -> Result<Tape, Fail> {
+    let mut tape = Tape::new(rt.alloc(), 3, 32, 7_680, b"formula 1;")?;
+    push_pairs(rt, &mut tape);
+    pushes(rt, &mut tape, GIVE);
+    pushes(rt, &mut tape, Step::Publish);
+    pushes(rt, &mut tape, Step::Pace { seat: 3 });
+    pushes(rt, &mut tape, Step::Release { count: 0x0102_0304 });
     Ok(tape)
 }
 
-// The kinds that name a seat and a process.
-fn push_pairs(tape: &mut Tape) -> Result<(), AllocError> {
-    tape.push(&Step::Look {
-        seat: 1,
-        process: 258,
-    })?;
-    tape.push(&Step::Claim {
-        seat: 16,
-        process: 16_383,
-    })?;
-    tape.push(&Step::Start {
-        seat: 3,
-        process: 1_029,
-    })?;
-    tape.push(&Step::Record {
-        seat: 0,
-        process: 7,
-    })?;
-    tape.push(&Step::Recall {
-        seat: 2,
-        process: 256,
-    })
+// Pushes the kinds that name a seat and a process.
+fn push_pairs<R: Abort>(rt: &R, tape: &mut Tape) {
+    pushes(
+        rt,
+        tape,
+        Step::Look {
+            seat: 1,
+            process: 258,
+        },
+    );
+    pushes(
+        rt,
+        tape,
+        Step::Claim {
+            seat: 16,
+            process: 16_383,
+        },
+    );
+    pushes(
+        rt,
+        tape,
+        Step::Start {
+            seat: 3,
+            process: 1_029,
+        },
+    );
+    pushes(
+        rt,
+        tape,
+        Step::Record {
+            seat: 0,
+            process: 7,
+        },
+    );
+    pushes(
+        rt,
+        tape,
+        Step::Recall {
+            seat: 2,
+            process: 256,
+        },
+    );
 }
 
 #[test]
 fn a_tape_is_a_record(rt: HostRuntime) -> Result<(), Fail> {
-    let tape = filled(rt.alloc())?;
+    let tape = filled(&rt)?;
     assert!(rt; !tape.is_short());
     assert_eq!(rt; tape.steps(), STEPS.as_slice());
     let bytes = tape.bytes();
