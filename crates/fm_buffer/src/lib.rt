@@ -8,8 +8,6 @@
 
 mod gather;
 mod outbox;
-#[cfg(test)]
-mod tests;
 
 pub use gather::Gather;
 pub use outbox::{MAX_ROOM, Outbox};

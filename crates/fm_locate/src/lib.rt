@@ -10,8 +10,6 @@ mod laws;
 mod levels;
 mod position;
 mod questions;
-#[cfg(test)]
-mod tests;
 
 pub use laws::{positions_and_ticks_meet, ticks_are_located_once};
 pub use levels::{Located, locate};

@@ -11,8 +11,6 @@
 mod all_out;
 mod laws;
 mod note_off;
-#[cfg(test)]
-mod tests;
 mod waiting;
 
 pub use all_out::let_out;

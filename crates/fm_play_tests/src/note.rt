@@ -1,10 +1,12 @@
-//! One note, of which both play a plan.
+//! One note, of which several play a plan.
 
+use crate::plans::{program, stock};
 use fm_msg::Profile;
-use fm_program::{Draw, Op, Plan, Program, Scopes, Span, Stock, Turn};
+use fm_program::{Op, Plan, Span, Turn};
 use std::alloc::{AllocError, Global};
 
-const NOTE: Op = Op::Note {
+/// A quarter note.
+pub const NOTE: Op = Op::Note {
     chord: 0,
     span: Span::Ticks { ticks: 480 },
     channel: 0,
@@ -15,20 +17,7 @@ const NOTE: Op = Op::Note {
 
 // A plan of one note.
 pub fn plan_of_a_note(alloc: Global) -> Result<Plan, AllocError> {
-    let chord = vec![in alloc; Draw::Fixed { value: 60 }]?;
-    let stock = Stock {
-        exprs: Vec::new(alloc),
-        lists: Vec::new(alloc),
-        chords: vec![in alloc; chord]?,
-        scopes: Scopes::new(alloc),
-        warps: Vec::new(alloc),
-    };
-    let program = Program {
-        ops: vec![in alloc; NOTE]?,
-        cycles: Vec::new(alloc),
-        levels: Vec::new(alloc),
-        predecessors: Vec::new(alloc),
-    };
-    let programs = vec![in alloc; program]?;
+    let stock = stock(alloc, Vec::new(alloc))?;
+    let programs = vec![in alloc; program(alloc, &[], &[], &[NOTE])?]?;
     Ok(Plan::of(stock, programs, 0, Profile::first()))
 }

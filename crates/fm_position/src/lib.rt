@@ -10,8 +10,6 @@
 mod laws;
 mod levels;
 mod position;
-#[cfg(test)]
-mod tests;
 
 pub use fm_locate::Located;
 pub use fm_program::Plan;

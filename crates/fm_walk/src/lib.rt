@@ -7,8 +7,6 @@
 
 mod ends;
 mod process;
-#[cfg(test)]
-mod tests;
 mod walk;
 
 pub use fm_line::Line;

@@ -1,17 +1,16 @@
 //! A process with operations of all kinds, run whole and cut.
 ghost use Rattle.std.specs.Prelude.{◌≡◌, ◌≤◌, [], map, IfOk, OnOk};
 ghost use Rattle.fm_buffer.specs.declared.outbox.TheConstants.{MAX_ROOM};
-ghost use Rattle.fm_tick.specs.declared.stretch.TheConstants.{MAX_STRETCH};
 ghost use Rattle.fm_program.specs.Parts.{expr_nodes, program_parts, stock_parts};
 ghost use Rattle.fm_strand.specs.Strand.{InCourse};
 ghost use Rattle.fm_strand.specs.Worked.{inner_parts, outer_parts, rich_program, rich_stock};
 
 use super::begun;
+use crate::shapes::stretch;
 use fm_buffer::Gather;
 use fm_msg::{Event, Profile};
 use fm_program::{Count, Draw, Op, Point, Program, Scopes, Slot, Span, Stock, Turn};
 use fm_strand::{Outbox, Plan, Quantum, Stepped, Strand};
-use fm_tick::Stretch;
 use fm_value::{Expr, Node, Spot2};
 use fm_warp::{Part, Warp};
 use std::alloc::{AllocError, Global};
@@ -113,14 +112,6 @@ fn exprs(alloc: Global) -> Result<Vec<Expr>, AllocError>
         expr(alloc, control),
         expr(alloc, rounds),
     ]?)
-}
-
-// The stretch of so many thousandths.
-fn stretch(thousandths: u32) -> Stretch
-    requires { (1 ≤ thousandths) × (thousandths ≤ MAX_STRETCH) }
-    ensures { result.thousandths ≡ thousandths }
-{
-    Stretch { thousandths }
 }
 
 // Half as long again, and then a breath.

@@ -3,8 +3,9 @@ ghost use Rattle.std.specs.Prelude.{◌≡◌, IfOk, replicate};
 ghost use Rattle.fm_program.proofs.Rows.{quarter_rest};
 
 use super::begun;
+use crate::plans::{program, stock};
 use fm_msg::Profile;
-use fm_program::{Draw, Op, Program, Scopes, Span, Stock};
+use fm_program::{Op, Span};
 use fm_strand::{Outbox, Plan, Quantum};
 use std::alloc::{AllocError, Global};
 use std::test::Fail;
@@ -25,20 +26,8 @@ fn rests(alloc: Global) -> Result<Vec<Op>, AllocError>
 
 // A plan of them.
 fn plan(alloc: Global) -> Result<Plan, AllocError> {
-    let chord = vec![in alloc; Draw::Fixed { value: 60 }]?;
-    let stock = Stock {
-        exprs: Vec::new(alloc),
-        lists: Vec::new(alloc),
-        chords: vec![in alloc; chord]?,
-        scopes: Scopes::new(alloc),
-        warps: Vec::new(alloc),
-    };
-    let program = Program {
-        ops: rests(alloc)?,
-        cycles: Vec::new(alloc),
-        levels: Vec::new(alloc),
-        predecessors: Vec::new(alloc),
-    };
+    let stock = stock(alloc, Vec::new(alloc))?;
+    let program = program(alloc, &[], &[], &rests(alloc)?)?;
     let programs = vec![in alloc; program]?;
     Ok(Plan::of(stock, programs, 0, Profile::first()))
 }

@@ -1,0 +1,190 @@
+//! Worked shapes, computed apart from `fm_warp`.
+ghost use Rattle.std.specs.Prelude.{◌≤◌, All};
+ghost use Rattle.fm_tick.specs.declared.stretch.TheConstants.{MAX_STRETCH};
+ghost use Rattle.fm_warp.specs.Deformation.{IsPart};
+
+use crate::shapes::stretch;
+use fm_tick::MAX_TICK;
+use fm_warp::{Cursor, MAX_PART_TICKS, MAX_PARTS, Part, Query, Side, Warp, WarpFault, map_all};
+use std::process::Abort;
+use std::test::*;
+
+fn slope(ticks: u32, from: u32, to: u32) -> Part
+    requires ticks { (1 ≤ ticks) × (ticks ≤ MAX_PART_TICKS) }
+    requires from { (1 ≤ from) × (from ≤ MAX_STRETCH) }
+    requires to { (1 ≤ to) × (to ≤ MAX_STRETCH) }
+    ensures { IsPart result }
+{
+    Part::Slope {
+        length: ticks,
+        from: stretch(from),
+        to: stretch(to),
+    }
+}
+
+fn flat(ticks: u32, thousandths: u32) -> Part
+    requires ticks { (1 ≤ ticks) × (ticks ≤ MAX_PART_TICKS) }
+    requires stretch { (1 ≤ thousandths) × (thousandths ≤ MAX_STRETCH) }
+    ensures { IsPart result }
+{
+    Part::Flat {
+        length: ticks,
+        stretch: stretch(thousandths),
+    }
+}
+
+// The deformation of these parts.
+fn warp_of<R: Abort + AllocGlobal>(rt: &R, parts: &[Part]) -> Warp
+    requires { All IsPart parts.now }
+{
+    let mut warp = Warp::new(rt.alloc());
+    for part in parts {
+        assert_eq!(rt; warp.push(*part), Ok(()));
+    }
+    warp
+}
+
+// Every kind of part, and breaths and pauses that stand at one position.
+fn many_parts<R: Abort + AllocGlobal>(rt: &R) -> Warp {
+    warp_of(
+        rt,
+        &[
+            Part::Breath { ticks: 5 },
+            flat(3, 500),
+            Part::Breath { ticks: 10 },
+            Part::Pause { ticks: 20 },
+            Part::Breath { ticks: 40 },
+            slope(4, 1_000, 2_500),
+            Part::Pause { ticks: 80 },
+            Part::Breath { ticks: 160 },
+            flat(2, 1_500),
+            slope(3, 3_000, 333),
+            Part::Breath { ticks: 320 },
+        ],
+    )
+}
+
+// Compares where onsets lie with rows of positions.
+fn are_at<R: Abort>(rt: &R, warp: &Warp, rows: &[(u64, u64)]) {
+    for (x, onset) in rows {
+        assert!(rt; *x <= MAX_TICK);
+        assert_eq!(rt; warp.at(*x), *onset, "at {x}");
+    }
+}
+
+// The same of onsets and note-offs.
+fn are_at_and_till<R: Abort>(rt: &R, warp: &Warp, rows: &[(u64, u64, u64)]) {
+    for (x, onset, ending) in rows {
+        assert!(rt; *x <= MAX_TICK);
+        assert_eq!(rt; (warp.at(*x), warp.till(*x)), (*onset, *ending), "at {x}");
+    }
+}
+
+#[test]
+fn a_slope_puts_positions_by_the_square(rt: HostRuntime) {
+    let warp = warp_of(&rt, &[slope(960, 1_000, 2_000)]);
+    are_at(&rt, &warp, &[(480, 600), (960, 1_440), (961, 1_441)]);
+}
+
+#[test]
+fn each_length_is_rounded_before_it_is_added(rt: HostRuntime) {
+    let warp = warp_of(&rt, &[slope(1, 1_000, 2_000), slope(1, 1_000, 2_000)]);
+    are_at(&rt, &warp, &[(1, 1), (2, 2)]);
+}
+
+#[test]
+fn a_part_too_many_is_refused(rt: HostRuntime) {
+    let mut warp = warp_of(&rt, &[Part::Pause { ticks: 1 }; MAX_PARTS]);
+    assert_eq!(rt;
+        warp.push(Part::Pause { ticks: 1 }),
+        Err(WarpFault::TooManyParts)
+    );
+    assert_eq!(rt; warp.parts().len(), MAX_PARTS);
+    assert_eq!(rt; warp.at(0), 256);
+}
+
+#[test]
+fn a_breath_delays_no_note_off_at_its_position(rt: HostRuntime) {
+    let warp = warp_of(&rt, &[flat(480, 1_000), Part::Breath { ticks: 120 }]);
+    are_at_and_till(&rt, &warp, &[(480, 600, 480), (481, 601, 601)]);
+}
+
+#[test]
+fn a_pause_delays_all_at_its_position(rt: HostRuntime) {
+    let warp = warp_of(&rt, &[flat(480, 1_000), Part::Pause { ticks: 120 }]);
+    are_at_and_till(&rt, &warp, &[(480, 600, 600)]);
+}
+
+/// Positions, and where their onsets and their note-offs lie.
+const EDGES: &[(u64, u64, u64)] = &[
+    (0, 5, 0),
+    (1, 5, 5),
+    (2, 6, 6),
+    (3, 76, 26),
+    (4, 77, 77),
+    (6, 80, 80),
+    (7, 323, 163),
+    (8, 324, 324),
+    (9, 326, 326),
+    (11, 330, 330),
+    (12, 650, 330),
+    (13, 651, 651),
+];
+
+#[test]
+fn positions_at_and_between_the_edges(rt: HostRuntime) {
+    are_at_and_till(&rt, &many_parts(&rt), EDGES);
+}
+
+#[test]
+fn one_cursor_maps_onsets_and_note_offs(rt: HostRuntime) {
+    let warp = many_parts(&rt);
+    let mut cursor = Cursor::new();
+    assert_eq!(rt; cursor.at(&warp, 3), 76);
+    assert_eq!(rt; cursor.at(&warp, 7), 323);
+    assert_eq!(rt; cursor.till(&warp, 3), 26);
+    assert_eq!(rt; cursor.deform(Side::Ending, &warp, 7), 163);
+}
+
+#[test]
+fn a_list_of_positions_is_mapped_in_place(rt: HostRuntime) {
+    let warp = many_parts(&rt);
+    let mut queries = [
+        Query {
+            side: Side::Onset,
+            tick: 3,
+        },
+        Query {
+            side: Side::Ending,
+            tick: 0,
+        },
+        Query {
+            side: Side::Onset,
+            tick: 12,
+        },
+        Query {
+            side: Side::Ending,
+            tick: 3,
+        },
+    ];
+    map_all(&warp, &mut queries);
+    let ticks = queries.map(|query| query.tick);
+    assert_eq!(rt; ticks, [76, 0, 650, 26]);
+}
+
+const TEXTS: &[(WarpFault, &str)] = &[
+    (
+        WarpFault::TooManyParts,
+        "a deformation has at most 256 parts",
+    ),
+    (WarpFault::Memory, "out of memory"),
+];
+
+#[test]
+fn faults_have_a_text(rt: HostRuntime) -> Result<(), Fail> {
+    for (fault, want) in TEXTS {
+        let text = format!(in rt.alloc(); "{fault}")?;
+        assert_eq!(rt; text.as_str(), *want);
+    }
+    Ok(())
+}

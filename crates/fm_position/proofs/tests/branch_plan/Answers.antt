@@ -1,7 +1,0 @@
--- The plan fits.
-use Rattle.std.proofs.Common.{rules}
-use Rattle.fm_position.proofs.Rows.{branch_fits_as}
-use Rattle.fm_position.proofs.tests.branch_plan.Goals as goal
-
-pub of-requires : goal.of-requires
-of-requires c = branch_fits_as _ (search rules)
