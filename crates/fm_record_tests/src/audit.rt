@@ -194,19 +194,22 @@ fn lines<R: Abort + AllocGlobal>(rt: &R, voices: &[Voice]) -> Result<Vec<Line>, 
     Ok(made)
 }
 
+// Appends bytes, for which there has to be memory.
+fn adds<R: Abort>(rt: &R, bytes: &mut Vec<u8>, more: &[u8]) {
+    assert!(rt; bytes.extend_from_slice(more).is_ok());
+}
+
 // A record of such steps.
-fn record<R: Abort + AllocGlobal>(
-    rt: &R,
-    score: &Score,
-    steps: &Steps,
-) -> Result<Vec<u8>, AllocError> {
+fn record<R: Abort + AllocGlobal>(rt: &R, score: &Score, steps: &Steps) -> Vec<u8> {
+    let (_, head, run) = *score;
     let (front, rest, more) = *steps;
-    assert!(rt; front <= score.2.len() && rest <= score.2.len());
-    let mut bytes = score.1.to_vec(rt.alloc())?;
-    bytes.extend_from_slice(&score.2[..front])?;
-    bytes.extend_from_slice(&score.2[rest..])?;
-    bytes.extend_from_slice(more)?;
-    Ok(bytes)
+    assert!(rt; front <= run.len() && rest <= run.len());
+    let mut bytes = Vec::new(rt.alloc());
+    adds(rt, &mut bytes, head);
+    adds(rt, &mut bytes, &run[..front]);
+    adds(rt, &mut bytes, &run[rest..]);
+    adds(rt, &mut bytes, more);
+    bytes
 }
 
 // A sink, whose first call fails if it is to.
@@ -225,8 +228,8 @@ fn audits<R: Abort + AllocGlobal>(
     fails: bool,
     check: &Check,
 ) -> Result<(), Fail> {
+    let bytes = record(rt, score, &check.0);
     let lines = lines(rt, score.0)?;
-    let bytes = record(rt, score, &check.0)?;
     let mut sink = sink(rt.alloc(), fails)?;
     assert!(rt; are_valid(&lines));
     assert!(rt; bytes.len() < 500);
@@ -238,34 +241,35 @@ fn audits<R: Abort + AllocGlobal>(
     Ok(())
 }
 
-#[test]
-fn a_run_without_notes_gives_its_file_or_its_first_fault(rt: HostRuntime) -> Result<(), Fail> {
-    for check in SILENT_CHECKS {
-        audits(&rt, &SILENT_SCORE, false, check)?;
+// Goes over checks of a score.
+fn all_answer<R: Abort + AllocGlobal>(
+    rt: &R,
+    score: &Score,
+    fails: bool,
+    checks: &[Check],
+) -> Result<(), Fail> {
+    for check in checks {
+        audits(rt, score, fails, check)?;
     }
     Ok(())
+}
+
+#[test]
+fn a_run_without_notes_gives_its_file_or_its_first_fault(rt: HostRuntime) -> Result<(), Fail> {
+    all_answer(&rt, &SILENT_SCORE, false, SILENT_CHECKS)
 }
 
 #[test]
 fn a_run_with_a_note_gives_its_file_or_its_first_fault(rt: HostRuntime) -> Result<(), Fail> {
-    for check in NOTE_CHECKS {
-        audits(&rt, &NOTE_SCORE, false, check)?;
-    }
-    Ok(())
+    all_answer(&rt, &NOTE_SCORE, false, NOTE_CHECKS)
 }
 
 #[test]
 fn a_sink_that_fails_is_told_behind_a_whole_run(rt: HostRuntime) -> Result<(), Fail> {
-    for check in FAILING_CHECKS {
-        audits(&rt, &NOTE_SCORE, true, check)?;
-    }
-    Ok(())
+    all_answer(&rt, &NOTE_SCORE, true, FAILING_CHECKS)
 }
 
 #[test]
 fn the_steps_of_a_crew_give_its_file(rt: HostRuntime) -> Result<(), Fail> {
-    for check in VOICES_CHECKS {
-        audits(&rt, &VOICES_SCORE, false, check)?;
-    }
-    Ok(())
+    all_answer(&rt, &VOICES_SCORE, false, VOICES_CHECKS)
 }

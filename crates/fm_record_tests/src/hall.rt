@@ -63,12 +63,93 @@ fn lines(
     Ok(made)
 }
 
-// Takes a step, which has to be allowed.
-fn takes<R: Abort>(rt: &R, hall: &mut Hall, step: Step)
+/// A step, and the reason for which it is refused, or none.
+type Row = (Step, Option<Reason>);
+
+/// Process 0 ends at 0, and seat 1 starts process 1.
+const FIRST_ENDS: &[Row] = &[
+    (
+        Step::Claim {
+            seat: 0,
+            process: 0,
+        },
+        None,
+    ),
+    (
+        Step::Record {
+            seat: 0,
+            process: 0,
+        },
+        None,
+    ),
+    (
+        Step::Give {
+            seat: 0,
+            process: 0,
+            taken: 0,
+            computed: 0,
+            clock: 0,
+            ended: true,
+        },
+        None,
+    ),
+    (
+        Step::Start {
+            seat: 1,
+            process: 1,
+        },
+        None,
+    ),
+];
+
+/// Process 1 ends at 7, and seat 1 starts process 2.
+const SECOND_ENDS: &[Row] = &[
+    (
+        Step::Record {
+            seat: 1,
+            process: 1,
+        },
+        None,
+    ),
+    (
+        Step::Give {
+            seat: 1,
+            process: 1,
+            taken: 0,
+            computed: 0,
+            clock: 7,
+            ended: true,
+        },
+        None,
+    ),
+    (
+        Step::Start {
+            seat: 1,
+            process: 2,
+        },
+        None,
+    ),
+];
+
+// Makes a step, which is taken or refused for this reason.
+fn makes<R: Abort>(rt: &R, hall: &mut Hall, step: &Step, refused: Option<Reason>)
     ensures cells { length hall.new.state.cells ≡ length hall.old.state.cells }
     ensures desks { length hall.new.state.desks ≡ length hall.old.state.desks }
 {
-    assert_eq!(rt; hall.step(&step), Taken::Taken);
+    match refused {
+        None => assert_eq!(rt; hall.step(step), Taken::Taken),
+        Some(why) => assert_eq!(rt; hall.step(step), Taken::Refused(why)),
+    }
+}
+
+// Makes the steps of these rows.
+fn runs<R: Abort>(rt: &R, hall: &mut Hall, rows: &[Row])
+    ensures cells { length hall.new.state.cells ≡ length hall.old.state.cells }
+    ensures desks { length hall.new.state.desks ≡ length hall.old.state.desks }
+{
+    for row in rows {
+        makes(rt, hall, &row.0, row.1);
+    }
 }
 
 // Makes a step that has to be refused for this reason.
@@ -98,16 +179,17 @@ fn releases<R: Abort>(rt: &R, hall: &mut Hall, count: u32)
     assert_eq!(rt; hall.step(&Step::Release { count }), Taken::Taken);
 }
 
-// A give with its process's seat, number, events taken and computed, clock, and whether it ends.
-fn give(seat: u32, process: u32, events: (u32, u32), clock: u64, ended: bool) -> Step {
-    Step::Give {
-        seat,
-        process,
-        taken: events.0,
-        computed: events.1,
-        clock,
-        ended,
-    }
+// Seat 0 looks at each process, and the least clock and process have to be these.
+fn sweeps<R: Abort>(rt: &R, hall: &mut Hall, least: (u64, u32))
+    requires cells { length hall.old.state.cells ≡ 3 }
+    requires desks { 0 < length hall.old.state.desks }
+    ensures cells { length hall.new.state.cells ≡ length hall.old.state.cells }
+    ensures desks { length hall.new.state.desks ≡ length hall.old.state.desks }
+{
+    looks(rt, hall, 0);
+    looks(rt, hall, 1);
+    looks(rt, hall, 2);
+    assert_eq!(rt; hall.least(0), Some(least));
 }
 
 // Two seats, room 1, lead 0, and three processes one after another, of which the last has events
@@ -127,187 +209,252 @@ fn opened<R: Abort + AllocGlobal>(rt: &R) -> Result<Hall, Fail>
     Ok(Hall::open(rt.alloc(), made, 2, 1, 0)?)
 }
 
-// Process 0 ends at 0, and seat 1 starts process 1.
-fn ends_the_first<R: Abort>(rt: &R, hall: &mut Hall)
-    ensures cells { length hall.new.state.cells ≡ length hall.old.state.cells }
-    ensures desks { length hall.new.state.desks ≡ length hall.old.state.desks }
-{
-    takes(
-        rt,
-        hall,
-        Step::Claim {
-            seat: 0,
-            process: 0,
-        },
-    );
-    takes(
-        rt,
-        hall,
-        Step::Record {
-            seat: 0,
-            process: 0,
-        },
-    );
-    takes(rt, hall, give(0, 0, (0, 0), 0, true));
-    takes(
-        rt,
-        hall,
-        Step::Start {
-            seat: 1,
-            process: 1,
-        },
-    );
-}
+/// Process 1 may not start before process 0 has ended.
+const EARLY: &[Row] = &[(
+    Step::Start {
+        seat: 0,
+        process: 1,
+    },
+    Some(Reason::PredecessorLive),
+)];
 
-// Process 1 ends at 7, and seat 1 starts process 2.
-fn ends_the_second<R: Abort>(rt: &R, hall: &mut Hall)
-    ensures cells { length hall.new.state.cells ≡ length hall.old.state.cells }
-    ensures desks { length hall.new.state.desks ≡ length hall.old.state.desks }
-{
-    takes(
-        rt,
-        hall,
-        Step::Record {
-            seat: 1,
-            process: 1,
-        },
-    );
-    takes(rt, hall, give(1, 1, (0, 0), 7, true));
-    takes(
-        rt,
-        hall,
-        Step::Start {
+/// Process 1 goes no further than its end.
+const WRONG_CLOCK: &[Row] = &[(
+    Step::Give {
+        seat: 1,
+        process: 1,
+        taken: 0,
+        computed: 0,
+        clock: 8,
+        ended: false,
+    },
+    Some(Reason::WrongClock),
+)];
+
+/// Nothing is computed above the floor plus the lead, which a sweep and a publish raise.
+const ABOVE_LEAD: &[Row] = &[
+    (
+        Step::Give {
             seat: 1,
             process: 2,
+            taken: 0,
+            computed: 1,
+            clock: 439,
+            ended: false,
         },
-    );
-}
-
-#[test]
-fn a_start_waits_for_predecessors_and_a_give_for_the_lead(rt: HostRuntime) -> Result<(), Fail> {
-    let mut hall = opened(&rt)?;
-    refuses(
-        &rt,
-        &mut hall,
-        Step::Start {
+        Some(Reason::AboveLead),
+    ),
+    (
+        Step::Look {
+            seat: 0,
+            process: 0,
+        },
+        None,
+    ),
+    (
+        Step::Look {
             seat: 0,
             process: 1,
         },
-        Reason::PredecessorLive,
-    );
-    ends_the_first(&rt, &mut hall);
-    looks(&rt, &mut hall, 0);
-    looks(&rt, &mut hall, 1);
-    looks(&rt, &mut hall, 2);
-    assert_eq!(rt; hall.least(0), Some((0, 1)));
-    refuses(
-        &rt,
-        &mut hall,
-        give(1, 1, (0, 0), 8, false),
-        Reason::WrongClock,
-    );
-    ends_the_second(&rt, &mut hall);
-    refuses(
-        &rt,
-        &mut hall,
-        give(1, 2, (0, 1), 439, false),
-        Reason::AboveLead,
-    );
-    looks(&rt, &mut hall, 0);
-    looks(&rt, &mut hall, 1);
-    looks(&rt, &mut hall, 2);
-    takes(&rt, &mut hall, Step::Publish);
-    assert_eq!(rt; hall.floor(), Floor::At(7));
-    takes(&rt, &mut hall, Step::Pace { seat: 1 });
-    takes(&rt, &mut hall, give(1, 2, (0, 1), 439, false));
-    Ok(())
-}
-
-#[test]
-fn looks_are_made_from_the_first_process_upwards(rt: HostRuntime) -> Result<(), Fail> {
-    let mut hall = opened(&rt)?;
-    ends_the_first(&rt, &mut hall);
-    ends_the_second(&rt, &mut hall);
-    takes(&rt, &mut hall, give(1, 2, (0, 0), 7, false));
-    refuses(
-        &rt,
-        &mut hall,
+        None,
+    ),
+    (
         Step::Look {
             seat: 0,
             process: 2,
         },
-        Reason::OutOfTurn,
-    );
-    looks(&rt, &mut hall, 0);
-    looks(&rt, &mut hall, 1);
-    looks(&rt, &mut hall, 2);
-    assert_eq!(rt; hall.least(0), Some((7, 2)));
+        None,
+    ),
+    (Step::Publish, None),
+];
+
+/// After it has read the floor, the seat may compute the event.
+const PACED: &[Row] = &[
+    (Step::Pace { seat: 1 }, None),
+    (
+        Step::Give {
+            seat: 1,
+            process: 2,
+            taken: 0,
+            computed: 1,
+            clock: 439,
+            ended: false,
+        },
+        None,
+    ),
+];
+
+#[test]
+fn a_start_waits_for_predecessors_and_a_give_for_the_lead(rt: HostRuntime) -> Result<(), Fail> {
+    let mut hall = opened(&rt)?;
+    runs(&rt, &mut hall, EARLY);
+    runs(&rt, &mut hall, FIRST_ENDS);
+    sweeps(&rt, &mut hall, (0, 1));
+    runs(&rt, &mut hall, WRONG_CLOCK);
+    runs(&rt, &mut hall, SECOND_ENDS);
+    runs(&rt, &mut hall, ABOVE_LEAD);
+    assert_eq!(rt; hall.floor(), Floor::At(7));
+    runs(&rt, &mut hall, PACED);
     Ok(())
+}
+
+/// Process 2 is given back without an event, and its sweep is not begun in the middle.
+const OUT_OF_TURN: &[Row] = &[
+    (
+        Step::Give {
+            seat: 1,
+            process: 2,
+            taken: 0,
+            computed: 0,
+            clock: 7,
+            ended: false,
+        },
+        None,
+    ),
+    (
+        Step::Look {
+            seat: 0,
+            process: 2,
+        },
+        Some(Reason::OutOfTurn),
+    ),
+];
+
+#[test]
+fn looks_are_made_from_the_first_process_upwards(rt: HostRuntime) -> Result<(), Fail> {
+    let mut hall = opened(&rt)?;
+    runs(&rt, &mut hall, FIRST_ENDS);
+    runs(&rt, &mut hall, SECOND_ENDS);
+    runs(&rt, &mut hall, OUT_OF_TURN);
+    sweeps(&rt, &mut hall, (7, 2));
+    Ok(())
+}
+
+/// Process 2 is given back without an event, and all becomes due up to it.
+const PUBLISHED: &[Row] = &[
+    (
+        Step::Give {
+            seat: 1,
+            process: 2,
+            taken: 0,
+            computed: 0,
+            clock: 7,
+            ended: false,
+        },
+        None,
+    ),
+    (
+        Step::Look {
+            seat: 0,
+            process: 0,
+        },
+        None,
+    ),
+    (
+        Step::Look {
+            seat: 0,
+            process: 1,
+        },
+        None,
+    ),
+    (
+        Step::Look {
+            seat: 0,
+            process: 2,
+        },
+        None,
+    ),
+    (Step::Publish, None),
+];
+
+/// Nothing is released before seat 0 has visited process 2, and nobody else may claim it then.
+const VISITED: &[Row] = &[
+    (Step::Release { count: 0 }, Some(Reason::NotVisited)),
+    (Step::Pace { seat: 0 }, None),
+    (
+        Step::Claim {
+            seat: 0,
+            process: 2,
+        },
+        None,
+    ),
+    (
+        Step::Give {
+            seat: 0,
+            process: 2,
+            taken: 0,
+            computed: 1,
+            clock: 439,
+            ended: false,
+        },
+        None,
+    ),
+    (
+        Step::Claim {
+            seat: 1,
+            process: 2,
+        },
+        Some(Reason::NotClaimable),
+    ),
+];
+
+/// Its event is due, and has to be taken.
+const TAKEN: &[Row] = &[
+    (Step::Publish, None),
+    (Step::Pace { seat: 0 }, None),
+    (
+        Step::Claim {
+            seat: 0,
+            process: 2,
+        },
+        None,
+    ),
+    (
+        Step::Give {
+            seat: 0,
+            process: 2,
+            taken: 0,
+            computed: 1,
+            clock: 487,
+            ended: false,
+        },
+        Some(Reason::WrongTake),
+    ),
+    (
+        Step::Give {
+            seat: 0,
+            process: 2,
+            taken: 1,
+            computed: 1,
+            clock: 487,
+            ended: false,
+        },
+        None,
+    ),
+];
+
+// Seat 0 releases nothing in the middle of a sweep, and the least clock and process have to be these.
+fn releases_in_a_sweep<R: Abort>(rt: &R, hall: &mut Hall, least: (u64, u32))
+    requires cells { length hall.old.state.cells ≡ 3 }
+    requires desks { 0 < length hall.old.state.desks }
+{
+    looks(rt, hall, 0);
+    looks(rt, hall, 1);
+    refuses(rt, hall, Step::Release { count: 1 }, Reason::WrongCount);
+    releases(rt, hall, 0);
+    looks(rt, hall, 2);
+    assert_eq!(rt; hall.least(0), Some(least));
 }
 
 #[test]
 fn what_is_due_has_to_be_taken_before_it_is_released(rt: HostRuntime) -> Result<(), Fail> {
     let mut hall = opened(&rt)?;
-    ends_the_first(&rt, &mut hall);
-    ends_the_second(&rt, &mut hall);
-    takes(&rt, &mut hall, give(1, 2, (0, 0), 7, false));
-    looks(&rt, &mut hall, 0);
-    looks(&rt, &mut hall, 1);
-    looks(&rt, &mut hall, 2);
-    takes(&rt, &mut hall, Step::Publish);
+    runs(&rt, &mut hall, FIRST_ENDS);
+    runs(&rt, &mut hall, SECOND_ENDS);
+    runs(&rt, &mut hall, PUBLISHED);
     assert_eq!(rt; hall.floor(), Floor::At(7));
-    refuses(
-        &rt,
-        &mut hall,
-        Step::Release { count: 0 },
-        Reason::NotVisited,
-    );
-    takes(&rt, &mut hall, Step::Pace { seat: 0 });
-    takes(
-        &rt,
-        &mut hall,
-        Step::Claim {
-            seat: 0,
-            process: 2,
-        },
-    );
-    takes(&rt, &mut hall, give(0, 2, (0, 1), 439, false));
-    refuses(
-        &rt,
-        &mut hall,
-        Step::Claim {
-            seat: 1,
-            process: 2,
-        },
-        Reason::NotClaimable,
-    );
-    looks(&rt, &mut hall, 0);
-    looks(&rt, &mut hall, 1);
-    refuses(
-        &rt,
-        &mut hall,
-        Step::Release { count: 1 },
-        Reason::WrongCount,
-    );
-    releases(&rt, &mut hall, 0);
-    looks(&rt, &mut hall, 2);
-    assert_eq!(rt; hall.least(0), Some((439, 2)));
-    takes(&rt, &mut hall, Step::Publish);
-    takes(&rt, &mut hall, Step::Pace { seat: 0 });
-    takes(
-        &rt,
-        &mut hall,
-        Step::Claim {
-            seat: 0,
-            process: 2,
-        },
-    );
-    refuses(
-        &rt,
-        &mut hall,
-        give(0, 2, (0, 1), 487, false),
-        Reason::WrongTake,
-    );
-    takes(&rt, &mut hall, give(0, 2, (1, 1), 487, false));
+    runs(&rt, &mut hall, VISITED);
+    releases_in_a_sweep(&rt, &mut hall, (439, 2));
+    runs(&rt, &mut hall, TAKEN);
     Ok(())
 }

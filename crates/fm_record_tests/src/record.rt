@@ -2,7 +2,8 @@
 
 ghost use Rattle.fm_record.specs.StepBytes.{HasFields};
 
-use fm_record::{BadHeader, MAX_RECORD, Step, Tape, header, read_step};
+use fm_record::{BadHeader, MAX_RECORD, Reel, Step, Tape, header, read_step};
+use std::alloc::AllocError;
 use std::process::Abort;
 use std::test::*;
 
@@ -32,7 +33,7 @@ fn pushes<R: Abort>(rt: &R, tape: &mut Tape, step: Step)
 }
 
 // A tape with a step of each kind.
-fn filled<R: Abort + AllocGlobal>(rt: &R) -> Result<Tape, Fail> {
+fn filled<R: Abort + AllocGlobal>(rt: &R) -> Result<Tape, AllocError> {
     let mut tape = Tape::new(rt.alloc(), 3, 32, 7_680, b"formula 1;")?;
     push_pairs(rt, &mut tape);
     pushes(rt, &mut tape, GIVE);
@@ -86,18 +87,29 @@ fn push_pairs<R: Abort>(rt: &R, tape: &mut Tape) {
     );
 }
 
+// Compares the parts of a record of that tape.
+fn has_its_parts<R: Abort>(rt: &R, reel: &Reel<'_>) {
+    assert_eq!(rt; (reel.seats, reel.room, reel.lead), (3, 32, 7_680));
+    assert_eq!(rt; reel.text, b"formula 1;".as_slice());
+    assert_eq!(rt; reel.steps, STEPS.as_slice());
+}
+
+// Compares the bytes of that tape.
+fn is_whole<R: Abort>(rt: &R, bytes: &[u8]) {
+    assert!(rt; bytes.len() == 66);
+    assert_eq!(rt; &bytes[..24], HEAD.as_slice());
+    match header(bytes) {
+        Ok(reel) => has_its_parts(rt, &reel),
+        Err(_) => panic!(rt; "the head of a tape can stand"),
+    }
+}
+
 #[test]
 fn a_tape_is_a_record(rt: HostRuntime) -> Result<(), Fail> {
     let tape = filled(&rt)?;
     assert!(rt; !tape.is_short());
     assert_eq!(rt; tape.steps(), STEPS.as_slice());
-    let bytes = tape.bytes();
-    assert_eq!(rt; bytes.len(), 66);
-    let reel = header(bytes).map_err(|_| "header")?;
-    assert_eq!(rt; &bytes[..24], HEAD.as_slice());
-    assert_eq!(rt; (reel.seats, reel.room, reel.lead), (3, 32, 7_680));
-    assert_eq!(rt; reel.text, b"formula 1;".as_slice());
-    assert_eq!(rt; reel.steps, STEPS.as_slice());
+    is_whole(&rt, tape.bytes());
     Ok(())
 }
 
