@@ -30,11 +30,16 @@ const HURRIED: &[Row] = &[
     (MAX_TICK, None),
 ];
 
-// Compares the least positions of a deformation.
+// Compares the least position of a deformation.
+fn is_least<R: Abort>(rt: &R, warp: &Warp, t: u64, want: Option<u64>) {
+    assert!(rt; t <= MAX_TICK);
+    assert_eq!(rt; least(warp, t), want, "at {t}");
+}
+
+// The same of rows.
 fn are_least<R: Abort>(rt: &R, warp: &Warp, rows: &[Row]) {
-    for (t, want) in rows {
-        assert!(rt; *t <= MAX_TICK);
-        assert_eq!(rt; least(warp, *t), *want, "at {t}");
+    for row in rows {
+        is_least(rt, warp, row.0, row.1);
     }
 }
 

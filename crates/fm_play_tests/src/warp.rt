@@ -6,6 +6,7 @@ ghost use Rattle.fm_warp.specs.Deformation.{IsPart};
 use crate::shapes::stretch;
 use fm_tick::MAX_TICK;
 use fm_warp::{Cursor, MAX_PART_TICKS, MAX_PARTS, Part, Query, Side, Warp, WarpFault, map_all};
+use std::alloc::AllocError;
 use std::process::Abort;
 use std::test::*;
 
@@ -64,37 +65,47 @@ fn many_parts<R: Abort + AllocGlobal>(rt: &R) -> Warp {
     )
 }
 
-// Compares where onsets lie with rows of positions.
-fn are_at<R: Abort>(rt: &R, warp: &Warp, rows: &[(u64, u64)]) {
-    for (x, onset) in rows {
-        assert!(rt; *x <= MAX_TICK);
-        assert_eq!(rt; warp.at(*x), *onset, "at {x}");
-    }
+// Compares where the onset of a position lies.
+fn is_at<R: Abort>(rt: &R, warp: &Warp, x: u64, onset: u64)
+    requires { x ≤ MAX_TICK }
+{
+    assert_eq!(rt; warp.at(x), onset, "at {x}");
 }
 
-// The same of onsets and note-offs.
-fn are_at_and_till<R: Abort>(rt: &R, warp: &Warp, rows: &[(u64, u64, u64)]) {
-    for (x, onset, ending) in rows {
-        assert!(rt; *x <= MAX_TICK);
-        assert_eq!(rt; (warp.at(*x), warp.till(*x)), (*onset, *ending), "at {x}");
-    }
+// The same of its onset and its note-off.
+fn is_at_and_till<R: Abort>(rt: &R, warp: &Warp, x: u64, onset: u64, ending: u64)
+    requires { x ≤ MAX_TICK }
+{
+    assert_eq!(rt; (warp.at(x), warp.till(x)), (onset, ending), "at {x}");
 }
 
 #[test]
 fn a_slope_puts_positions_by_the_square(rt: HostRuntime) {
     let warp = warp_of(&rt, &[slope(960, 1_000, 2_000)]);
-    are_at(&rt, &warp, &[(480, 600), (960, 1_440), (961, 1_441)]);
+    is_at(&rt, &warp, 480, 600);
+    is_at(&rt, &warp, 960, 1_440);
+    is_at(&rt, &warp, 961, 1_441);
 }
 
 #[test]
 fn each_length_is_rounded_before_it_is_added(rt: HostRuntime) {
     let warp = warp_of(&rt, &[slope(1, 1_000, 2_000), slope(1, 1_000, 2_000)]);
-    are_at(&rt, &warp, &[(1, 1), (2, 2)]);
+    is_at(&rt, &warp, 1, 1);
+    is_at(&rt, &warp, 2, 2);
+}
+
+// A deformation of as many parts as there may be.
+fn most_parts<R: Abort + AllocGlobal>(rt: &R) -> Warp {
+    let mut warp = Warp::new(rt.alloc());
+    for _ in 0..MAX_PARTS {
+        assert_eq!(rt; warp.push(Part::Pause { ticks: 1 }), Ok(()));
+    }
+    warp
 }
 
 #[test]
 fn a_part_too_many_is_refused(rt: HostRuntime) {
-    let mut warp = warp_of(&rt, &[Part::Pause { ticks: 1 }; MAX_PARTS]);
+    let mut warp = most_parts(&rt);
     assert_eq!(rt;
         warp.push(Part::Pause { ticks: 1 }),
         Err(WarpFault::TooManyParts)
@@ -106,13 +117,14 @@ fn a_part_too_many_is_refused(rt: HostRuntime) {
 #[test]
 fn a_breath_delays_no_note_off_at_its_position(rt: HostRuntime) {
     let warp = warp_of(&rt, &[flat(480, 1_000), Part::Breath { ticks: 120 }]);
-    are_at_and_till(&rt, &warp, &[(480, 600, 480), (481, 601, 601)]);
+    is_at_and_till(&rt, &warp, 480, 600, 480);
+    is_at_and_till(&rt, &warp, 481, 601, 601);
 }
 
 #[test]
 fn a_pause_delays_all_at_its_position(rt: HostRuntime) {
     let warp = warp_of(&rt, &[flat(480, 1_000), Part::Pause { ticks: 120 }]);
-    are_at_and_till(&rt, &warp, &[(480, 600, 600)]);
+    is_at_and_till(&rt, &warp, 480, 600, 600);
 }
 
 /// Positions, and where their onsets and their note-offs lie.
@@ -133,7 +145,12 @@ const EDGES: &[(u64, u64, u64)] = &[
 
 #[test]
 fn positions_at_and_between_the_edges(rt: HostRuntime) {
-    are_at_and_till(&rt, &many_parts(&rt), EDGES);
+    let warp = many_parts(&rt);
+    for row in EDGES {
+        let (x, onset, ending) = *row;
+        assert!(rt; x <= MAX_TICK);
+        is_at_and_till(&rt, &warp, x, onset, ending);
+    }
 }
 
 #[test]
@@ -172,19 +189,19 @@ fn a_list_of_positions_is_mapped_in_place(rt: HostRuntime) {
     assert_eq!(rt; ticks, [76, 0, 650, 26]);
 }
 
-const TEXTS: &[(WarpFault, &str)] = &[
-    (
-        WarpFault::TooManyParts,
-        "a deformation has at most 256 parts",
-    ),
-    (WarpFault::Memory, "out of memory"),
-];
+// Compares the text of a fault.
+fn is_told<R: Abort + AllocGlobal>(rt: &R, fault: WarpFault, want: &str) -> Result<(), AllocError> {
+    let text = format!(in rt.alloc(); "{fault}")?;
+    assert_eq!(rt; text.as_str(), want);
+    Ok(())
+}
 
 #[test]
 fn faults_have_a_text(rt: HostRuntime) -> Result<(), Fail> {
-    for (fault, want) in TEXTS {
-        let text = format!(in rt.alloc(); "{fault}")?;
-        assert_eq!(rt; text.as_str(), *want);
-    }
-    Ok(())
+    is_told(
+        &rt,
+        WarpFault::TooManyParts,
+        "a deformation has at most 256 parts",
+    )?;
+    Ok(is_told(&rt, WarpFault::Memory, "out of memory")?)
 }

@@ -27,7 +27,8 @@ fn rests(alloc: Global) -> Result<Vec<Op>, AllocError>
 // A plan of them.
 fn plan(alloc: Global) -> Result<Plan, AllocError> {
     let stock = stock(alloc, Vec::new(alloc))?;
-    let program = program(alloc, &[], &[], &rests(alloc)?)?;
+    let rests = rests(alloc)?;
+    let program = program(alloc, &[], &[], &rests)?;
     let programs = vec![in alloc; program]?;
     Ok(Plan::of(stock, programs, 0, Profile::first()))
 }
