@@ -5,8 +5,6 @@
 //! of its own. How a text is read, and its faults before that, are left to the parser.
 #![tactic(auto)]
 
-#[cfg(test)]
-mod tests;
 mod walks;
 
 pub use fm_bounds::Bounds;

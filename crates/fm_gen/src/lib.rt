@@ -10,8 +10,6 @@
 mod laws;
 mod score;
 mod summary;
-#[cfg(test)]
-mod tests;
 
 pub use laws::each_number_has_its_score;
 pub use score::{MAX_NUMBER, MAX_SCORE, generate};

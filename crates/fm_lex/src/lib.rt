@@ -19,6 +19,3 @@ pub use laws::tokens_stand;
 pub use lexer::{Lexer, MAX_TEXT};
 pub use spot::Spot;
 pub use token::{LexFault, Token};
-
-#[cfg(test)]
-mod tests;

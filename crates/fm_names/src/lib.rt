@@ -8,6 +8,3 @@ mod bytes;
 mod names;
 
 pub use names::Names;
-
-#[cfg(test)]
-mod tests;

@@ -10,8 +10,6 @@ mod expanding;
 mod forks;
 mod inside;
 mod planning;
-#[cfg(test)]
-mod tests;
 
 pub use expanding::{Expanded, expand};
 pub use planning::{plan, plan_outline};

@@ -13,8 +13,6 @@ mod laws;
 mod node;
 mod operation;
 mod registers;
-#[cfg(test)]
-mod tests;
 
 pub use dice::Dice;
 pub use evaluation::value;

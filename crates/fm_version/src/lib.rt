@@ -9,8 +9,6 @@
 mod length;
 mod rules;
 mod shape;
-#[cfg(test)]
-mod tests;
 
 pub use length::{ticks, ticks_of};
 pub use rules::{FIRST_VERSION, LAST_VERSION, Rules, rules_of};

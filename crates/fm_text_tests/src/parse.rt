@@ -1,11 +1,11 @@
-//! Texts that the parser reads or refuses. They stand here, above it, since a crate's tests have
-//! its code proved a second time, and the parser's takes longest.
+//! Texts that the parser reads or refuses.
 
-use fm_grammar::Entry;
-use fm_lex::{LexFault, MAX_TEXT, Spot};
-use fm_parse::{ParseFault, parse};
+use crate::texts::{joined, read};
+use fm_grammar::{Entry, Name, Score};
+use fm_lex::{LexFault, Spot};
+use fm_parse::ParseFault;
 use std::alloc::{AllocError, Global};
-use std::test::Fail;
+use std::process::Abort;
 
 const FOUR_VOICES: &str = "formula 1;
 seed 42;
@@ -73,7 +73,7 @@ const REFUSED: &[(&str, Told)] = &[
 ];
 
 /// How many blocks stand round a statement, the statement, and what is told of the text.
-const BRACES: &[(usize, &str, Told)] = &[
+const BRACES: &[(u32, &str, Told)] = &[
     (64, "", READS),
     (64, "if 1 { }", ("too nested", 396)),
     (64, "else", ("expected", 396)),
@@ -84,7 +84,7 @@ const BRACES: &[(usize, &str, Told)] = &[
 
 /// What stands so many times before an operand, the operand, what stands as often behind it, and
 /// what is told of the text.
-const TOKENS: &[(&str, usize, &str, &str, Told)] = &[
+const TOKENS: &[(&str, u32, &str, &str, Told)] = &[
     ("-", 63, "1", "", READS),
     ("-", 64, "1", "", ("too nested", 84)),
     ("(", 31, "1", ")", READS),
@@ -102,7 +102,7 @@ const TOKENS: &[(&str, usize, &str, &str, Told)] = &[
 ];
 
 /// The deepest expressions, written as above.
-const DEEPEST: &[(&str, usize, &str, &str)] = &[
+const DEEPEST: &[(&str, u32, &str, &str)] = &[
     ("-", 63, "1", ""),
     ("(", 31, "1", ")"),
     ("pick(", 21, "1", ")"),
@@ -119,119 +119,130 @@ type Told = (&'static str, u32);
 
 const READS: Told = ("reads", 0);
 
-// What the parser tells of a text of one line.
-fn told(alloc: Global, text: &str) -> Told {
-    if text.len() > MAX_TEXT {
-        return ("too much text", 0);
-    }
-    match parse(alloc, text.as_bytes()) {
-        Ok(_) => READS,
-        Err(ParseFault::Expected { spot }) => ("expected", spot.column),
-        Err(ParseFault::TooNested { spot }) => ("too nested", spot.column),
-        Err(ParseFault::Lex(LexFault::BadByte { spot })) => ("bad byte", spot.column),
-        Err(ParseFault::Lex(LexFault::BadNumber { spot })) => ("bad number", spot.column),
-        Err(ParseFault::Memory) => ("out of memory", 0),
+// The fault of a text that does not read.
+fn fault_of(alloc: Global, text: &str) -> Option<ParseFault> {
+    match read(alloc, text) {
+        Ok(_) => None,
+        Err(fault) => Some(fault),
     }
 }
 
-// A text: `before`, a beginning so many times, `middle`, and an end as many times.
-fn nested(
-    alloc: Global,
-    before: &str,
-    begins: &str,
-    times: usize,
-    middle: &str,
-    ends: &str,
-) -> Result<String, AllocError> {
-    let mut text = String::new(alloc);
-    text.push_str(before)?;
-    for _ in 0..times {
-        text.push_str(begins)?;
+// What the parser tells of a text of one line.
+fn told(alloc: Global, text: &str) -> Told {
+    match fault_of(alloc, text) {
+        None => READS,
+        Some(ParseFault::Expected { spot }) => ("expected", spot.column),
+        Some(ParseFault::TooNested { spot }) => ("too nested", spot.column),
+        Some(ParseFault::Lex(LexFault::BadByte { spot })) => ("bad byte", spot.column),
+        Some(ParseFault::Lex(LexFault::BadNumber { spot })) => ("bad number", spot.column),
+        Some(ParseFault::Memory) => ("out of memory", 0),
     }
-    text.push_str(middle)?;
-    for _ in 0..times {
-        text.push_str(ends)?;
+}
+
+// Compares what the parser tells of a text with this.
+fn check_told<R: Abort>(rt: &R, alloc: Global, text: &str, want: Told) {
+    assert_eq!(rt; told(alloc, text), want, "at {text}");
+}
+
+// The version of a score, its seed, and how many entries it has.
+fn numbers(score: &Score) -> (u32, Option<u32>, usize) {
+    let seed = score.seed.map(|number| number.value);
+    (score.version.value, seed, score.entries.len())
+}
+
+// The name of a shape that is the first entry, and how many parts it has.
+fn first_shape<'s>(score: &Score<'s>) -> Option<(Name<'s>, usize)> {
+    match score.entries.first() {
+        Some(Entry::Shape { name, parts }) => Some((*name, parts.len())),
+        _ => None,
     }
-    Ok(text)
+}
+
+// Whether a score is that of the four voices.
+fn has_four_voices(score: &Score) -> bool {
+    let rubato = Name {
+        text: b"rubato".as_slice(),
+        spot: Spot { line: 3, column: 7 },
+    };
+    numbers(score) == (1, Some(42), 4) && first_shape(score) == Some((rubato, 3))
 }
 
 #[test]
-fn a_score_of_four_voices(rt: HostRuntime) -> Result<(), Fail> {
-    assert!(rt; FOUR_VOICES.len() <= MAX_TEXT);
-    let score = parse(rt.alloc(), FOUR_VOICES.as_bytes())?;
-    let seed = score.seed.map(|number| number.value);
-    let numbers = (score.version.value, seed, score.entries.len());
-    assert_eq!(rt; numbers, (1, Some(42), 4));
-    match score.entries.first() {
-        Some(Entry::Shape { name, parts }) => {
-            let spot = Spot { line: 3, column: 7 };
-            assert_eq!(rt;
-                (name.text, name.spot, parts.len()),
-                (b"rubato".as_slice(), spot, 3)
-            );
-        }
-        _ => assert!(rt; false, "the first entry is a shape"),
+fn a_score_of_four_voices(rt: HostRuntime) {
+    match read(rt.alloc(), FOUR_VOICES) {
+        Ok(score) => assert!(rt; has_four_voices(&score)),
+        Err(_) => assert!(rt; false),
     }
-    Ok(())
 }
 
 #[test]
 fn texts_that_read(rt: HostRuntime) {
     for text in READ {
-        assert_eq!(rt; told(rt.alloc(), text), READS, "at {text}");
+        check_told(&rt, rt.alloc(), text, READS);
     }
 }
 
 #[test]
 fn faults_at_their_tokens(rt: HostRuntime) {
     for (text, fault) in REFUSED {
-        assert_eq!(rt; told(rt.alloc(), text), *fault, "at {text}");
+        check_told(&rt, rt.alloc(), text, *fault);
     }
 }
 
 #[test]
 fn both_sides_of_the_limit_of_braces(rt: HostRuntime) -> Result<(), AllocError> {
     for (times, middle, want) in BRACES {
-        let text = nested(rt.alloc(), "formula 1; ", "if 1 {", *times, middle, "}")?;
-        assert_eq!(rt; told(rt.alloc(), &text), *want, "at {text}");
+        let (begins, ends) = (("if 1 {", *times), ("}", *times));
+        let parts = [("formula 1; ", 1), begins, (*middle, 1), ends];
+        let text = joined(rt.alloc(), &parts)?;
+        check_told(&rt, rt.alloc(), &text, *want);
     }
     Ok(())
 }
 
 #[test]
 fn both_sides_of_the_limit_of_tokens(rt: HostRuntime) -> Result<(), AllocError> {
-    let alloc = rt.alloc();
     for (begins, times, middle, ends, want) in TOKENS {
-        let text = nested(alloc, "formula 1; set r0 = ", begins, *times, middle, ends)?;
-        let whole = format!(in alloc; "{text};")?;
-        assert_eq!(rt; told(alloc, &whole), *want, "at {text}");
+        let head = ("formula 1; set r0 = ", 1);
+        let (begins, middle, ends) = ((*begins, *times), (*middle, 1), (*ends, *times));
+        let text = joined(rt.alloc(), &[head, begins, middle, ends, (";", 1)])?;
+        check_told(&rt, rt.alloc(), &text, *want);
     }
     Ok(())
 }
 
 // The parentheses round an amount, a duration or a count are no tokens of the expression in them,
 // and each expression has its own count.
+fn deepest(alloc: Global, deep: &str) -> Result<String, AllocError> {
+    let note = format!(in alloc; "note key ({deep}), key ({deep}) ticks ({deep}) max 1;")?;
+    let block = format!(in alloc; "repeat ({deep}) max 1 {{")?;
+    let parts = [("formula 1;", 1), (&block, 64), (&note, 1), ("}", 64)];
+    joined(alloc, &parts)
+}
+
 #[test]
 fn the_deepest_texts(rt: HostRuntime) -> Result<(), AllocError> {
     let alloc = rt.alloc();
     for (begins, times, middle, ends) in DEEPEST {
-        let deep = nested(alloc, "", begins, *times, middle, ends)?;
-        let note = format!(in alloc; "note key ({deep}), key ({deep}) ticks ({deep}) max 1;")?;
-        let block = format!(in alloc; "repeat ({deep}) max 1 {{")?;
-        let text = nested(alloc, "formula 1;", &block, 64, &note, "}")?;
-        assert_eq!(rt; told(alloc, &text), READS, "at {text}");
+        let (begins, middle, ends) = ((*begins, *times), (*middle, 1), (*ends, *times));
+        let deep = joined(alloc, &[begins, middle, ends])?;
+        let text = deepest(alloc, &deep)?;
+        check_told(&rt, alloc, &text, READS);
     }
     Ok(())
 }
 
+/// What a fault says.
+pub fn said(alloc: Global, fault: &ParseFault) -> Result<String, AllocError> {
+    format!(in alloc; "{fault}")
+}
+
 #[test]
 fn texts_of_faults(rt: HostRuntime) -> Result<(), AllocError> {
-    for (text, said) in SAID {
-        if text.len() <= MAX_TEXT {
-            match parse(rt.alloc(), text.as_bytes()) {
-                Ok(_) => assert!(rt; false, "{text}"),
-                Err(fault) => assert_eq!(rt; format!(in rt.alloc(); "{fault}")?.as_str(), *said),
-            }
+    for (text, words) in SAID {
+        match fault_of(rt.alloc(), text) {
+            None => assert!(rt; false, "{text}"),
+            Some(fault) => assert_eq!(rt; said(rt.alloc(), &fault)?.as_str(), *words),
         }
     }
     Ok(())

@@ -1,5 +1,7 @@
-use crate::*;
-use std::alloc::AllocError;
+//! One line of tokens, and three faults.
+
+use fm_lex::{Keyword, Kind, Lexer, MAX_TEXT, Spot, tokens_stand};
+use std::alloc::{AllocError, Global};
 
 /// The tokens of a line, with their columns.
 const TOKENS: &[(Kind, &str, u32)] = &[
@@ -31,44 +33,62 @@ const FAULTS: &[(&str, usize, &str)] = &[
     ),
 ];
 
+/// The kinds of the tokens of another line.
+const KINDS: &[Kind] = &[Kind::Keyword(Keyword::Note), Kind::Pitch(58), Kind::End];
+
+// Whether the next call gives this token of the first line.
+fn is_token(lexer: &mut Lexer, kind: Kind, text: &str, column: u32) -> bool {
+    let spot = Spot { line: 1, column };
+    match lexer.next() {
+        Ok(token) => token.kind == kind && token.text == text.as_bytes() && token.spot == spot,
+        Err(_) => false,
+    }
+}
+
 #[test]
 fn gives_the_tokens_of_a_line(rt: HostRuntime) {
     let mut lexer = Lexer::new(b"a_1 r8 n16 bb3 c10");
     for (kind, text, column) in TOKENS {
-        let spot = Spot {
-            line: 1,
-            column: *column,
-        };
-        let is_it = match lexer.next() {
-            Ok(token) => token.kind == *kind && token.text == text.as_bytes() && token.spot == spot,
-            Err(_) => false,
-        };
-        assert!(rt; is_it, "{text}");
+        assert!(rt; is_token(&mut lexer, *kind, text, *column), "{text}");
+    }
+}
+
+// What the next call says: the words of its fault, or none.
+fn said(alloc: Global, lexer: &mut Lexer) -> Result<String, AllocError> {
+    match lexer.next() {
+        Ok(_) => Ok(String::new(alloc)),
+        Err(fault) => format!(in alloc; "{fault}"),
     }
 }
 
 #[test]
 fn gives_a_fault_again(rt: HostRuntime) -> Result<(), AllocError> {
     for (text, before, fault) in FAULTS {
+        assert!(rt; text.len() <= MAX_TEXT);
         let mut lexer = Lexer::new(text.as_bytes());
         for _ in 0..*before {
             assert!(rt; lexer.next().is_ok(), "{text}");
         }
         for _ in 0..2 {
-            match lexer.next() {
-                Ok(_) => assert!(rt; false, "{text}"),
-                Err(found) => assert_eq!(rt; format!(in rt.alloc(); "{found}")?.as_str(), *fault),
-            }
+            assert_eq!(rt; said(rt.alloc(), &mut lexer)?.as_str(), *fault);
         }
     }
     Ok(())
 }
 
+// Whether the next call gives a token of this kind.
+fn is_next(lexer: &mut Lexer, kind: Kind) -> bool {
+    match lexer.next() {
+        Ok(token) => token.kind == kind,
+        Err(_) => false,
+    }
+}
+
 #[test]
 fn reads_a_pitch_behind_a_keyword(rt: HostRuntime) {
     let mut lexer = Lexer::new(b"note bb3");
-    for kind in [Kind::Keyword(Keyword::Note), Kind::Pitch(58), Kind::End] {
-        assert!(rt; lexer.next().is_ok_and(|token| token.kind == kind));
+    for kind in KINDS {
+        assert!(rt; is_next(&mut lexer, *kind));
     }
     assert!(rt; Keyword::from_text(Keyword::Loud.text()) == Some(Keyword::Loud));
     tokens_stand(b"note bb3");

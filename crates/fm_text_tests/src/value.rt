@@ -3,7 +3,7 @@ ghost use Rattle.std.specs.Prelude.{[], ◌∷◌, IsTrue};
 ghost use Rattle.fm_value.specs.Value.{is_expr};
 ghost use Rattle.fm_value.specs.declared.node.Node.TheVariants.{Register};
 
-use crate::{Dice, Expr, Node, Registers, Spot2, value};
+use fm_value::{Dice, Expr, Node, Registers, Spot2, value};
 use std::alloc::{AllocError, Global};
 use std::process::Abort;
 use std::test::Fail;
@@ -136,34 +136,41 @@ const NEGATED: &[(i64, i64)] = &[
     (-1_000_000, 1_000_000),
 ];
 
-#[test]
-fn a_negated_register_and_an_index(rt: HostRuntime) -> Result<(), Fail> {
-    let alloc = rt.alloc();
+// What register 7 holds behind a setting to x, and the outer one of two indices, 20, less it.
+fn negated<R: Abort>(rt: &R, alloc: Global, x: i64) -> Result<(i64, i64), AllocError> {
+    assert!(rt; -1_000_000 <= x && x <= 1_000_000);
+    let mut registers = Registers::new();
+    registers.set(7, x);
     let nodes = vec![in alloc; Node::Register(7), Node::Negate, Node::Index(1), Node::Add]?;
     let spots = vec![in alloc; SPOT, SPOT, SPOT, SPOT]?;
     let expr = Expr { nodes, spots }.clone()?;
-    let mut registers = Registers::new();
+    let found = value(&expr, &registers, &mut Dice::new(5), &[10, 20]);
+    Ok((registers.get(7), found))
+}
+
+#[test]
+fn a_negated_register_and_an_index(rt: HostRuntime) -> Result<(), Fail> {
     for (x, want) in NEGATED {
-        assert!(rt; -1_000_000 <= *x && *x <= 1_000_000);
-        registers.set(7, *x);
-        let mut dice = Dice::new(5);
-        let found = value(&expr, &registers, &mut dice, &[10, 20]);
-        assert_eq!(rt; (registers.get(7), found), (*x, *want), "at {x}");
+        assert_eq!(rt; negated(&rt, rt.alloc(), *x)?, (*x, *want), "at {x}");
     }
     Ok(())
 }
 
-#[test]
-fn a_draw_below_1_steps_the_generator(rt: HostRuntime) -> Result<(), Fail> {
-    let alloc = rt.alloc();
+// The value of 60 and a draw below 12.
+fn drawn(alloc: Global, dice: &mut Dice) -> Result<i64, AllocError> {
     let nodes = vec![in alloc; Node::Literal(60), Node::Literal(12), Node::Pick, Node::Add]?;
     let spots = vec![in alloc; SPOT, SPOT, SPOT, SPOT]?;
     let expr = Expr { nodes, spots };
+    Ok(value(&expr, &Registers::new(), dice, &[]))
+}
+
+#[test]
+fn a_draw_below_1_steps_the_generator(rt: HostRuntime) -> Result<(), Fail> {
     let mut dice = Dice::new(0);
-    assert_eq!(rt; value(&expr, &Registers::new(), &mut dice, &[]), 71);
-    assert_eq!(rt; Dice::new(0).pick(12), 11);
+    let sum = drawn(rt.alloc(), &mut dice)?;
+    let first = Dice::new(0).pick(12);
     // The first three draws show 167951807, 218396424 and 1299921937.
-    assert_eq!(rt; dice.pick(-5), 0);
-    assert_eq!(rt; dice.pick(1_000), 937);
+    let draws = (dice.pick(-5), dice.pick(1_000));
+    assert_eq!(rt; (sum, first, draws), (71, 11, (0, 937)));
     Ok(())
 }

@@ -1,4 +1,6 @@
-use crate::*;
+//! One whole score, the length of the longest, and two lines.
+
+use fm_gen::{MAX_NUMBER, MAX_SCORE, Summary, generate};
 use std::alloc::AllocError;
 
 /// The score of the number 0, as another program writes it.
@@ -41,29 +43,30 @@ fn the_greatest_number_has_the_longest_score(rt: HostRuntime) -> Result<(), Allo
     Ok(())
 }
 
+const LINES: &[(Summary, &str)] = &[
+    (
+        Summary {
+            processes: 18,
+            events: 32_000,
+            last: 121_800,
+            bytes: 128_033,
+        },
+        "processes 18 events 32000 last 121800 bytes 128033\n",
+    ),
+    (
+        Summary {
+            processes: 1,
+            events: 0,
+            last: 0,
+            bytes: 33,
+        },
+        "processes 1 events 0 last 0 bytes 33\n",
+    ),
+];
+
 #[test]
 fn the_line_names_its_numbers(rt: HostRuntime) {
-    let table = [
-        (
-            Summary {
-                processes: 18,
-                events: 32_000,
-                last: 121_800,
-                bytes: 128_033,
-            },
-            "processes 18 events 32000 last 121800 bytes 128033\n",
-        ),
-        (
-            Summary {
-                processes: 1,
-                events: 0,
-                last: 0,
-                bytes: 33,
-            },
-            "processes 1 events 0 last 0 bytes 33\n",
-        ),
-    ];
-    for (summary, line) in table {
-        assert_eq!(rt; summary.line().as_str(), line);
+    for (summary, line) in LINES {
+        assert_eq!(rt; summary.line().as_str(), *line);
     }
 }

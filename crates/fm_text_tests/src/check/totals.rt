@@ -1,101 +1,65 @@
 //! The totals of texts, and both sides of each of their limits. The numbers were worked out by
 //! hand.
 
-use super::{Row, bounds, check_rows, verdict};
-use crate::Bounds;
-use std::test::Fail;
+use super::{Row, check_row, check_rows, judged};
+use crate::texts::joined;
+use fm_check::Bounds;
+use std::alloc::{AllocError, Global};
 
-/// Texts with their processes, operations, length, events and steps.
-const TOTALS: &[(&str, u32, u32, u64, u32, u32)] = &[
-    ("formula 1;", 1, 1, 0, 0, 1),
+/// Processes, operations, length, events and steps.
+type Totals = (u32, u32, u64, u32, u32);
+
+/// Texts with their totals.
+const TOTALS: &[(&str, Totals)] = &[
+    ("formula 1;", (1, 1, 0, 0, 1)),
     (
         "formula 1; shape w = flat 1/4 by 1000, breath ticks 120; \
              gate 100 { warp w { note c4 1/4; note d4 1/4; } }",
-        1,
-        6,
-        1080,
-        4,
-        9,
+        (1, 6, 1080, 4, 9),
     ),
     // Notes that overlap count as others do.
     (
         "formula 1; shape w = flat 1/4 by 1000, pause ticks 120; \
              gate 400 { warp w { note c4 1/4; note d4 1/4; } }",
-        1,
-        6,
-        1080,
-        4,
-        9,
+        (1, 6, 1080, 4, 9),
     ),
     (
         "formula 1; shape b = breath ticks 120; shape f = flat 1/1 by 500; \
              gate 100 { warp b { warp f { note c4 ticks 1; } } }",
-        1,
-        7,
-        120,
-        2,
-        8,
+        (1, 7, 120, 2, 8),
     ),
     (
         "formula 1; repeat 1365 { par { branch { } branch { } } }",
-        4096,
-        5462,
-        0,
-        0,
-        4096,
+        (4096, 5462, 0, 0, 4096),
     ),
     // The totals of version 2 go by its division, and allow for more processes.
     (
         "formula 2; repeat 5461 { par { branch { } branch { } } }",
-        16384,
-        21846,
-        0,
-        0,
-        16384,
+        (16384, 21846, 0, 0, 16384),
     ),
-    ("formula 2; division 96; rest 1/1;", 1, 2, 384, 0, 2),
+    ("formula 2; division 96; rest 1/1;", (1, 2, 384, 0, 2)),
     (
         "formula 1; repeat 1000000 { rest ticks 1000000; } \
              repeat 99511 { rest ticks 1000000; } rest ticks 627776;",
-        1,
-        8,
-        1_099_511_627_776,
-        0,
-        2_199_028,
+        (1, 8, 1_099_511_627_776, 0, 2_199_028),
     ),
     // The list of a phrase that nothing brings in counts for the lengths of all rhythms.
     (
         "formula 1; phrase p { rhythm [1/1] { } } rhythm [1/4] { play c4; skip; }",
-        1,
-        5,
-        3840,
-        2,
-        7,
+        (1, 5, 3840, 2, 7),
     ),
     (
         "formula 1; if 1 { rest ticks 9; } else { note c4 ticks 3; }",
-        1,
-        5,
-        9,
-        2,
-        6,
+        (1, 5, 9, 2, 6),
     ),
     (
         "formula 1; phrase p { note c4 ticks 3; } do p; do p;",
-        1,
-        5,
-        6,
-        4,
-        7,
+        (1, 5, 6, 4, 7),
     ),
     // No rounds hide all of a body but its operations.
     (
         "formula 1; repeat 0 { par { branch { note c4 1/1; } } }",
-        1,
-        2,
-        0,
-        0,
-        1,
+        (1, 2, 0, 0, 1),
     ),
 ];
 
@@ -158,24 +122,37 @@ const LIMITS: &[Row] = &[
     ),
 ];
 
-#[test]
-fn totals_are_counted(rt: HostRuntime) -> Result<(), Fail> {
-    for (text, processes, operations, length, events, steps) in TOTALS {
-        let want = Bounds {
-            processes: *processes,
-            operations: *operations,
-            length: *length,
-            events: *events,
-            steps: *steps,
-        };
-        assert_eq!(rt; bounds(rt.alloc(), text)?, want, "{text}");
+// The totals as the check gives them.
+fn bounds_of(totals: &Totals) -> Bounds {
+    let (processes, operations, length, events, steps) = *totals;
+    Bounds {
+        processes,
+        operations,
+        length,
+        events,
+        steps,
     }
-    Ok(())
+}
+
+// The totals of a text that is accepted.
+fn accepted(alloc: Global, text: &str) -> Option<Bounds> {
+    match judged(alloc, text) {
+        Ok(bounds) => Some(bounds),
+        Err(_) => None,
+    }
 }
 
 #[test]
-fn each_limit_is_kept_and_passed(rt: HostRuntime) -> Result<(), Fail> {
-    check_rows(&rt, rt.alloc(), LIMITS)
+fn totals_are_counted(rt: HostRuntime) {
+    for (text, want) in TOTALS {
+        let found = accepted(rt.alloc(), text);
+        assert_eq!(rt; found, Some(bounds_of(want)), "{text}");
+    }
+}
+
+#[test]
+fn each_limit_is_kept_and_passed(rt: HostRuntime) {
+    check_rows(&rt, rt.alloc(), LIMITS);
 }
 
 /// Sixteen phrases, each of which brings in the one before twice, from one that is empty: `q16` has
@@ -189,28 +166,50 @@ phrase q13 { do q12; do q12; } phrase q14 { do q13; do q13; } phrase q15 { do q1
 phrase q16 { do q15; do q15; }
 ";
 
-#[test]
-fn as_many_operations_as_may_be_and_one_more(rt: HostRuntime) -> Result<(), Fail> {
-    let mut text = String::from_str(rt.alloc(), DOUBLED)?;
-    text.push_str("do q16; do q16; rest ticks 0;")?;
-    assert_eq!(rt; bounds(rt.alloc(), text.as_str())?.operations, 262_144);
-    text.push_str(" rest ticks 0;")?;
-    assert_eq!(rt; verdict(rt.alloc(), text.as_str())?, (14, 8, 31));
-    Ok(())
+/// What makes as many operations of the sixteen phrases as there may be.
+const MOST: &str = "do q16; do q16; rest ticks 0;";
+
+// How many operations a text has that is accepted, and else 0.
+fn operations(alloc: Global, text: &str) -> u32 {
+    match judged(alloc, text) {
+        Ok(bounds) => bounds.operations,
+        Err(_) => 0,
+    }
 }
 
 #[test]
-fn forty_phrases_each_of_two_before(rt: HostRuntime) -> Result<(), Fail> {
+fn as_many_operations_as_may_be_and_one_more(rt: HostRuntime) -> Result<(), AllocError> {
     let alloc = rt.alloc();
+    let most = joined(alloc, &[(DOUBLED, 1), (MOST, 1)])?;
+    assert_eq!(rt; operations(alloc, &most), 262_144);
+    let more = joined(alloc, &[(&most, 1), (" rest ticks 0;", 1)])?;
+    check_row(&rt, alloc, &more, (14, 8, 31));
+    Ok(())
+}
+
+// Adds the phrase of the number `j + 1`, which brings in the one of the number `j` twice.
+fn push_phrase(alloc: Global, text: &mut String, j: u32) -> Result<(), AllocError> {
+    let k = j.saturating_add(1);
+    let phrase = format!(in alloc; " phrase q{k} {{ do q{j}; do q{j}; }}")?;
+    text.push_str(&phrase)?;
+    Ok(())
+}
+
+// Phrases of the numbers 0 to 40, each of which but the first brings in the one before twice.
+fn forty_phrases(alloc: Global) -> Result<String, AllocError> {
     let mut text = String::from_str(alloc, "formula 1; phrase q0 { }")?;
-    for k in 1..41u32 {
-        let j = k - 1;
-        let phrase = format!(in alloc; " phrase q{k} {{ do q{j}; do q{j}; }}")?;
-        text.push_str(phrase.as_str())?;
+    for j in 0..40 {
+        push_phrase(alloc, &mut text, j)?;
     }
-    let column = text.len() + 2;
-    text.push_str(" do q40;")?;
-    let (number, line, at) = verdict(alloc, text.as_str())?;
-    assert_eq!(rt; (number, line, u64::from(at)), (14, 1, column as u64));
+    Ok(text)
+}
+
+#[test]
+fn forty_phrases_each_of_two_before(rt: HostRuntime) -> Result<(), AllocError> {
+    let alloc = rt.alloc();
+    let phrases = forty_phrases(alloc)?;
+    let text = joined(alloc, &[(&phrases, 1), (" do q40;", 1)])?;
+    let column = u32::try_from(phrases.len() + 2).unwrap_or(0);
+    check_row(&rt, alloc, &text, (14, 1, column));
     Ok(())
 }

@@ -1,6 +1,7 @@
 //! What the faults of the crates below and of the check say, with expected texts by hand.
 
-use crate::{CheckFault, Why};
+use crate::{fault, parse};
+use fm_check::{CheckFault, Why};
 use fm_lex::Spot;
 use fm_parse::ParseFault;
 use std::alloc::AllocError;
@@ -36,10 +37,10 @@ const CHECKS: &[(CheckFault, &str)] = &[
 #[test]
 fn faults_say_their_spot_and_why(rt: HostRuntime) -> Result<(), AllocError> {
     for (fault, text) in PARSES {
-        assert_eq!(rt; format!(in rt.alloc(); "{fault}")?.as_str(), *text);
+        assert_eq!(rt; parse::said(rt.alloc(), fault)?.as_str(), *text);
     }
     for (fault, text) in CHECKS {
-        assert_eq!(rt; format!(in rt.alloc(); "{fault}")?.as_str(), *text);
+        assert_eq!(rt; fault::said(rt.alloc(), fault)?.as_str(), *text);
     }
     Ok(())
 }

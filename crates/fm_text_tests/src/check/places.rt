@@ -1,8 +1,8 @@
 //! Faults of names, numbers and places of texts, both sides of each limit.
 
-use super::{Row, Verdict, check_rows, verdict};
-use std::alloc::Global;
-use std::test::Fail;
+use super::{Row, Verdict, check_row, check_rows};
+use crate::texts::joined;
+use std::alloc::AllocError;
 
 /// A text, and how often it stands.
 type Times = (&'static str, u32);
@@ -175,7 +175,8 @@ const STATEMENTS: &[Row] = &[
     ("formula 1; set r0 = n0; skip;", (11, 1, 12)),
 ];
 
-/// Blocks inside one another as [`nested`] takes them, and the verdict.
+/// A head, blocks so many times, inside them others so many times, what stands inside, and the
+/// verdict.
 const BLOCKS: &[(&str, Times, Times, &str, Verdict)] = &[
     ("formula 1; ", ("repeat 1 {", 16), ("", 0), "", (0, 0, 0)),
     ("formula 1; ", ("repeat 1 {", 17), ("", 0), "", (12, 1, 172)),
@@ -301,62 +302,37 @@ const LISTS: &[(&str, &str, u32, &str, Verdict)] = &[
     ),
 ];
 
-// Adds a text so many times.
-fn again(text: &mut String, times: u32, part: &str) -> Result<(), Fail> {
-    for _ in 0..times {
-        text.push_str(part)?;
-    }
-    Ok(())
-}
-
-// Blocks inside one another: so many of the one, inside them so many of the other.
-fn nested(
-    alloc: Global,
-    before: &str,
-    outer: (&str, u32),
-    inner: (&str, u32),
-    inside: &str,
-) -> Result<String, Fail> {
-    let mut text = String::from_str(alloc, before)?;
-    again(&mut text, outer.1, outer.0)?;
-    again(&mut text, inner.1, inner.0)?;
-    text.push_str(inside)?;
-    again(&mut text, outer.1, "}")?;
-    again(&mut text, inner.1, "}")?;
-    Ok(text)
+#[test]
+fn names_are_defined_once_and_before(rt: HostRuntime) {
+    check_rows(&rt, rt.alloc(), NAMES);
 }
 
 #[test]
-fn names_are_defined_once_and_before(rt: HostRuntime) -> Result<(), Fail> {
-    check_rows(&rt, rt.alloc(), NAMES)
+fn numbers_keep_their_ranges(rt: HostRuntime) {
+    check_rows(&rt, rt.alloc(), NUMBERS);
 }
 
 #[test]
-fn numbers_keep_their_ranges(rt: HostRuntime) -> Result<(), Fail> {
-    check_rows(&rt, rt.alloc(), NUMBERS)
+fn statements_stand_where_they_may(rt: HostRuntime) {
+    check_rows(&rt, rt.alloc(), STATEMENTS);
 }
 
 #[test]
-fn statements_stand_where_they_may(rt: HostRuntime) -> Result<(), Fail> {
-    check_rows(&rt, rt.alloc(), STATEMENTS)
-}
-
-#[test]
-fn blocks_lie_so_deep_and_no_deeper(rt: HostRuntime) -> Result<(), Fail> {
+fn blocks_lie_so_deep_and_no_deeper(rt: HostRuntime) -> Result<(), AllocError> {
     for (before, outer, inner, inside, want) in BLOCKS {
-        let text = nested(rt.alloc(), before, *outer, *inner, inside)?;
-        assert_eq!(rt; verdict(rt.alloc(), text.as_str())?, *want, "{text}");
+        let (before, inside) = ((*before, 1), (*inside, 1));
+        let (ends, rest) = (("}", outer.1), ("}", inner.1));
+        let text = joined(rt.alloc(), &[before, *outer, *inner, inside, ends, rest])?;
+        check_row(&rt, rt.alloc(), &text, *want);
     }
     Ok(())
 }
 
 #[test]
-fn lists_have_so_many_entries_and_no_more(rt: HostRuntime) -> Result<(), Fail> {
+fn lists_have_so_many_entries_and_no_more(rt: HostRuntime) -> Result<(), AllocError> {
     for (head, entry, times, tail, want) in LISTS {
-        let mut text = String::from_str(rt.alloc(), head)?;
-        again(&mut text, *times, entry)?;
-        text.push_str(tail)?;
-        assert_eq!(rt; verdict(rt.alloc(), text.as_str())?, *want, "{head}");
+        let text = joined(rt.alloc(), &[(*head, 1), (*entry, *times), (*tail, 1)])?;
+        check_row(&rt, rt.alloc(), &text, *want);
     }
     Ok(())
 }

@@ -1,0 +1,58 @@
+//! Texts that are accepted or refused.
+
+mod orders;
+mod places;
+mod totals;
+mod words;
+
+use crate::texts::read;
+use fm_check::{Bounds, CheckFault, check};
+use fm_grammar::Score;
+use std::alloc::Global;
+use std::process::Abort;
+
+/// The number of a fault with its line and column, or zeros.
+type Verdict = (u8, u32, u32);
+
+/// A text and its verdict.
+type Row = (&'static str, Verdict);
+
+/// The verdict on what does not read as a score, and where there is no memory.
+const UNREAD: Verdict = (255, 0, 0);
+
+// The totals of a score, or the number of its fault with its line and column.
+fn checked(alloc: Global, score: &Score) -> Result<Bounds, Verdict> {
+    match check(alloc, score) {
+        Ok(bounds) => Ok(bounds),
+        Err(CheckFault::Refused { why, spot }) => Err((why.number(), spot.line, spot.column)),
+        Err(CheckFault::Memory) => Err(UNREAD),
+    }
+}
+
+// The same of a text.
+fn judged(alloc: Global, text: &str) -> Result<Bounds, Verdict> {
+    match read(alloc, text) {
+        Ok(score) => checked(alloc, &score),
+        Err(_) => Err(UNREAD),
+    }
+}
+
+// The number of the fault of a text with its line and column, zeros where it is accepted.
+fn verdict(alloc: Global, text: &str) -> Verdict {
+    match judged(alloc, text) {
+        Ok(_) => (0, 0, 0),
+        Err(fault) => fault,
+    }
+}
+
+// Compares the verdict of a text with this one.
+fn check_row<R: Abort>(rt: &R, alloc: Global, text: &str, want: Verdict) {
+    assert_eq!(rt; verdict(alloc, text), want, "{text}");
+}
+
+// Compares the verdict of each text with the one that stands beside it.
+fn check_rows<R: Abort>(rt: &R, alloc: Global, rows: &[Row]) {
+    for (text, want) in rows {
+        check_row(rt, alloc, text, *want);
+    }
+}
