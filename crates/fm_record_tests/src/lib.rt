@@ -1,8 +1,8 @@
 //! Tests of the crates that take the steps of the core and keep them: `fm_hall`, `fm_record` and
 //! `fm_audit`.
 //!
-//! They use public calls alone, and stand above the crates that they test, so that the code of those
-//! is not proved once more for them. There is nothing else here.
+//! They use public calls alone, and stand above the crates that they test, so that the code of
+//! those is not proved once more for them. There is nothing else here.
 #![tactic(auto)]
 
 #[cfg(test)]

@@ -1,5 +1,5 @@
 use Rattle.std.proofs.Common.{◌≡◌, length}
-use Rattle.fm_record_tests.proofs.hall.runs.Given as goal
+use Rattle.fm_record_tests.proofs.hall.worked.runs.Given as goal
 
 abbrev pub invariant-loop-row : goal.invariant-loop-row
 invariant-loop-row g l = record {
