@@ -10,7 +10,6 @@ use fm_edge::{
     NullSink, OpenGate, Sink, Source, SureSource,
 };
 use host::{Disk, Host};
-use std::process::Abort;
 use std::test::Fail;
 use std::thread::{Threads, join_mut};
 
@@ -66,19 +65,18 @@ fn a_sink_with_failing_calls(rt: HostRuntime) -> Result<(), Fail> {
     Ok(())
 }
 
-// What two reads in turn answer.
-fn two_reads<S: Source>(source: &mut S, buf: &mut [u8; 8]) -> (Option<usize>, Option<usize>) {
-    let first = source.read(buf).ok();
-    (first, source.read(buf).ok())
-}
-
 #[test]
 fn a_source_with_failing_calls(rt: HostRuntime) -> Result<(), Fail> {
     let failing = vec![in rt.alloc(); 2]?;
     let mut source = MemorySource::new(b"abcde".to_vec(rt.alloc())?, 3, failing);
     let mut buf = [0; 8];
-    same(&rt, &two_reads(&mut source, &mut buf), &(Some(3), None));
-    same(&rt, &two_reads(&mut source, &mut buf), &(Some(2), Some(0)));
+    let answers = (
+        source.read(&mut buf).ok(),
+        source.read(&mut buf).ok(),
+        source.read(&mut buf).ok(),
+        source.read(&mut buf).ok(),
+    );
+    same(&rt, &answers, &(Some(3), None, Some(2), Some(0)));
     same_bytes(&rt, &buf[..3], b"dec");
     Ok(())
 }
@@ -99,22 +97,15 @@ fn a_file_whose_second_read_fails(rt: HostRuntime) {
     let host = Host { disk: &disk };
     let mut source = FileSource::new(&host, "text");
     let mut buf = [0; 8];
-    same(&rt, &two_reads(&mut source, &mut buf), &(Some(3), None));
-    same(&rt, &source.read(&mut buf), &Ok(3));
+    let answers = (
+        source.read(&mut buf).ok(),
+        source.read(&mut buf).ok(),
+        source.read(&mut buf).ok(),
+    );
+    same(&rt, &answers, &(Some(3), None, Some(3)));
     same_bytes(&rt, &buf[..3], b"def");
-    same(&rt, &two_reads(&mut source, &mut buf), &(Some(2), Some(0)));
-}
-
-// A put answers so, and the disk then has these bytes.
-fn puts<R: Abort, K: Sink>(
-    rt: &R,
-    disk: &Disk,
-    sink: &mut K,
-    piece: &[u8],
-    wanted: (bool, [u8; 16]),
-) {
-    let put = sink.put(piece).is_ok();
-    same(rt, &(put, disk.bytes.get()), &wanted);
+    let rest = (source.read(&mut buf).ok(), source.read(&mut buf).ok());
+    same(&rt, &rest, &(Some(2), Some(0)));
 }
 
 // The second of three writes fails, and a disk that is full takes nothing.
@@ -123,23 +114,17 @@ fn a_file_whose_second_write_fails(rt: HostRuntime) {
     let disk = Disk::new([b'.'; 16], 0, 2);
     let host = Host { disk: &disk };
     let mut sink = FileSink::new(&host, "file");
-    puts(
-        &rt,
-        &disk,
-        &mut sink,
-        b"abcdefgh",
-        (false, *b"abc............."),
+    let first = (sink.put(b"abcdefgh").is_ok(), disk.bytes.get());
+    same(&rt, &first, &(false, *b"abc............."));
+    let answers = (
+        sink.put(b"ijkl").is_ok(),
+        sink.patch(1, b"WXYZ").is_ok(),
+        sink.put(b"mnop").is_ok(),
+        disk.bytes.get(),
     );
-    puts(&rt, &disk, &mut sink, b"ijkl", (true, *b"abcijkl........."));
-    same(&rt, &sink.patch(1, b"WXYZ"), &Ok(()));
-    puts(&rt, &disk, &mut sink, b"mnop", (true, *b"aWXYZklmnop....."));
-    puts(
-        &rt,
-        &disk,
-        &mut sink,
-        b"0123456",
-        (false, *b"aWXYZklmnop01234"),
-    );
+    same(&rt, &answers, &(true, true, true, *b"aWXYZklmnop....."));
+    let last = (sink.put(b"0123456").is_ok(), disk.bytes.get());
+    same(&rt, &last, &(false, *b"aWXYZklmnop01234"));
 }
 
 #[test]
