@@ -1,8 +1,9 @@
 //! Worked positions, computed by hand.
+ghost use Rattle.std.specs.Prelude.{◌≡◌, ◌<◌, ◌≤◌, All, length};
 
 use crate::shapes::{steady, warp_of};
 use fm_locate::{Located, least, locate};
-use fm_nest::Place;
+use fm_nest::{MAX_LEVELS, Place};
 use fm_tick::MAX_TICK;
 use fm_warp::{Part, Warp};
 use std::process::Abort;
@@ -64,6 +65,17 @@ fn a_deformation_that_takes_out_ticks_never_comes_to_the_last(rt: HostRuntime) -
     Ok(())
 }
 
+// Compares where a tick lies in the levels of a place.
+fn is_located<R: Abort>(rt: &R, ids: &[u32], warps: &[Warp], place: &Place, t: u64, wanted: Located)
+    requires depth { length ids.now ≡ place.now.depth }
+    requires room { place.now.depth ≤ MAX_LEVELS }
+    requires limited { All (λ origin. origin ≤ MAX_TICK) place.now.origins }
+    requires named { All (λ id. id < length warps.now) ids.now }
+    requires in_time { t ≤ MAX_TICK }
+{
+    assert_eq!(rt; locate(ids, warps, place, t), wanted);
+}
+
 #[test]
 fn levels_are_located_from_the_outermost(rt: HostRuntime) -> Result<(), Fail> {
     let double = steady(rt.alloc(), 1_000, 2_000)?;
@@ -74,18 +86,26 @@ fn levels_are_located_from_the_outermost(rt: HostRuntime) -> Result<(), Fail> {
         origins: [100, 30, 0, 0, 0, 0, 0, 0],
         position: 60,
     };
-    assert_eq!(rt;
-        locate(&[0, 1], &warps, &place, 201),
+    is_located(
+        &rt,
+        &[0, 1],
+        &warps,
+        &place,
+        201,
         Located::There {
             positions: [51, 42, 0, 0, 0, 0, 0, 0],
-        }
+        },
     );
     // Before a level begins, its position 0 is the first that is left.
-    assert_eq!(rt;
-        locate(&[0, 1], &warps, &place, 5),
+    is_located(
+        &rt,
+        &[0, 1],
+        &warps,
+        &place,
+        5,
         Located::There {
             positions: [0, 0, 0, 0, 0, 0, 0, 0],
-        }
+        },
     );
     Ok(())
 }
@@ -98,11 +118,15 @@ fn one_level_from_the_beginning(rt: HostRuntime) -> Result<(), Fail> {
         origins: [0; 8],
         position: 100,
     };
-    assert_eq!(rt;
-        locate(&[0], &[half], &place, 60),
+    is_located(
+        &rt,
+        &[0],
+        &[half],
+        &place,
+        60,
         Located::There {
             positions: [120, 0, 0, 0, 0, 0, 0, 0],
-        }
+        },
     );
     Ok(())
 }
@@ -117,13 +141,21 @@ fn the_first_level_that_never_comes_there_is_told(rt: HostRuntime) -> Result<(),
         origins: [10, 20, 0, 0, 0, 0, 0, 0],
         position: 0,
     };
-    assert_eq!(rt;
-        locate(&[0, 1], &warps, &place, MAX_TICK - 600),
-        Located::Never { level: 2 }
+    is_located(
+        &rt,
+        &[0, 1],
+        &warps,
+        &place,
+        MAX_TICK - 600,
+        Located::Never { level: 2 },
     );
-    assert_eq!(rt;
-        locate(&[1, 0], &warps, &place, MAX_TICK),
-        Located::Never { level: 1 }
+    is_located(
+        &rt,
+        &[1, 0],
+        &warps,
+        &place,
+        MAX_TICK,
+        Located::Never { level: 1 },
     );
     Ok(())
 }
@@ -135,8 +167,12 @@ fn without_a_level_there_is_no_position(rt: HostRuntime) {
         origins: [0; 8],
         position: 7,
     };
-    assert_eq!(rt;
-        locate(&[], &[], &place, MAX_TICK),
-        Located::There { positions: [0; 8] }
+    is_located(
+        &rt,
+        &[],
+        &[],
+        &place,
+        MAX_TICK,
+        Located::There { positions: [0; 8] },
     );
 }
