@@ -1,6 +1,6 @@
 //! Records of small scores, checked: whole runs, and runs with a fault.
 
-ghost use Rattle.std.specs.Prelude.{◌<◌, ◌≤◌, length};
+ghost use Rattle.std.specs.Prelude.{◌<◌};
 ghost use Rattle.fm_msg.specs.declared.msg.TheConstants.{DATA_VALUES};
 
 use fm_audit::{AuditFault, audit, header};
