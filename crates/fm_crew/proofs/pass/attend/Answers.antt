@@ -18,6 +18,6 @@ begin-requires-clause-passing g c =
     enough : is_due c.args.due ≡ true → has_nothing c.look-seen.result.tag ≡ true
     enough some =
         elim c.then-not-has_due.branch [
-          then-not-has_due-via-then-not-has_due w ↦ absurd (both_ways (is_due c.args.due) (sym c.has_due.ensures ∙ w.if-not-has_due.true) some)
+          | then-not-has_due-via-then-not-has_due w ↦ absurd (both_ways (is_due c.args.due) (sym c.has_due.ensures ∙ w.if-not-has_due.true) some)
           | then-not-has_due-via-else-not-has_due+then-has_nothing w ↦ sym w.has_nothing.ensures ∙ w.if-has_nothing.true
         ]
