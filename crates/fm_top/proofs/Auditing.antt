@@ -19,8 +19,8 @@ use Rattle.fm_program.specs.Process.{plan_lines}
 use Rattle.fm_record.specs.Head.{AreParts, head_bytes}
 use Rattle.fm_record.specs.declared.limits.TheConstants.{MAX_RECORD}
 use Rattle.fm_smf.specs.Writing.{IsFinished, IsBroken}
-use Rattle.fm_top.specs.declared.run_fault.RunFault.{RunFault}
-use Rattle.fm_top.specs.declared.run_fault.RunFault.TheVariants as run
+use Rattle.fm_tell.specs.declared.run_fault.RunFault.{RunFault}
+use Rattle.fm_tell.specs.declared.run_fault.RunFault.TheVariants as run
 use Rattle.fm_top.specs.declared.task.Task.TheVariants as task
 use Rattle.fm_top.specs.Audits.{Accepts, CutsOff, IsToldOf, Rejects}
 use Rattle.fm_top.specs.Judging.{IsJudged, IsPlanned}

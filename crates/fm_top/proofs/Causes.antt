@@ -1,12 +1,13 @@
 -- The cause of each status.
 use Rattle.std.proofs.Common.{◌≡◌, ℕ, List, Option, Some, None, sym, arith}
 use Rattle.fm_edge.specs.Causes.{Rose}
-use Rattle.fm_top.specs.declared.status.TheConstants.{DONE, CONSOLE_FAULT, OUT_OF_MEMORY, SCORE_REFUSED, WORDS_REFUSED}
-use Rattle.fm_top.specs.declared.run_fault.RunFault.{RunFault}
-use Rattle.fm_top.specs.declared.run_fault.RunFault.TheVariants as run
+use Rattle.fm_tell.specs.declared.status.TheConstants.{DONE, CONSOLE_FAULT, OUT_OF_MEMORY, SCORE_REFUSED, WORDS_REFUSED}
+use Rattle.fm_tell.specs.declared.run_fault.RunFault.{RunFault}
+use Rattle.fm_tell.specs.declared.run_fault.RunFault.TheVariants as run
 use Rattle.fm_top.specs.declared.task.Task.{Task}
 use Rattle.fm_top.specs.Seen.{SourceSeen, SinkSeen, ConsoleSeen}
-use Rattle.fm_top.specs.Telling.{Tells, TellsEnd, fault_status, fault_text, told, untold}
+use Rattle.fm_tell.specs.Telling.{Tells, fault_status, fault_text, told, untold}
+use Rattle.fm_top.specs.Summing.{TellsEnd}
 use Rattle.fm_top.specs.Outcome.{Does, Holds, IsRefused, StatusCause, Stops}
 
 module _ {S K C : Type 0} (from : SourceSeen S) (source source' : S) (to : SinkSeen K) (sink sink' : K)

@@ -4,16 +4,17 @@ use Rattle.std.proofs.Common.{◌≡◌, ◌⊎◌, ◌<◌, ℕ, List, [], leng
 use Rattle.fm_edge.specs.Causes.{Rose}
 use Rattle.fm_edge.specs.Content.{HasRoom}
 use Rattle.fm_edge.specs.Runs.{Puts}
-use Rattle.fm_top.specs.declared.status.TheConstants.{DONE, WORDS_REFUSED, OUT_OF_MEMORY}
-use Rattle.fm_top.specs.declared.run_fault.RunFault.{RunFault}
-use Rattle.fm_top.specs.declared.run_fault.RunFault.TheVariants as run
+use Rattle.fm_tell.specs.declared.status.TheConstants.{DONE, WORDS_REFUSED, OUT_OF_MEMORY}
+use Rattle.fm_tell.specs.declared.run_fault.RunFault.{RunFault}
+use Rattle.fm_tell.specs.declared.run_fault.RunFault.TheVariants as run
 use Rattle.fm_top.specs.declared.task.Task.{Task}
 use Rattle.fm_top.specs.declared.task.Task.TheVariants as task
 use Rattle.fm_top.specs.Products.{Product, Work, writes, puts, leaves, IsDone, IsCutOff, Makes, Refuses, size_of}
 use Rattle.fm_top.specs.Seen.{SourceSeen, SinkSeen, ConsoleSeen}
 use Rattle.fm_top.specs.Taking.{TakesAll, TakesRefused, offered}
 use Rattle.fm_top.specs.Tasks.{most_of, number_of}
-use Rattle.fm_top.specs.Telling.{TellsEnd, fault_status, fault_text, told, untold}
+use Rattle.fm_tell.specs.Telling.{fault_status, fault_text, told, untold}
+use Rattle.fm_top.specs.Summing.{TellsEnd}
 use Rattle.fm_top.specs.Outcome.{WritesScore, Does, Stops, Holds, RunEnds, does, stops, Completes}
 use Rattle.fm_top.proofs.Judged.{told_is, told_longer}
 use Rattle.fm_top.specs.Verdicts.{OneVerdict}

@@ -20,7 +20,7 @@ use Rattle.fm_gen.specs.SummaryLine.{summary_line}
 use Rattle.fm_smf.specs.File.{file}
 use Rattle.fm_smf.specs.Writing.{IsFinished, IsBroken}
 use Rattle.fm_smf.specs.declared.limits.TheConstants.{MAX_TIME}
-use Rattle.fm_top.specs.declared.run_fault.RunFault.TheVariants as run
+use Rattle.fm_tell.specs.declared.run_fault.RunFault.TheVariants as run
 use Rattle.fm_top.specs.declared.task.Task.TheVariants.{Excerpt}
 use Rattle.fm_top.specs.Outcome.{Does, Stops}
 use Rattle.fm_top.specs.Products.{part_of, score_excerpt, totals_with}

@@ -5,8 +5,8 @@ use Rattle.std.specs.Io.KnownBytes.{prepend_known}
 use Rattle.fm_lex.specs.declared.lexer.TheConstants.{MAX_TEXT}
 use Rattle.fm_meaning.specs.Verdict.{HasFault}
 use Rattle.fm_top.specs.Judging.{IsJudged}
-use Rattle.fm_top.specs.declared.run_fault.RunFault.{RunFault}
-use Rattle.fm_top.specs.declared.run_fault.RunFault.TheVariants as run
+use Rattle.fm_tell.specs.declared.run_fault.RunFault.{RunFault}
+use Rattle.fm_tell.specs.declared.run_fault.RunFault.TheVariants as run
 use Rattle.fm_top.specs.Seen.{SourceSeen}
 use Rattle.fm_top.specs.Taking.{TakesAll, IsTaken, offered, remaining}
 

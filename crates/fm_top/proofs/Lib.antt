@@ -1,5 +1,4 @@
 pub mod Reading
-pub mod Digits
 pub mod Placing
 pub mod Judged
 pub mod Playing
@@ -15,5 +14,3 @@ pub mod OnRecord
 pub mod Causes
 pub mod Completing
 pub mod Schedules
-pub mod PlaceRows
-mod Numerals

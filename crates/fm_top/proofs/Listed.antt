@@ -7,8 +7,8 @@ use Rattle.fm_read.specs.Fault.{kind_number}
 use Rattle.fm_read.specs.Files.{Contents, contents, position}
 use Rattle.fm_read.specs.declared.fault.ReadKind.{ReadKind}
 use Rattle.fm_read.specs.declared.limits.TheConstants.{MAX_FILE}
-use Rattle.fm_top.specs.declared.run_fault.RunFault.{RunFault}
-use Rattle.fm_top.specs.declared.run_fault.RunFault.TheVariants as run
+use Rattle.fm_tell.specs.declared.run_fault.RunFault.{RunFault}
+use Rattle.fm_tell.specs.declared.run_fault.RunFault.TheVariants as run
 use Rattle.fm_top.specs.declared.task.Task.TheVariants as task
 use Rattle.fm_top.specs.Outcome.{Does, Stops}
 use Rattle.fm_top.specs.Products.{IsFaultOfFile, file_fault, listed, too_large}

@@ -5,8 +5,8 @@ use Rattle.fm_meaning.specs.Resolve.{resolved}
 use Rattle.fm_position.specs.Told.{IsLocated}
 use Rattle.fm_program.specs.Parts.{PlanParts}
 use Rattle.fm_program.proofs.Lines.{plan-lines-length}
-use Rattle.fm_top.specs.declared.run_fault.RunFault.{RunFault}
-use Rattle.fm_top.specs.declared.run_fault.RunFault.TheVariants as run
+use Rattle.fm_tell.specs.declared.run_fault.RunFault.{RunFault}
+use Rattle.fm_tell.specs.declared.run_fault.RunFault.TheVariants as run
 use Rattle.fm_top.specs.declared.task.Task.TheVariants.{Locate}
 use Rattle.fm_top.specs.Outcome.{Does, Stops}
 use Rattle.fm_top.specs.Products.{IsDone, LacksProcess, Product, only_told}

@@ -10,7 +10,7 @@ use Rattle.fm_play.specs.declared.played.Played.{Played}
 use Rattle.fm_program.specs.Parts.{PlanParts}
 use Rattle.fm_record.specs.Head.{head_bytes}
 use Rattle.fm_record.specs.StepBytes.{AreSteps}
-use Rattle.fm_top.specs.declared.run_fault.RunFault.TheVariants as run
+use Rattle.fm_tell.specs.declared.run_fault.RunFault.TheVariants as run
 use Rattle.fm_top.specs.declared.task.Task.TheVariants as task
 use Rattle.fm_top.specs.Judging.{IsPlanned}
 use Rattle.fm_top.specs.Outcome.{Does, Stops}

@@ -19,8 +19,8 @@ use Rattle.fm_play.specs.declared.played.Played.{Played}
 use Rattle.fm_smf.specs.File.{file}
 use Rattle.fm_smf.specs.Writing.{IsFinished, IsBroken}
 use Rattle.fm_gen.specs.declared.summary.Summary.{Summary}
-use Rattle.fm_top.specs.declared.run_fault.RunFault.{RunFault}
-use Rattle.fm_top.specs.declared.run_fault.RunFault.TheVariants as run
+use Rattle.fm_tell.specs.declared.run_fault.RunFault.{RunFault}
+use Rattle.fm_tell.specs.declared.run_fault.RunFault.TheVariants as run
 use Rattle.fm_top.specs.declared.task.Task.TheVariants.{Play}
 use Rattle.fm_top.specs.Seen.{SourceSeen, SinkSeen}
 use Rattle.fm_top.specs.Summing.{totals}

@@ -7,8 +7,8 @@ use Rattle.fm_meaning.specs.Verdict.{HasFault, Means}
 use Rattle.fm_record.proofs.HeadLemmas.{head_back, one_head}
 use Rattle.fm_record.specs.Head.{bad_field}
 use Rattle.fm_record.specs.declared.limits.TheConstants.{MAX_RECORD}
-use Rattle.fm_top.specs.declared.run_fault.RunFault.{RunFault}
-use Rattle.fm_top.specs.declared.run_fault.RunFault.TheVariants as run
+use Rattle.fm_tell.specs.declared.run_fault.RunFault.{RunFault}
+use Rattle.fm_tell.specs.declared.run_fault.RunFault.TheVariants as run
 use Rattle.fm_top.specs.Products.{MakesAudited, Product, performance}
 use Rattle.fm_top.specs.Records.{HasVerdict, IsAccepted, IsFaultOfRecord, IsRecord, Parts, RecordFails, TextFails, begins, passes, step_fault, strays}
 use Rattle.fm_top.proofs.TextVerdicts.{TextVerdict, text_fault}

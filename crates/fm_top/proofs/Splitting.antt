@@ -22,7 +22,7 @@ use Rattle.fm_readback.specs.ReadBack.{IsReadBack}
 use Rattle.fm_gen.specs.SummaryLine.{summary_line}
 use Rattle.fm_gen.specs.declared.summary.Summary.{Summary}
 use Rattle.fm_smf.specs.File.{file}
-use Rattle.fm_top.specs.declared.run_fault.RunFault.TheVariants as run
+use Rattle.fm_tell.specs.declared.run_fault.RunFault.TheVariants as run
 use Rattle.fm_top.specs.declared.task.Task.TheVariants.{Split}
 use Rattle.fm_top.specs.Outcome.{Does, Stops}
 use Rattle.fm_top.specs.Products.{score_file, score_parts, score_summary, split, totals_with}

@@ -5,8 +5,8 @@ use Rattle.fm_lex.specs.declared.lexer.TheConstants.{MAX_TEXT}
 use Rattle.fm_lex.specs.declared.spot.Spot.{Spot}
 use Rattle.fm_meaning.specs.Fault.{NumberedFault}
 use Rattle.fm_meaning.specs.Verdict.{Accepted, Cause, HasFault, Means, finds, too_much, trips}
-use Rattle.fm_top.specs.declared.run_fault.RunFault.{RunFault}
-use Rattle.fm_top.specs.declared.run_fault.RunFault.TheVariants as run
+use Rattle.fm_tell.specs.declared.run_fault.RunFault.{RunFault}
+use Rattle.fm_tell.specs.declared.run_fault.RunFault.TheVariants as run
 use Rattle.fm_top.specs.Products.{IsFaultOfText, MakesOfScore, Product}
 
 -- what is known of the verdict of a text: it is one

@@ -10,8 +10,8 @@ use Rattle.fm_program.specs.Parts.{PlanParts}
 use Rattle.fm_read.specs.Files.{Contents, contents}
 use Rattle.fm_read.specs.Reading.{Read}
 use Rattle.fm_read.specs.declared.limits.TheConstants.{MAX_FILE}
-use Rattle.fm_top.specs.declared.run_fault.RunFault.{RunFault}
-use Rattle.fm_top.specs.declared.run_fault.RunFault.TheVariants as run
+use Rattle.fm_tell.specs.declared.run_fault.RunFault.{RunFault}
+use Rattle.fm_tell.specs.declared.run_fault.RunFault.TheVariants as run
 use Rattle.fm_top.specs.declared.task.Task.{Task}
 use Rattle.fm_top.specs.declared.task.Task.TheVariants as task
 use Rattle.fm_top.specs.Products.{IsFaultOfFile, IsFaultOfPosition, Makes, MakesPosition, Product, Refuses, file_fault, listed, only_told, part_of, performance, split, too_large}

@@ -4,8 +4,8 @@ use Rattle.fm_audit.specs.declared.fault.AuditFault.{AuditFault}
 use Rattle.fm_audit.specs.declared.fault.AuditFault.TheVariants as audit
 use Rattle.fm_top.specs.Products.{IsCutOff, IsDone, MakesAudited, Product}
 use Rattle.fm_top.specs.Records.{RecordFails, TextFails, step_fault}
-use Rattle.fm_top.specs.declared.run_fault.RunFault.{RunFault}
-use Rattle.fm_top.specs.declared.run_fault.RunFault.TheVariants as run
+use Rattle.fm_tell.specs.declared.run_fault.RunFault.{RunFault}
+use Rattle.fm_tell.specs.declared.run_fault.RunFault.TheVariants as run
 use Rattle.fm_top.specs.Seen.{SinkSeen}
 
 module _ {K : Type 0} (to : SinkSeen K) (sink sink' : K)

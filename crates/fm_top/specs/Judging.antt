@@ -8,8 +8,8 @@ use Rattle.fm_fault.specs.declared.fault.CheckFault.{CheckFault}
 use Rattle.fm_fault.specs.declared.fault.CheckFault.TheVariants.{Refused, Memory}
 use Rattle.fm_program.specs.Parts.{PlanParts}
 use Rattle.fm_expansion.specs.Numbering.{score_plan}
-use Rattle.fm_top.specs.declared.run_fault.RunFault.{RunFault}
-use Rattle.fm_top.specs.declared.run_fault.RunFault.TheVariants as run
+use Rattle.fm_tell.specs.declared.run_fault.RunFault.{RunFault}
+use Rattle.fm_tell.specs.declared.run_fault.RunFault.TheVariants as run
 
 -- the plan is that of the score that the text means
 pub record IsPlanned (text : List ℕ) (plan : PlanParts) : Type 0 where

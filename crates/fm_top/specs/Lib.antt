@@ -5,9 +5,7 @@ pub mod Records
 pub mod Products
 pub mod Audits
 pub mod Taking
-pub mod Telling
 pub mod Outcome
 pub mod Summing
-pub mod TellingRows
 pub mod Schedules
 pub mod Verdicts

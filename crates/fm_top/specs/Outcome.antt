@@ -13,16 +13,17 @@ use Rattle.fm_grammar.specs.Score as tree
 use Rattle.fm_meaning.specs.Rules.{profile_of}
 use Rattle.fm_meaning.specs.Resolve.{resolved}
 use Rattle.fm_meaning.specs.Lines.{played_piece, played_end}
-use Rattle.fm_top.specs.declared.status.TheConstants.{DONE, WORDS_REFUSED, READ_FAULT, SCORE_REFUSED, WRITE_FAULT, CONSOLE_FAULT, OUT_OF_MEMORY, NO_PROCESS}
-use Rattle.fm_top.specs.declared.run_fault.RunFault.{RunFault}
-use Rattle.fm_top.specs.declared.run_fault.RunFault.TheVariants as run
+use Rattle.fm_tell.specs.declared.status.TheConstants.{DONE, WORDS_REFUSED, READ_FAULT, SCORE_REFUSED, WRITE_FAULT, CONSOLE_FAULT, OUT_OF_MEMORY, NO_PROCESS}
+use Rattle.fm_tell.specs.declared.run_fault.RunFault.{RunFault}
+use Rattle.fm_tell.specs.declared.run_fault.RunFault.TheVariants as run
 use Rattle.fm_top.specs.declared.task.Task.{Task}
 use Rattle.fm_top.specs.declared.task.Task.TheVariants.{Play}
 use Rattle.fm_top.specs.Products.{Product, IsDone, IsCutOff, Makes, Refuses, size_of}
 use Rattle.fm_top.specs.Seen.{SourceSeen, SinkSeen, ConsoleSeen}
 use Rattle.fm_top.specs.Taking.{TakesAll, TakesRefused, TakesScore, offered, remaining}
 use Rattle.fm_top.specs.Tasks.{asked_by, number_of, most_of}
-use Rattle.fm_top.specs.Telling.{Tells, TellsEnd, fault_status, fault_text}
+use Rattle.fm_tell.specs.Telling.{Tells, fault_status, fault_text}
+use Rattle.fm_top.specs.Summing.{TellsEnd}
 
 module _ {K : Type 0} (to : SinkSeen K) (sink sink' : K) where
   -- what a fault says of the sink, where a plan was to be played: a call failed before its file was in the sink, or

@@ -9,8 +9,8 @@ use Rattle.fm_meaning.specs.Resolve.{resolved}
 use Rattle.fm_meaning.specs.Verdict.{HasFault, Means}
 use Rattle.fm_record.specs.Head.{IsHead, bad_field, head_bytes}
 use Rattle.fm_record.specs.declared.limits.TheConstants.{MAX_RECORD}
-use Rattle.fm_top.specs.declared.run_fault.RunFault.{RunFault}
-use Rattle.fm_top.specs.declared.run_fault.RunFault.TheVariants as run
+use Rattle.fm_tell.specs.declared.run_fault.RunFault.{RunFault}
+use Rattle.fm_tell.specs.declared.run_fault.RunFault.TheVariants as run
 
 -- the number of a head that is cut, or that has a field which cannot stand
 abbrev pub bad_head : ℕ

@@ -1,6 +1,6 @@
 -- What is seen of the objects that a run is handed: the members of their traits, as one record for each. Definitions
 -- call these records `from`, `to` and `on`: `from.left source` is what the source has left.
-use Rattle.fm_edge.specs.declared.console.Console as console
+pub use Rattle.fm_tell.specs.Seen.{ConsoleSeen}
 use Rattle.fm_edge.specs.declared.sink.Sink as sink
 use Rattle.fm_edge.specs.declared.source.Source as source
 
@@ -11,7 +11,3 @@ SourceSeen S = source.Ghosts S
 -- of a sink: what it holds and how much it is sure to take, where these are told, and its count of faults
 abbrev pub SinkSeen : Type 0 → Type 1
 SinkSeen K = sink.Ghosts K
-
--- of a console: what it holds and how much it is sure to take, where these are told, and its count of faults
-abbrev pub ConsoleSeen : Type 0 → Type 1
-ConsoleSeen C = console.Ghosts C

@@ -10,8 +10,8 @@ use Rattle.fm_meaning.specs.Verdict.{HasFault, Means}
 use Rattle.fm_program.specs.Parts.{PlanParts}
 use Rattle.fm_top.specs.Judging.{IsPlanned}
 use Rattle.fm_top.specs.Products.{LacksProcess, MakesPosition, Product}
-use Rattle.fm_top.specs.declared.run_fault.RunFault.{RunFault}
-use Rattle.fm_top.specs.declared.run_fault.RunFault.TheVariants as run
+use Rattle.fm_tell.specs.declared.run_fault.RunFault.{RunFault}
+use Rattle.fm_tell.specs.declared.run_fault.RunFault.TheVariants as run
 use Rattle.fm_top.specs.Seen.{SourceSeen}
 
 -- the text that there is to take, where it is told: the large score of a number, where one is asked for; else what the

@@ -10,11 +10,11 @@ ghost use Rattle.fm_top.specs.declared.task.Task.TheVariants as task;
 use crate::input::read_input;
 use crate::judge::judge;
 use crate::read_fault::ReadFault;
-use crate::run_fault::RunFault;
 use fm_audit::{AuditFault, MAX_RECORD, audit, header, lines};
 use fm_edge::{Sink, Source};
 use fm_fidelity::plans_play_the_score;
 use fm_promise::{accepted_lines_are_valid, scores_end_with_their_last_line};
+use fm_tell::RunFault;
 use std::alloc::Global;
 
 /// A head that is not whole, or with a number out of its range.

@@ -8,12 +8,12 @@ ghost use Rattle.fm_grammar.specs.Reads.{lexical, Reads, TripsWith};
 ghost use Rattle.fm_parse.specs.Whole.{IsFault};
 ghost use Rattle.fm_top.specs.Judging.{IsFirst, IsPlanned, IsJudged};
 
-use crate::run_fault::RunFault;
 use fm_check::{CheckFault, Checked, check_outline};
 use fm_lex::{LexFault, MAX_TEXT};
 use fm_parse::{ParseFault, parse};
 use fm_plan::plan_outline;
 use fm_program::Plan;
+use fm_tell::RunFault;
 use std::alloc::Global;
 
 /// A byte that begins no token.

@@ -12,10 +12,10 @@ ghost use Rattle.fm_top.specs.declared.task.Task.TheVariants as task;
 
 use crate::input::read_input;
 use crate::read_fault::ReadFault;
-use crate::run_fault::RunFault;
 use fm_edge::{Sink, Source};
 use fm_listing::list;
 use fm_read::{File, MAX_FILE, read};
+use fm_tell::RunFault;
 use std::alloc::Global;
 
 /// More bytes than a file may have.

@@ -8,14 +8,14 @@ ghost use Rattle.fm_read.specs.Files.{Contents, contents};
 ghost use Rattle.fm_read.specs.declared.limits.TheConstants.{MAX_FILE};
 ghost use Rattle.fm_smf.specs.File.{file};
 ghost use Rattle.fm_words.specs.View.{HasRanges, options_view};
-ghost use Rattle.fm_top.specs.declared.run_fault.RunFault.TheVariants.{Memory};
+ghost use Rattle.fm_tell.specs.declared.run_fault.RunFault.TheVariants.{Memory};
 
 use crate::play::play;
-use crate::run_fault::RunFault;
 use fm_edge::{Gate, MemorySink};
 use fm_play::Played;
 use fm_program::Plan;
 use fm_read::{File, MAX_FILE, read};
+use fm_tell::RunFault;
 use fm_words::Options;
 use std::alloc::Global;
 use std::sync::Wait;

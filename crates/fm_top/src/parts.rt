@@ -11,7 +11,6 @@ ghost use Rattle.fm_top.specs.declared.task.Task.TheVariants.{Split};
 
 use crate::memory::{open_written, play_in_memory};
 use crate::perform::totals_of;
-use crate::run_fault::RunFault;
 use crate::score::read_score;
 use crate::told::Told;
 use fm_edge::{Gate, Sink, Source};
@@ -20,6 +19,7 @@ use fm_parts::split;
 use fm_play::Played;
 use fm_promise::scores_end_with_their_last_line;
 use fm_readback::accepted_files_are_read;
+use fm_tell::RunFault;
 use fm_words::Options;
 use std::alloc::Global;
 use std::sync::Wait;

@@ -11,7 +11,6 @@ ghost use Rattle.fm_top.specs.Summing.{told_text, totals};
 ghost use Rattle.fm_top.specs.declared.task.Task.TheVariants.{Play};
 
 use crate::play::play;
-use crate::run_fault::RunFault;
 use crate::score::read_score;
 use crate::told::Told;
 use fm_edge::{Gate, Sink, Source};
@@ -19,6 +18,7 @@ use fm_fidelity::plans_play_the_score;
 use fm_gen::Summary;
 use fm_play::Played;
 use fm_promise::scores_end_with_their_last_line;
+use fm_tell::RunFault;
 use fm_words::Options;
 use std::alloc::Global;
 use std::sync::Wait;

@@ -9,11 +9,11 @@ ghost use Rattle.fm_smf.specs.Writing.{IsFinished};
 ghost use Rattle.fm_words.specs.View.{HasRanges, options_view};
 ghost use Rattle.fm_top.specs.Outcome.{StopsAt};
 
-use crate::run_fault::RunFault;
 use fm_edge::{Gate, Sink};
 use fm_play::Played;
 use fm_program::Plan;
 use fm_round::Rounds;
+use fm_tell::RunFault;
 use fm_words::Options;
 use std::alloc::Global;
 use std::sync::Wait;

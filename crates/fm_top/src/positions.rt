@@ -7,12 +7,12 @@ ghost use Rattle.fm_top.specs.Taking.{Takes, IsLeftAlone, IsUnlocated, TakesPosi
 ghost use Rattle.fm_top.specs.Taking.{offered, remaining};
 ghost use Rattle.fm_top.specs.Summing.{told_text};
 
-use crate::run_fault::RunFault;
 use crate::score::read_score;
 use crate::told::Told;
 use fm_edge::Source;
 use fm_fidelity::plans_play_the_score;
 use fm_position::locate_in;
+use fm_tell::RunFault;
 use std::alloc::Global;
 
 /// Reads the score of the source, or the large score of a number, and locates a tick in the levels

@@ -9,11 +9,11 @@ ghost use Rattle.fm_top.specs.Taking.{IsLeftAlone, offered, remaining};
 use crate::input::read_input;
 use crate::judge::judge;
 use crate::read_fault::ReadFault;
-use crate::run_fault::RunFault;
 use fm_edge::Source;
 use fm_gen::{MAX_NUMBER, generate};
 use fm_lex::{MAX_TEXT, Spot};
 use fm_program::Plan;
+use fm_tell::RunFault;
 use std::alloc::Global;
 
 /// Where a text begins.

@@ -6,8 +6,9 @@ ghost use Rattle.fm_top.specs.Outcome.{Plays, RunEnds, StatusCause, Completes};
 
 use crate::laws::each_input_has_one_verdict;
 use crate::run::run;
-use crate::tell::{tell, tell_end};
+use crate::tell::tell_end;
 use fm_edge::{Console, Gate, Sink, Source};
+use fm_tell::tell;
 use std::alloc::Global;
 use std::sync::Wait;
 use std::thread::Threads;

@@ -1,7 +1,7 @@
 use Rattle.std.proofs.Common.{◌≤◌, arith}
 use Rattle.arrayvec.specs.ArrayVec.{array_vec_len}
-use Rattle.fm_top.proofs.Digits.{length-decimal_32, length-decimal_8}
-use Rattle.fm_top.proofs.tell.text_at.Goals as goal
+use Rattle.fm_tell.proofs.Digits.{length-decimal_32, length-decimal_8}
+use Rattle.fm_tell.proofs.telling.text_at.Goals as goal
 
 pub push_decimal-requires : goal.push_decimal-requires
 push_decimal-requires c = grind (arith, c.push_bytes.ensures.len, length-decimal_32 c.args.line (omega arith))

@@ -1,10 +1,10 @@
 -- What is told of a run: its exit status and its text on the console.
-use Rattle.std.specs.Prelude.{◌≡◌, ℕ, List, ◌++◌, codes, decimal, Option, Some, None}
+use Rattle.std.specs.Prelude.{◌≡◌, ℕ, List, ◌++◌, codes, decimal}
 use Rattle.fm_edge.specs.Runs.{Puts, Breaks}
-use Rattle.fm_top.specs.declared.status.TheConstants.{DONE, WORDS_REFUSED, READ_FAULT, SCORE_REFUSED, WRITE_FAULT, CONSOLE_FAULT, OUT_OF_MEMORY, NO_PROCESS}
-use Rattle.fm_top.specs.declared.run_fault.RunFault.{RunFault}
-use Rattle.fm_top.specs.declared.run_fault.RunFault.TheVariants.{Words, Read, Score, File, Record, NoProcess, Write, Memory}
-use Rattle.fm_top.specs.Seen.{ConsoleSeen}
+use Rattle.fm_tell.specs.declared.status.TheConstants.{WORDS_REFUSED, READ_FAULT, SCORE_REFUSED, WRITE_FAULT, CONSOLE_FAULT, OUT_OF_MEMORY, NO_PROCESS}
+use Rattle.fm_tell.specs.declared.run_fault.RunFault.{RunFault}
+use Rattle.fm_tell.specs.declared.run_fault.RunFault.TheVariants.{Words, Read, Score, File, Record, NoProcess, Write, Memory}
+use Rattle.fm_tell.specs.Seen.{ConsoleSeen}
 
 -- the status of a fault
 abbrev pub fault_status : RunFault → ℕ
@@ -54,8 +54,3 @@ module _ {C : Type 0} (on : ConsoleSeen C)
     told : status ≡ verdict → Puts on.content on.sure on.faults console console' text → Tells text verdict status
     untold : status ≡ CONSOLE_FAULT → Breaks on.content on.sure on.faults console console' text
         → Tells text verdict status
-
-  -- of a task that is done nothing is told, or its line where there is one
-  abbrev pub TellsEnd : Option (List ℕ) → ℕ → Type 0
-  TellsEnd None status = (status ≡ DONE) × (console' ≡ console)
-  TellsEnd (Some text) status = Tells text DONE status

@@ -1,6 +1,6 @@
 //! Why a run does not do what it was asked to.
 ghost use Rattle.std.specs.Prelude.{◌≡◌};
-ghost use Rattle.fm_top.specs.declared.run_fault.RunFault.TheVariants.{Memory, Write};
+ghost use Rattle.fm_tell.specs.declared.run_fault.RunFault.TheVariants.{Memory, Write};
 
 use fm_lex::Spot;
 use fm_smf::SinkFault;

@@ -3,8 +3,8 @@ use Rattle.std.proofs.Common.{◌≡◌, ℕ, ◌++◌, ◌∷◌, [], ap, ◌�
 use Rattle.std.specs.Prelude.{codes, decimal}
 use Rattle.std.proofs.lemmas.Fmt.{decimal_digit, decimal_step}
 use Rattle.fm_lex.specs.declared.spot.Spot.{Spot}
-use Rattle.fm_top.specs.declared.run_fault.RunFault.TheVariants.{Record, Score}
-use Rattle.fm_top.specs.Telling.{fault_text}
+use Rattle.fm_tell.specs.declared.run_fault.RunFault.TheVariants.{Record, Score}
+use Rattle.fm_tell.specs.Telling.{fault_text}
 
 abbrev at : ℕ → ℕ → Spot
 at line column = record { line = line; column = column }

@@ -1,4 +1,4 @@
-use Rattle.fm_top.proofs.tell.+push_decimal.Given as goal
+use Rattle.fm_tell.proofs.telling.+push_decimal.Given as goal
 
 abbrev pub decreases-push_decimal : goal.decreases-push_decimal
 decreases-push_decimal l = l.number

@@ -1,6 +1,6 @@
 use Rattle.std.proofs.Common.{◌≡◌, ◌+◌, ◌/◌, ◌%◌, ◌∷◌, ◌++◌, [], length, decimal, ◌∙◌, sym, ap, arith, append_assoc}
-use Rattle.fm_top.proofs.Digits.{one_digit, length-one_digit, more_digits, length-more_digits}
-use Rattle.fm_top.proofs.tell.+push_decimal.Goals as goal
+use Rattle.fm_tell.proofs.Digits.{one_digit, length-one_digit, more_digits, length-more_digits}
+use Rattle.fm_tell.proofs.telling.+push_decimal.Goals as goal
 
 pub push-requires : goal.push-requires
 push-requires t c = (omega arith, omega (arith, c.requires, length-one_digit c.args.number c.if-number-lt10.true))

@@ -1,8 +1,8 @@
 -- Worked examples of the texts on the console.
 use Rattle.std.specs.Prelude.{◌≡◌, ℕ, codes, refl}
-use Rattle.fm_top.specs.declared.run_fault.RunFault.{RunFault}
-use Rattle.fm_top.specs.declared.run_fault.RunFault.TheVariants.{Words, Read, Score, File, Record, NoProcess, Write, Memory}
-use Rattle.fm_top.specs.Telling.{fault_status, fault_text}
+use Rattle.fm_tell.specs.declared.run_fault.RunFault.{RunFault}
+use Rattle.fm_tell.specs.declared.run_fault.RunFault.TheVariants.{Words, Read, Score, File, Record, NoProcess, Write, Memory}
+use Rattle.fm_tell.specs.Telling.{fault_status, fault_text}
 
 abbrev at : ℕ → ℕ → ℕ → RunFault
 at line column number = Score (record { line = line; column = column }) number
