@@ -8,6 +8,7 @@ pub mod Tripping
 pub mod FromForms
 pub mod FromValues
 pub mod FromStatements
+pub mod StatementViews
 pub mod Telling
 pub mod ToForms
 pub mod ToExprs

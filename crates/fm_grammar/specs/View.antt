@@ -46,6 +46,10 @@ pub record PlacedStmt : Type 0 where
   pub spot : Spot
   pub what : Stmt
 
+-- a statement at its spot
+abbrev pub placed : Spot → Stmt → PlacedStmt
+placed s w = record { spot = s; what = w }
+
 -- statements in their order
 abbrev pub body_of : List PlacedStmt → Body
 body_of [] = tree.done

@@ -1,16 +1,12 @@
 -- What steps of the code stand for, one level at a time.
-use Rattle.std.proofs.Common.{◌≡◌, ℕ, List, [], ◌∷◌, map, refl, ap, rules, Vec, Global}
+use Rattle.std.proofs.Common.{◌≡◌, ℕ, map, rules, Vec, Global}
+use Rattle.fm_grammar.proofs.StatementViews.{map_twice}
 use Rattle.fm_program.specs.declared.op.Count.{Count}
 use Rattle.fm_expansion.specs.Outline as plain
 use Rattle.fm_outline.specs.declared.quality.Quality.{Quality}
 use Rattle.fm_outline.specs.declared.step.Step.{Step, the_lemmas}
 use Rattle.fm_outline.specs.declared.step.Instruction.TheViews as code
 use Rattle.fm_outline.specs.View.{Look, instruction_view, step_view, block_view, arms_of_blocks, quality_view}
-
--- lists that are mapped twice
-pub map_twice : {A B C : Type 0} (f : B → C) (g : A → B) (xs : List A) → map f (map g xs) ≡ map (λ x. f (g x)) xs
-map_twice f g [] = refl
-map_twice f g (x ∷ xs) = ap (λ l. f (g x) ∷ l) (map_twice f g xs)
 
 pub choice_seen : (look : Look) (expr : ℕ) (a b : Vec Step Global)
     → instruction_view look (code.Choice expr a b) ≡ plain.choice expr (block_view look a.items) (block_view look b.items)

@@ -1,5 +1,5 @@
--- What a statement of the code stands for, one kind at a time.
-use Rattle.std.proofs.Common.{◌≡◌, ℕ, List, [], ◌∷◌, map, rules, refl, ap, ap₂, ◌∙◌}
+-- What a statement of the code stands for where its parts are known, one kind at a time.
+use Rattle.std.proofs.Common.{◌≡◌, ℕ, List, map, ap, ap₂, ◌∙◌}
 use Rattle.std.specs.Prelude.{Vec}
 use Rattle.std.specs.declared.alloc.Global.{Global}
 use Rattle.std.specs.Global.{Box}
@@ -11,25 +11,13 @@ use Rattle.fm_grammar.specs.declared.length.Length.{Length}
 use Rattle.fm_grammar.specs.declared.pitch.Pitch as code_pitch
 use Rattle.fm_grammar.specs.declared.amount.Amount as code_amount
 use Rattle.fm_grammar.specs.declared.duration.Duration as code_duration
-use Rattle.fm_grammar.specs.declared.item.Item.{Item, the_lemmas}
-use Rattle.fm_grammar.specs.declared.item.What.{What}
+use Rattle.fm_grammar.specs.declared.item.Item.{Item}
 use Rattle.fm_grammar.specs.declared.item.What.TheVariants as code
 use Rattle.fm_grammar.specs.Score.{Body, Branches, Postfix, Leaf}
 use Rattle.fm_grammar.specs.Score as tree
-use Rattle.fm_grammar.specs.View.{PlacedStmt, pitch_view, duration_view, amount_view, expr_view, name_view, item_view, items_view}
-use Rattle.fm_parse.specs.Statements.{bodies_view, placed}
-
-map_twice : {A B C : Type 0} (f : B → C) (g : A → B) (xs : List A) → map f (map g xs) ≡ map (λ x. f (g x)) xs
-map_twice f g [] = refl
-map_twice f g (x ∷ xs) = ap (λ l. f (g x) ∷ l) (map_twice f g xs)
-
--- a statement of the code at its spot, as plain data
-abbrev pub seen : Spot → What → PlacedStmt
-seen s w = item_view (record { spot = s; what = w })
-
-note_seen : (s : Spot) (a : Vec code_pitch.Pitch Global) (b : code_duration.Duration)
-    → seen s (code.Note a b) ≡ placed s (tree.note (map pitch_view a.items) (duration_view b))
-note_seen s a b = search (rules, the_lemmas)
+use Rattle.fm_grammar.specs.View.{placed, pitch_view, duration_view, amount_view, expr_view, name_view, items_view}
+use Rattle.fm_grammar.proofs.StatementViews.{seen, note_seen, play_seen, rest_seen, control_seen, program_seen, bend_seen, set_seen, repeat_seen, again_seen, call_seen, par_seen, warp_seen, channel_seen, volume_seen, gate_seen, rhythm_seen, artic_seen, loud_seen}
+use Rattle.fm_parse.specs.Statements.{bodies_view}
 
 -- a note
 pub note_view : (s : Spot) (a : Vec code_pitch.Pitch Global) (b : code_duration.Duration)
@@ -38,32 +26,16 @@ pub note_view : (s : Spot) (a : Vec code_pitch.Pitch Global) (b : code_duration.
 note_view s a b x y p q =
     note_seen s a b ∙ ap₂ (λ (v : List tree.Pitch) (w : tree.Duration). placed s (tree.note v w)) p q
 
-play_seen : (s : Spot) (a : Vec code_pitch.Pitch Global)
-    → seen s (code.Play a) ≡ placed s (tree.play (map pitch_view a.items))
-play_seen s a = search (rules, the_lemmas)
-
 -- a note with the length of the rhythm
 pub play_view : (s : Spot) (a : Vec code_pitch.Pitch Global)
     (x : List tree.Pitch) → map pitch_view a.items ≡ x
     → seen s (code.Play a) ≡ placed s (tree.play x)
 play_view s a x p = play_seen s a ∙ ap (λ (v : List tree.Pitch). placed s (tree.play v)) p
 
-rest_seen : (s : Spot) (a : code_duration.Duration)
-    → seen s (code.Rest a) ≡ placed s (tree.rest (duration_view a))
-rest_seen s a = search (rules, the_lemmas)
-
 -- a rest
 pub rest_view : (s : Spot) (a : code_duration.Duration) (x : tree.Duration) → duration_view a ≡ x
     → seen s (code.Rest a) ≡ placed s (tree.rest x)
 rest_view s a x p = rest_seen s a ∙ ap (λ (v : tree.Duration). placed s (tree.rest v)) p
-
--- a rest with the length of the rhythm
-pub skip_view : (s : Spot) → seen s code.Skip ≡ placed s tree.skip
-skip_view s = search (rules, the_lemmas)
-
-control_seen : (s : Spot) (a : Number) (b : code_amount.Amount)
-    → seen s (code.Control a b) ≡ placed s (tree.control a (amount_view b))
-control_seen s a b = search (rules, the_lemmas)
 
 -- a control change
 pub control_view : (s : Spot) (a : Number) (b : code_amount.Amount)
@@ -72,36 +44,20 @@ pub control_view : (s : Spot) (a : Number) (b : code_amount.Amount)
 control_view s a b x y p q =
     control_seen s a b ∙ ap₂ (λ (v : Number) (w : tree.Amount). placed s (tree.control v w)) p q
 
-program_seen : (s : Spot) (a : code_amount.Amount)
-    → seen s (code.Program a) ≡ placed s (tree.program (amount_view a))
-program_seen s a = search (rules, the_lemmas)
-
 -- a program change
 pub program_view : (s : Spot) (a : code_amount.Amount) (x : tree.Amount) → amount_view a ≡ x
     → seen s (code.Program a) ≡ placed s (tree.program x)
 program_view s a x p = program_seen s a ∙ ap (λ (v : tree.Amount). placed s (tree.program v)) p
-
-bend_seen : (s : Spot) (a : code_amount.Amount)
-    → seen s (code.Bend a) ≡ placed s (tree.bend (amount_view a))
-bend_seen s a = search (rules, the_lemmas)
 
 -- a pitch bend
 pub bend_view : (s : Spot) (a : code_amount.Amount) (x : tree.Amount) → amount_view a ≡ x
     → seen s (code.Bend a) ≡ placed s (tree.bend x)
 bend_view s a x p = bend_seen s a ∙ ap (λ (v : tree.Amount). placed s (tree.bend v)) p
 
-set_seen : (s : Spot) (a : ℕ) (b : Box Expr)
-    → seen s (code.Set a b) ≡ placed s (tree.set a (expr_view b.value))
-set_seen s a b = search (rules, the_lemmas)
-
 -- the setting of a register
 pub set_view : (s : Spot) (a : ℕ) (b : Box Expr) (x : ℕ) (y : Postfix) → a ≡ x → expr_view b.value ≡ y
     → seen s (code.Set a b) ≡ placed s (tree.set x y)
 set_view s a b x y p q = set_seen s a b ∙ ap₂ (λ (v : ℕ) (w : Postfix). placed s (tree.set v w)) p q
-
-pub choice_seen : (s : Spot) (a : Box Expr) (b : Vec Item Global) (c : Vec Item Global)
-    → seen s (code.If a b c) ≡ placed s (tree.choice (expr_view a.value) (items_view b.items) (items_view c.items))
-choice_seen s a b c = search (rules, the_lemmas)
 
 -- a choice
 pub choice_stands : (s : Spot) (a x : Postfix) (b y c z : Body) → a ≡ x → b ≡ y → c ≡ z
@@ -110,20 +66,12 @@ choice_stands s a x b y c z p q r =
     ap₂ (λ (v : Postfix) (w : Body). placed s (tree.choice v w c)) p q
     ∙ ap (λ (v : Body). placed s (tree.choice x y v)) r
 
-repeat_seen : (s : Spot) (a : Number) (b : Vec Item Global)
-    → seen s (code.Repeat a b) ≡ placed s (tree.repeat a (items_view b.items))
-repeat_seen s a b = search (rules, the_lemmas)
-
 -- a loop with a fixed count
 pub repeat_view : (s : Spot) (a : Number) (b : Vec Item Global)
     (x : Number) (y : Body) → a ≡ x → items_view b.items ≡ y
     → seen s (code.Repeat a b) ≡ placed s (tree.repeat x y)
 repeat_view s a b x y p q =
     repeat_seen s a b ∙ ap₂ (λ (v : Number) (w : Body). placed s (tree.repeat v w)) p q
-
-again_seen : (s : Spot) (a : Box Expr) (b : Number) (c : Vec Item Global)
-    → seen s (code.Again a b c) ≡ placed s (tree.again (expr_view a.value) b (items_view c.items))
-again_seen s a b c = search (rules, the_lemmas)
 
 -- a loop with a drawn count
 pub again_view : (s : Spot) (a : Box Expr) (b : Number) (c : Vec Item Global)
@@ -134,37 +82,21 @@ again_view s a b c x y z p q r =
     ∙ ap₂ (λ (v : Postfix) (w : Number). placed s (tree.again v w (items_view c.items))) p q
     ∙ ap (λ (v : Body). placed s (tree.again x y v)) r
 
-call_seen : (s : Spot) (a : Name)
-    → seen s (code.Do a) ≡ placed s (tree.call (name_view a))
-call_seen s a = search (rules, the_lemmas)
-
 -- the call of a phrase
 pub call_view : (s : Spot) (a : Name) (x : Leaf) → name_view a ≡ x
     → seen s (code.Do a) ≡ placed s (tree.call x)
 call_view s a x p = call_seen s a ∙ ap (λ (v : Leaf). placed s (tree.call v)) p
-
-par_seen : (s : Spot) (a : Vec (Vec Item Global) Global)
-    → seen s (code.Par a) ≡ placed s (tree.par (bodies_view a.items))
-par_seen s a = search (rules, the_lemmas, map_twice)
 
 -- a fork
 pub par_view : (s : Spot) (a : Vec (Vec Item Global) Global) (x : Branches) → bodies_view a.items ≡ x
     → seen s (code.Par a) ≡ placed s (tree.par x)
 par_view s a x p = par_seen s a ∙ ap (λ (v : Branches). placed s (tree.par v)) p
 
-warp_seen : (s : Spot) (a : Name) (b : Vec Item Global)
-    → seen s (code.Warp a b) ≡ placed s (tree.warp (name_view a) (items_view b.items))
-warp_seen s a b = search (rules, the_lemmas)
-
 -- a block under a deformation
 pub warp_view : (s : Spot) (a : Name) (b : Vec Item Global)
     (x : Leaf) (y : Body) → name_view a ≡ x → items_view b.items ≡ y
     → seen s (code.Warp a b) ≡ placed s (tree.warp x y)
 warp_view s a b x y p q = warp_seen s a b ∙ ap₂ (λ (v : Leaf) (w : Body). placed s (tree.warp v w)) p q
-
-channel_seen : (s : Spot) (a : Number) (b : Vec Item Global)
-    → seen s (code.Channel a b) ≡ placed s (tree.channel a (items_view b.items))
-channel_seen s a b = search (rules, the_lemmas)
 
 -- a block on a channel
 pub channel_view : (s : Spot) (a : Number) (b : Vec Item Global)
@@ -173,20 +105,12 @@ pub channel_view : (s : Spot) (a : Number) (b : Vec Item Global)
 channel_view s a b x y p q =
     channel_seen s a b ∙ ap₂ (λ (v : Number) (w : Body). placed s (tree.channel v w)) p q
 
-volume_seen : (s : Spot) (a : Number) (b : Vec Item Global)
-    → seen s (code.Volume a b) ≡ placed s (tree.volume a (items_view b.items))
-volume_seen s a b = search (rules, the_lemmas)
-
 -- a block with a volume
 pub volume_view : (s : Spot) (a : Number) (b : Vec Item Global)
     (x : Number) (y : Body) → a ≡ x → items_view b.items ≡ y
     → seen s (code.Volume a b) ≡ placed s (tree.volume x y)
 volume_view s a b x y p q =
     volume_seen s a b ∙ ap₂ (λ (v : Number) (w : Body). placed s (tree.volume v w)) p q
-
-gate_seen : (s : Spot) (a : Number) (b : Vec Item Global)
-    → seen s (code.Gate a b) ≡ placed s (tree.gate a (items_view b.items))
-gate_seen s a b = search (rules, the_lemmas)
 
 -- a block with an articulation
 pub gate_view : (s : Spot) (a : Number) (b : Vec Item Global)
@@ -195,10 +119,6 @@ pub gate_view : (s : Spot) (a : Number) (b : Vec Item Global)
 gate_view s a b x y p q =
     gate_seen s a b ∙ ap₂ (λ (v : Number) (w : Body). placed s (tree.gate v w)) p q
 
-rhythm_seen : (s : Spot) (a : Vec Length Global) (b : Vec Item Global)
-    → seen s (code.Rhythm a b) ≡ placed s (tree.rhythm a.items (items_view b.items))
-rhythm_seen s a b = search (rules, the_lemmas)
-
 -- a block with a list of lengths
 pub rhythm_view : (s : Spot) (a : Vec Length Global) (b : Vec Item Global)
     (x : List Length) (y : Body) → a.items ≡ x → items_view b.items ≡ y
@@ -206,20 +126,12 @@ pub rhythm_view : (s : Spot) (a : Vec Length Global) (b : Vec Item Global)
 rhythm_view s a b x y p q =
     rhythm_seen s a b ∙ ap₂ (λ (v : List Length) (w : Body). placed s (tree.rhythm v w)) p q
 
-artic_seen : (s : Spot) (a : Vec Number Global) (b : Vec Item Global)
-    → seen s (code.Artic a b) ≡ placed s (tree.artic a.items (items_view b.items))
-artic_seen s a b = search (rules, the_lemmas)
-
 -- a block with a list of articulations
 pub artic_view : (s : Spot) (a : Vec Number Global) (b : Vec Item Global)
     (x : List Number) (y : Body) → a.items ≡ x → items_view b.items ≡ y
     → seen s (code.Artic a b) ≡ placed s (tree.artic x y)
 artic_view s a b x y p q =
     artic_seen s a b ∙ ap₂ (λ (v : List Number) (w : Body). placed s (tree.artic v w)) p q
-
-loud_seen : (s : Spot) (a : Vec Number Global) (b : Vec Item Global)
-    → seen s (code.Loud a b) ≡ placed s (tree.loud a.items (items_view b.items))
-loud_seen s a b = search (rules, the_lemmas)
 
 -- a block with a list of velocities
 pub loud_view : (s : Spot) (a : Vec Number Global) (b : Vec Item Global)

@@ -13,9 +13,9 @@ use Rattle.fm_grammar.specs.Signs.{open_bracket, close_bracket}
 use Rattle.fm_grammar.specs.Rules.{Sym, one, any_number, lengths, numbers, counted, with_commas}
 use Rattle.fm_grammar.specs.Spelling.{block_text, stmt_text}
 use Rattle.fm_grammar.specs.Standing.{scoping_tree, cycling_tree, block_tree}
-use Rattle.fm_grammar.specs.View.{PlacedStmt, name_view}
+use Rattle.fm_grammar.specs.View.{PlacedStmt, placed, name_view}
 use Rattle.fm_terms.specs.Counts.{count_view}
-use Rattle.fm_parse.specs.Statements.{placed, placed_tree, loop_view}
+use Rattle.fm_parse.specs.Statements.{placed_tree, loop_view}
 use Rattle.fm_parse.specs.Sorts.{scoping, cycling}
 use Rattle.fm_parse.specs.declared.opening.Before.{Before}
 use Rattle.fm_parse.specs.declared.opening.Before.TheVariants as befores

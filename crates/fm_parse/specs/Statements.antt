@@ -14,7 +14,7 @@ use Rattle.fm_grammar.specs.Score as tree
 use Rattle.fm_grammar.specs.Signs.{semicolon, equals, open_brace, close_brace, open_bracket, close_bracket, key}
 use Rattle.fm_grammar.specs.Rules.{Sym, one, any_number, any_register, pitches, lengths, numbers, amount, duration, counted, branches, otherwise, stmts, entries, expr, block, with_commas}
 use Rattle.fm_grammar.specs.Grammar.{StmtForm, BlockForm, BranchesForm}
-use Rattle.fm_grammar.specs.View.{PlacedStmt, items_view, branches_of}
+use Rattle.fm_grammar.specs.View.{PlacedStmt, placed, items_view, branches_of}
 use Rattle.fm_terms.specs.Counts.{CountTree, fixed_tree, drawn_tree}
 use Rattle.fm_grammar.specs.Spelling.{block_text, branches_text}
 use Rattle.fm_grammar.specs.Standing.{stmt_spot, stmt_tree, block_tree, branches_tree}
@@ -123,10 +123,6 @@ abbrev pub IsMain : Sym → Type 0
 IsMain stmts = Unit {0}
 IsMain entries = Unit {0}
 IsMain s = ⊥
-
--- a statement at its spot
-abbrev pub placed : Spot → Stmt → PlacedStmt
-placed s w = record { spot = s; what = w }
 
 -- what a statement stands for, with its spot
 abbrev pub placed_tree : StmtForm → PlacedStmt

@@ -5,14 +5,14 @@ ghost use Rattle.fm_lex.specs.declared.kind.Kind.TheVariants.{Keyword as Word};
 ghost use Rattle.fm_lex.specs.declared.keyword.Keyword.TheVariants.{If, Par, Branch};
 ghost use Rattle.fm_grammar.specs.Reads.{Fault};
 ghost use Rattle.fm_grammar.specs.Score.{choice};
-ghost use Rattle.fm_grammar.specs.View.{expr_view, item_view, items_view};
+ghost use Rattle.fm_grammar.specs.View.{expr_view, item_view, items_view, placed};
 ghost use Rattle.fm_grammar.specs.Spelling.{stmt_text, stmts_text, block_text, else_text};
 ghost use Rattle.fm_grammar.specs.Standing.{stmts_tree, block_tree, else_tree};
 ghost use Rattle.fm_grammar.specs.Rules.{Sym, one, stmts as statements, otherwise, branches as further, block};
 ghost use Rattle.fm_grammar.specs.Table.{opened};
 ghost use Rattle.fm_terms.specs.Reader.{first_kind};
 ghost use Rattle.fm_terms.specs.Follow.{At, Leads, FollowsIn, IsThere, IsDeep, Spelt};
-ghost use Rattle.fm_parse.specs.Statements.{placed, has_block, begins, stmt_syms, placed_tree, braces_needed, IsMain, fork_text, fork_tree, bodies_view};
+ghost use Rattle.fm_parse.specs.Statements.{has_block, begins, stmt_syms, placed_tree, braces_needed, IsMain, fork_text, fork_tree, bodies_view};
 
 use crate::opening::{item_of, read_opening};
 use crate::simple::read_plain;

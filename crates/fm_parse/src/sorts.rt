@@ -1,10 +1,9 @@
 //! Statements that differ in their word alone.
 
 ghost use Rattle.std.specs.Prelude.{◌≡◌};
-ghost use Rattle.fm_grammar.specs.View.{amount_view, item_view, items_view};
+ghost use Rattle.fm_grammar.specs.View.{amount_view, item_view, items_view, placed};
 ghost use Rattle.fm_grammar.specs.Spelling.{sending_word, scoping_word, cycling_word};
 ghost use Rattle.fm_grammar.specs.Standing.{sending_tree, scoping_tree, cycling_tree};
-ghost use Rattle.fm_parse.specs.Statements.{placed};
 ghost use Rattle.fm_parse.specs.Sorts.{sending, scoping, cycling};
 
 use fm_grammar::{Amount, Item, Number, What};

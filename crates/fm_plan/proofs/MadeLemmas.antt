@@ -39,11 +39,6 @@ drop_at {A = A} (y ∷ ys) (suc k) x within is =
     let next : suc k + 1 ≡ suc (k + 1) = omega arith in
     drop_at ys k x (omega (arith, within)) is ∙ ap (λ n. x ∷ drop {A = A} n (y ∷ ys)) (sym next)
 
--- lists that are mapped twice
-pub map_twice : {A B C : Type 0} (f : B → C) (g : A → B) (xs : List A) → map f (map g xs) ≡ map (λ x. f (g x)) xs
-map_twice f g [] = refl
-map_twice f g (x ∷ xs) = ap (λ l. f (g x) ∷ l) (map_twice f g xs)
-
 -- ---- statements in turn
 
 -- the same programs with these operations and scopes

@@ -6,7 +6,7 @@ use Rattle.fm_grammar.specs.declared.item.Item.{Item, the_lemmas}
 use Rattle.fm_meaning.specs.Resolve.{longest_inside, longest_entry, longest_among}
 use Rattle.fm_bounds.proofs.SaturationLemmas.{capped_max}
 use Rattle.fm_outline.proofs.MapLemmas.{map_take_more}
-use Rattle.fm_outline.proofs.SeenLemmas.{map_twice}
+use Rattle.fm_grammar.proofs.StatementViews.{map_twice}
 use Rattle.fm_bounds.proofs.LongestLemmas.{inside_more, among_more}
 use Rattle.fm_bounds.proofs.longest.+longest.Goals as goal
 

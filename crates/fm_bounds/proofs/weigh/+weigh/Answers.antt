@@ -8,7 +8,7 @@ use Rattle.fm_outline.specs.View.{tables_view, step_view, block_view, lasting_vi
 use Rattle.fm_bounds.proofs.SumsLemmas.{span_saturated, warp_saturated, none_saturated, joined_saturated}
 use Rattle.fm_bounds.proofs.WeightLemmas.{bounds_more, forks_more, beside_more}
 use Rattle.fm_outline.proofs.MapLemmas.{map_take_more, take_one_more}
-use Rattle.fm_outline.proofs.SeenLemmas.{map_twice}
+use Rattle.fm_grammar.proofs.StatementViews.{map_twice}
 use Rattle.fm_bounds.proofs.weigh.+weigh.Goals as goal
 
 pub weigh_step-returns-in-Note : goal.weigh_step-returns-in-Note

@@ -22,7 +22,7 @@ use Rattle.fm_outline.proofs.ItemLemmas.{note_what, play_what, rest_what, contro
 use Rattle.fm_outline.proofs.InsideLemmas.{own_clean, own_told, leaf_clean, behind_own, first_block, second_block, under_known}
 use Rattle.fm_outline.proofs.RefusalLemmas.{handed, before, behind, failed}
 use Rattle.fm_outline.proofs.NameLemmas.{number_of}
-use Rattle.fm_outline.proofs.SeenLemmas.{map_twice, choice_seen, loop_seen, par_seen, warp_seen, channel_seen, steady_seen, under_seen}
+use Rattle.fm_outline.proofs.SeenLemmas.{choice_seen, loop_seen, par_seen, warp_seen, channel_seen, steady_seen, under_seen}
 use Rattle.fm_outline.proofs.GrowingLemmas.{items_from, arms_from, steps_more, arms_more, choice_numbered, again_numbered, under_numbered}
 use Rattle.fm_outline.proofs.statement.+statement.Goals as goal
 

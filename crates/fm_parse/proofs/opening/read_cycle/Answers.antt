@@ -2,7 +2,7 @@
 use Rattle.std.proofs.Common.{refl, ap}
 use Rattle.fm_grammar.specs.Grammar as forms
 use Rattle.fm_grammar.specs.Standing.{cycling_tree, block_tree}
-use Rattle.fm_parse.specs.Statements.{placed}
+use Rattle.fm_grammar.specs.View.{placed}
 use Rattle.fm_parse.specs.Sorts.{cycling}
 use Rattle.fm_parse.proofs.SortLemmas.{at_cycle}
 use Rattle.fm_terms.proofs.Steps.{passed, handed}

@@ -3,7 +3,7 @@ use Rattle.std.proofs.Common.{refl, ap}
 use Rattle.fm_grammar.specs.Grammar as forms
 use Rattle.fm_grammar.specs.Score as tree
 use Rattle.fm_grammar.specs.Standing.{block_tree}
-use Rattle.fm_parse.specs.Statements.{placed}
+use Rattle.fm_grammar.specs.View.{placed}
 use Rattle.fm_terms.proofs.Steps.{passed, handed}
 use Rattle.fm_terms.specs.Follow.{leaf_at}
 use Rattle.fm_parse.proofs.opening.read_rhythm.Goals as goal

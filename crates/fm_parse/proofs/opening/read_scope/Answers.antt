@@ -2,7 +2,7 @@
 use Rattle.std.proofs.Common.{refl, ap}
 use Rattle.fm_grammar.specs.Grammar as forms
 use Rattle.fm_grammar.specs.Standing.{scoping_tree, block_tree}
-use Rattle.fm_parse.specs.Statements.{placed}
+use Rattle.fm_grammar.specs.View.{placed}
 use Rattle.fm_parse.specs.Sorts.{scoping}
 use Rattle.fm_parse.proofs.SortLemmas.{at_scope}
 use Rattle.fm_terms.proofs.Steps.{passed, handed}

@@ -4,7 +4,7 @@ use Rattle.fm_grammar.specs.Grammar as forms
 use Rattle.fm_terms.proofs.Steps.{passed, handed}
 use Rattle.fm_parse.proofs.SortLemmas.{at_sent}
 use Rattle.fm_terms.specs.Follow.{leaf_at}
-use Rattle.fm_parse.specs.Statements.{placed}
+use Rattle.fm_grammar.specs.View.{placed}
 use Rattle.fm_parse.specs.Sorts.{sending}
 use Rattle.fm_grammar.specs.Standing.{sending_tree}
 use Rattle.fm_parse.proofs.simple.read_sent.Goals as goal

@@ -2,7 +2,7 @@
 use Rattle.std.proofs.Common.{refl}
 use Rattle.fm_grammar.specs.Grammar as forms
 use Rattle.fm_terms.proofs.Steps.{passed, handed}
-use Rattle.fm_parse.proofs.ItemViews.{skip_view}
+use Rattle.fm_grammar.proofs.StatementViews.{skip_seen}
 use Rattle.fm_terms.specs.Follow.{leaf_at}
 use Rattle.fm_parse.proofs.simple.read_skip.Goals as goal
 
@@ -26,5 +26,5 @@ returns-clause-text c = record {
   form = forms.skip (leaf_at c.in_ok-spot.ensures.text.bytes c.in_ok-spot.spot)
       (leaf_at c.in_ok-expect.ensures.text.bytes c.in_ok-expect.field-0);
   spells = rw (c.in_ok-spot.ensures.text.text, c.in_ok-expect.ensures.text.text) refl;
-  stands_for = skip_view _;
+  stands_for = skip_seen _;
 }

@@ -11,7 +11,7 @@ use Rattle.fm_outline.specs.View.{tables_view, step_view, block_view, lasting_vi
 use Rattle.fm_places.proofs.NeedsLemmas.{asks_told, fork_told, nothing_told}
 use Rattle.fm_places.proofs.PassageLemmas.{finds_same, passage_more, fork_more}
 use Rattle.fm_outline.proofs.MapLemmas.{take_one_more, map_take_more}
-use Rattle.fm_outline.proofs.SeenLemmas.{map_twice}
+use Rattle.fm_grammar.proofs.StatementViews.{map_twice}
 use Rattle.fm_places.proofs.statement.+found.Goals as goal
 
 -- ---- statements without blocks

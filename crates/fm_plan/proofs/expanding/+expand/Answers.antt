@@ -8,11 +8,12 @@ use Rattle.fm_expansion.specs.Homes as homes
 use Rattle.fm_expansion.specs.Homes.{loop_round, list_of_one, slots_of, at_home, in_scope}
 use Rattle.fm_expansion.specs.Emission.{forks_in}
 use Rattle.fm_expansion.specs.Expansion.{Joined, whole, with_scopes, straight, unrolled, written_rounds, expand, expand_in, expand_arms}
+use Rattle.fm_grammar.proofs.StatementViews.{map_twice}
 use Rattle.fm_outline.specs.View.{arms_of_blocks, block_view, phrases_view, step_view, quality_view}
 use Rattle.fm_outline.specs.declared.step.Step.{the_lemmas}
 use Rattle.fm_plan.specs.Made.{made, made_in}
 use Rattle.fm_plan.specs.Seen.{emitting_of, look_at, look_of, Agrees, Makes}
-use Rattle.fm_plan.proofs.MadeLemmas.{drop_at, map_twice, made_phrase, made_channel, made_steady}
+use Rattle.fm_plan.proofs.MadeLemmas.{drop_at, made_phrase, made_channel, made_steady}
 use Rattle.fm_plan.proofs.AgreesLemmas.{agrees_channel, agrees_steady}
 use Rattle.fm_plan.proofs.Weights.{total, step_weight, steps_weight, phrases_weight, element_weight, phrase_weight}
 use Rattle.fm_plan.proofs.PhraseLemmas.{phrase_stands, phrases_length, phrase_past, map_at, map_take, forks_take, forks_known}
