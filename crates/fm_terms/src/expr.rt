@@ -269,8 +269,8 @@ fn read_inner(r: &mut Reader, draft: &mut Expr, used: u32, owed: u32) -> Result<
     read_sums(r, draft, term, owed)
 }
 
-/// Reads an outermost expression, which a token outside of it follows.
-pub fn read_expr(alloc: Global, r: &mut Reader) -> Result<Expr, ParseFault>
+// Reads an outermost expression, which a token outside of it follows.
+fn read_expr(alloc: Global, r: &mut Reader) -> Result<Expr, ParseFault>
     ensures text { IfOk result (λ e. Spelt expr_text expr_tree (expr_view e) r.old r.new) }
     ensures follows { (whole : Option Fault) (k : TheKind) (below : List Sym)
         → At whole 0 (expr_syms (one k ∷ below)) r.old
@@ -284,7 +284,7 @@ pub fn read_expr(alloc: Global, r: &mut Reader) -> Result<Expr, ParseFault>
     Ok(draft)
 }
 
-/// Reads an outermost expression as `read_expr` does, and puts it behind a box.
+/// Reads an outermost expression, which a token outside of it follows, and puts it behind a box.
 pub fn read_boxed(alloc: Global, r: &mut Reader) -> Result<Box<Expr>, ParseFault>
     ensures text { IfOk result (λ b. Spelt expr_text expr_tree (expr_view b.value) r.old r.new) }
     ensures follows { (whole : Option Fault) (k : TheKind) (below : List Sym)
