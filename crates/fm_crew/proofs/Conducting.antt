@@ -270,7 +270,8 @@ module _ {K : Type 0} (content : K → Option (List ℕ)) (sure : K → Option �
               running = ap (λ (x : View). x.halted) p.view
                   ∙ (ap (λ (x : View). x.halted) w.view ∙ (stays.halted ∙ c.running));
               done = λ is. ap (λ (x : View). x.published) p.view ∙ all_done p.pair (sym p.due_is ∙ is);
-              many = sym (ap (λ (x : View). x.released) p.view ∙ (many ∙ (sym (ap (λ k. k + n) c.many ∙ ap (λ k. v.released + k) w.count))));
+              many = sym (ap (λ (x : View). x.released) p.view
+                  ∙ (many ∙ (sym (ap (λ k. k + n) c.many ∙ ap (λ k. v.released + k) w.count))));
               within = rw (ap (λ (x : View). lines_of x) p.view, lines_now, ap (λ (x : View). x.released) p.view, many) inside;
               writes = rw (ap (λ (x : View). lines_of x) p.view, lines_now, ap (λ (x : View). x.released) p.view, many) written;
               at_end = still_at_end (content now) (content then) (events_bytes writer.state w.events) writer.put writer'.put c.at_end

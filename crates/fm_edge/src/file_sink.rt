@@ -55,7 +55,8 @@ impl<'a, R: Files> FileSink<'a, R> {
         write_whole(self.file.as_mut()?, piece)
     }
 
-    // Writes over the bytes at this position, and goes back to the end. `None` where the host failed.
+    // Writes over the bytes at this position, and goes back to the end. `None` where the host
+    // failed.
     fn overwrite(&mut self, at: u64, bytes: &[u8; 4]) -> Option<()>
         ensures { self.new ≡ self.old }
     {

@@ -1,7 +1,7 @@
 //! Tests of the crates that write and read files: from `fm_msg` and `fm_edge` to `fm_listing`.
 //!
-//! They use public calls alone, and stand above the crates that they test, so that the code of those
-//! is not proved once more for them. There is nothing else here.
+//! They use public calls alone, and stand above the crates that they test, so that the code of
+//! those is not proved once more for them. There is nothing else here.
 #![tactic(auto)]
 
 #[cfg(test)]

@@ -9,7 +9,8 @@ use Rattle.fm_listing.specs.Listing.{byte_text, bytes_text}
 -- a byte in front of those behind it
 byte_first : (bytes : List ℕ) (k d : ℕ) → k < length bytes →
     bytes_text (drop k bytes) ≡ byte_text (get_or bytes k d) ++ bytes_text (drop (k + 1) bytes)
-byte_first bytes k d less = let more : drop k bytes ≡ get_or bytes k d ∷ drop (k + 1) bytes = rw add-one (drop-cons bytes k d less) in ap bytes_text more
+byte_first bytes k d less = let more : drop k bytes ≡ get_or bytes k d ∷ drop (k + 1) bytes
+    = rw add-one (drop-cons bytes k d less) in ap bytes_text more
 
 module _ {K : Type 0} (content : K → Option (List ℕ)) (sure : K → Option ℕ) (faults : K → ℕ) where
   -- the next byte came in

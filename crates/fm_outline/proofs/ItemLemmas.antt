@@ -63,7 +63,8 @@ set_what i n b e is at_e =
 
 -- a choice
 pub choice_what : (i : Item) (b : Box Expr) (v : Vec Item Global) (w : Vec Item Global) (e : Expr) (k : List Item) (l : List Item)
-    → i.what ≡ code.If b v w → e ≡ b.value → k ≡ v.items → l ≡ w.items → (item_view i).what ≡ tree.choice (expr_view e) (items_view k) (items_view l)
+    → i.what ≡ code.If b v w → e ≡ b.value → k ≡ v.items → l ≡ w.items → (item_view i).what
+    ≡ tree.choice (expr_view e) (items_view k) (items_view l)
 choice_what i b v w e k l is at_e at_k at_l =
     of_kind i (code.If b v w) _ is (choice_seen i.spot b v w)
     ∙ ap (λ x. tree.choice (expr_view x) (items_view v.items) (items_view w.items)) (sym at_e)

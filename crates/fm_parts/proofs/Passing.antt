@@ -41,4 +41,5 @@ module _ {K : Type 0} (content : K → Option (List ℕ)) (sure : K → Option �
   pub fillers_break : (a b : K) (x : List ℕ) (n : ℕ) (tail : List ℕ) → Breaks content sure faults a b (x ++ fillers (filler_count n)) →
       Breaks content sure faults a b (x ++ (delta n ++ tail))
   fillers_break a b x n tail broke =
-      breaks_all content sure faults a b x (fillers (filler_count n)) (vlq (remainder n) ++ tail) (delta n ++ tail) (sym (delta-split n tail)) broke
+      breaks_all content sure faults a b x (fillers (filler_count n)) (vlq (remainder n) ++ tail) (delta n ++ tail)
+      (sym (delta-split n tail)) broke

@@ -30,7 +30,8 @@ rises_decoded low now (e ∷ es) le = by_message (message_from e.status e.bytes)
     by_message (Some m) later = (omega arith, later (now + e.delta) (omega arith))
 
 -- some of them are
-pub rises_filter : (p : ℕ × Msg → Bool) (last : ℕ) (list : List (ℕ × Msg)) (end : ℕ) → RisesTo last list end → RisesTo last (filter p list) end
+pub rises_filter : (p : ℕ × Msg → Bool) (last : ℕ) (list : List (ℕ × Msg)) (end : ℕ) → RisesTo last list end
+    → RisesTo last (filter p list) end
 rises_filter p last [] end rise = rise
 rises_filter p last (x ∷ list) end rise = by_test (p x) (rises_filter p x.0 list end rise.1)
   where

@@ -335,14 +335,16 @@ fork_on m0 m m1 n c i body others forked last parent lasts new all_made h is_par
     let e = emitting_of m in
     let e0 : Emitting = record { finished = whole e; current = begun i (forked ∷ []); scopes = e.scopes } in
     let is1 : emitting_of m1 ≡ e0 =
-    p1.programs ∙ ap (λ qs. next_begun (record { ops = []; cycles = m.cycles.items; levels = m.levels.items; predecessors = qs }) e) is_parent
+    p1.programs ∙ ap (λ qs. next_begun (record { ops = []; cycles = m.cycles.items; levels = m.levels.items; predecessors = qs }) e)
+    is_parent
     ∙ ap (λ p. next_begun p e) (begun_is m c i (forked ∷ []) h.0) in
     let a1 = agrees_later m m1 c i _ h.0 p1 (prefix_self e.scopes) in
     let q2 = p2 i a1 in
     let e1 = expand_in body i e0 in
     let is2 : emitting_of n ≡ e1 = q2.programs ∙ ap (expand_in body i) is1 in
     let all : Makes m n e1 = record { programs = is2; cycles = q2.cycles ∙ p1.cycles; levels = q2.levels ∙ p1.levels } in
-    let is_number : length e1.finished ≡ last = ap (λ x. length x.finished) (sym is2) ∙ length-map n.finished.items program_parts ∙ sym is_last in
+    let is_number : length e1.finished ≡ last = ap (λ x. length x.finished) (sym is2) ∙ length-map n.finished.items program_parts
+    ∙ sym is_last in
     let made_by : List ℕ → Emitting → Joined = λ l x.
     (let j = expand_arms others i forked (whole x) x.scopes in
     record { programs = j.programs; lasts = l ++ j.lasts; scopes = j.scopes }) in

@@ -2,8 +2,8 @@
 //! `fm_locate`, `fm_buffer`, `fm_offs`, `fm_program`, `fm_player`, `fm_strand`, `fm_walk` and
 //! `fm_position`.
 //!
-//! They use public calls alone, and stand above the crates that they test, so that the code of those
-//! is not proved once more for them. There is nothing else here.
+//! They use public calls alone, and stand above the crates that they test, so that the code of
+//! those is not proved once more for them. There is nothing else here.
 #![tactic(auto)]
 
 #[cfg(test)]

@@ -257,7 +257,8 @@ pub begin-rest : (p : PlanParts) (j : ℕ) → PartsFit p → j < length p.progr
 unfolding to_come
 begin-rest p j fits below =
     line-events p j fits below
-    ∙ ap (λ (r : Run). numbered j 0 (come_out (map event_sound (mark_events r.marks)) (line (plan_lines p) j).end)) (process-as p j below).run
+    ∙ ap (λ (r : Run). numbered j 0 (come_out (map event_sound (mark_events r.marks)) (line (plan_lines p) j).end))
+    (process-as p j below).run
 
 -- ---- a player
 
@@ -282,7 +283,12 @@ begin-course p j place u warps state lists levels draws time note fits below is 
         frames = subst (λ (t : StockParts). All (IsFrame t) draws.frames.items) ut frames;
         time = subst (λ (ws : List (List Part)). IsTimed ws time) wt timed;
         note = pending;
-        few = omega (arith, opened.frames.count, cycles_opened-length p.stock (process_program p j).cycles [], (opens p j fits below).cycles);
+        few = omega (
+          arith,
+          opened.frames.count,
+          cycles_opened-length p.stock (process_program p j).cycles [],
+          (opens p j fits below).cycles,
+        );
       };
       stands = record {
         process = refl;

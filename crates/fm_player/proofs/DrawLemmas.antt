@@ -53,7 +53,8 @@ pitches-kept (x ∷ xs) scope w =
 
 pub duration-kept : (d : SpanLength) (scope : List Slot) (w : Standing) → Kept w (duration_drawn d scope w).after
 duration-kept (lasting d) scope w = kept-same w
-duration-kept (valued_to e most) scope w = record { operation = refl; position = refl; process = refl; index = refl; levels = refl; due = refl }
+duration-kept (valued_to e most) scope w
+    = record { operation = refl; position = refl; process = refl; index = refl; levels = refl; due = refl }
 duration-kept (cycled f) scope w = record { operation = refl; position = refl; process = refl; index = refl; levels = refl; due = refl }
 
 pub turn-kept : (x : Turn) (w : Standing) → Kept w (turn_drawn x w).after
@@ -62,7 +63,8 @@ turn-kept (turn.Cycle f) w = record { operation = refl; position = refl; process
 
 pub repeats-kept : (n : Repeats) (scope : List Slot) (w : Standing) → Kept w (repeats_drawn n scope w).after
 repeats-kept (times n) scope w = kept-same w
-repeats-kept (times_to e most) scope w = record { operation = refl; position = refl; process = refl; index = refl; levels = refl; due = refl }
+repeats-kept (times_to e most) scope w
+    = record { operation = refl; position = refl; process = refl; index = refl; levels = refl; due = refl }
 
 -- ---- one key more
 
@@ -119,7 +121,8 @@ cycle_at-moved least most f k (x ∷ xs) = on (nat_eq k (length xs)) (cycle_at-m
         ≡ (if nat_eq f (length xs) then cycles_within least most x else cycle_at least most f xs)
     on true later = ap (λ (b : Bool). if nat_eq f (length xs) then b else cycle_at least most f xs) (within x)
     on false later =
-        ap (λ (n : ℕ). if nat_eq f n then cycles_within least most x else cycle_at least most f (cycle_moved k xs)) (cycle_moved-length k xs)
+        ap (λ (n : ℕ). if nat_eq f n then cycles_within least most x else cycle_at least most f (cycle_moved k xs))
+        (cycle_moved-length k xs)
         ∙ ap (λ (b : Bool). if nat_eq f (length xs) then cycles_within least most x else b) later
 
 -- an entry of a list within bounds is at most the greatest

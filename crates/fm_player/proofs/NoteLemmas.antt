@@ -235,7 +235,8 @@ note-does p s w chord span ch gate loud scope u d n time on off count pending ca
     let sounds = note-sounds t.warps (frames_of s.time.nest) velocity.after.levels w.process w.index w.position
     (note_end w.position lasts.value part.value) ch velocity.value on off keys.value
     (can.stands.time.levels ∙ sym kept.levels) starts ends in
-    let stands : Stands p (record s { operation = s.operation + 1; index = s.index + 2 * count; draws = d; time = time; note = pending }) next =
+    let stands : Stands p (record s { operation = s.operation + 1; index = s.index + 2 * count; draws = d; time = time; note = pending })
+    next =
     record {
       process = kept.process ∙ can.stands.process;
       operation = ap (λ k. k + 1) can.stands.operation;
@@ -259,7 +260,8 @@ note-does p s w chord span ch gate loud scope u d n time on off count pending ca
         frames = subst (λ (x : StockParts). All (IsFrame x) d.frames.items) ut frames;
         time = timed;
         note = ready;
-        few = few-held p (record s { operation = s.operation + 1; index = s.index + 2 * count; draws = d; time = time; note = pending }) next
+        few = few-held p (record s { operation = s.operation + 1; index = s.index + 2 * count; draws = d; time = time; note = pending })
+            next
             stands can.within;
       };
       stands = stands;

@@ -374,13 +374,15 @@ send-does p s w pt ch x scope u d value can ut draws frames =
         process = kept.process ∙ can.stands.process;
         operation = ap (λ n. n + 1) can.stands.operation;
         index = ap (λ n. n + 1) can.stands.index;
-        draws = DrawsStand-same p d v.after (record v.after { operation = w.operation + 1; index = w.index + 1 }) (drawn.after w can.stands.draws)
+        draws = DrawsStand-same p d v.after (record v.after { operation = w.operation + 1; index = w.index + 1 })
+            (drawn.after w can.stands.draws)
             refl refl refl;
         time = record {
           position = can.stands.time.position ∙ sym kept.position;
           levels = can.stands.time.levels ∙ sym kept.levels;
         };
-        note = NoteStands-none s.process s.note w (record v.after { operation = w.operation + 1; index = w.index + 1 }) can.stands.note can.due
+        note = NoteStands-none s.process s.note w (record v.after { operation = w.operation + 1; index = w.index + 1 }) can.stands.note
+            can.due
             (kept.due ∙ can.due);
       };
       index = omega arith;

@@ -58,7 +58,8 @@ IsNumber t loops (draw.Fixed v) = Unit {0}
 IsNumber t loops (draw.Drawn e) = expr_fits t loops e ≡ true
 
 -- a draw has this result and leaves this, wherever it stands for a state that draws so
-pub record DrawsTo {A : Type 0} (t : StockParts) (old new : Draws) (result : A) (drawn : Standing → Draught A) : Type 0 where
+pub record DrawsTo {A : Type 0} (t : StockParts) (old new : Draws) (result : A)
+    (drawn : Standing → Draught A) : Type 0 where
   pub value : (s : Standing) → DrawsStand t old s → result ≡ (drawn s).value
   pub after : (s : Standing) → DrawsStand t old s → DrawsStand t new (drawn s).after
 
@@ -70,7 +71,8 @@ note_keys t chord scope s = pitches_drawn (map (amount_of t) (chord_at t chord))
 
 -- then its duration
 abbrev pub note_lasts : StockParts → ℕ → Span → ℕ → Standing → Draught ℕ
-note_lasts t chord span scope s = duration_drawn (duration_of t span) (scope_at t scope) (note_keys t chord scope s).after
+note_lasts t chord span scope s
+    = duration_drawn (duration_of t span) (scope_at t scope) (note_keys t chord scope s).after
 
 -- then its articulation
 abbrev pub note_part : StockParts → ℕ → Span → Turn → ℕ → Standing → Draught ℕ
@@ -81,9 +83,11 @@ abbrev pub note_velocity : StockParts → ℕ → Span → Turn → Turn → ℕ
 note_velocity t chord span gate loud scope s = turn_drawn loud (note_part t chord span gate scope s).after
 
 -- a note was drawn
-pub record NoteDrawn (t : StockParts) (old new : Draws) (chord : ℕ) (span : Span) (gate loud : Turn) (scope : ℕ) (n : Note) : Type 0 where
+pub record NoteDrawn (t : StockParts) (old new : Draws) (chord : ℕ) (span : Span) (gate loud : Turn) (scope : ℕ)
+    (n : Note) : Type 0 where
   pub keys : (s : Standing) → DrawsStand t old s → n.keys.items ≡ (note_keys t chord scope s).value
   pub ticks : (s : Standing) → DrawsStand t old s → n.ticks ≡ (note_lasts t chord span scope s).value
   pub percent : (s : Standing) → DrawsStand t old s → n.percent ≡ (note_part t chord span gate scope s).value
   pub velocity : (s : Standing) → DrawsStand t old s → n.velocity ≡ (note_velocity t chord span gate loud scope s).value
-  pub after : (s : Standing) → DrawsStand t old s → DrawsStand t new (note_velocity t chord span gate loud scope s).after
+  pub after : (s : Standing) → DrawsStand t old s
+      → DrawsStand t new (note_velocity t chord span gate loud scope s).after

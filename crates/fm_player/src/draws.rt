@@ -325,7 +325,8 @@ impl Draws {
         ensures stands { (s : Standing) (back : ℕ) → DrawsStand (stock_parts stock.now) self.old s
             → loops_back back s.frames ≡ true
             → DrawsStand (stock_parts stock.now) self.new (round_over back s s.frames) }
-        ensures operation { (s : Standing) (back : ℕ) → DrawsStand (stock_parts stock.now) self.old s
+        ensures operation { (s : Standing) (back : ℕ)
+            → DrawsStand (stock_parts stock.now) self.old s
             → loops_back back s.frames ≡ true
             → (round_over back s s.frames).operation ≡ if result then back else s.operation + 1 }
         ensures frames { All (IsFrame (stock_parts stock.now)) self.new.frames.items }

@@ -30,8 +30,8 @@ pub struct Reel<'a> {
 #[derive(Clone, Copy, Debug, PartialEq, Eq, Drop, Error)]
 #[error("byte {position}: no record of a run begins like this")]
 pub struct BadHeader {
-    /// The position of its first byte: 0 of the magic bytes, 4 of the seats, 5 of the room, 6 of the
-    /// lead, 10 of the text's length.
+    /// The position of its first byte: 0 of the magic bytes, 4 of the seats, 5 of the room, 6 of
+    /// the lead, 10 of the text's length.
     pub position: u32,
 }
 

@@ -112,8 +112,8 @@ fn status_of(fault: RunFault) -> u8
     }
 }
 
-/// Tells the console a text, in one put, and gives the exit status: the verdict, or that the console
-/// failed.
+/// Tells the console a text, in one put, and gives the exit status: the verdict, or that the
+/// console failed.
 pub fn say<C: Console>(text: &[u8], verdict: u8, console: &mut C) -> u8
     ensures { Tells C.Console console.old console.new text.now verdict result }
 {

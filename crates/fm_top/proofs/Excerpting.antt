@@ -79,7 +79,8 @@ module _ {S K : Type 0} (from : SourceSeen S) (source source' : S)
     made = part_of number begin until t.planned.score;
     makes = record { score = t.planned.score; means = t.planned.means; is = refl };
     done =
-        subst (λ p. IsFinished to.content to.sure to.faults sink sink' p (excerpt_events begin until (played_piece (resolved t.planned.score))
+        subst (λ p. IsFinished to.content to.sure to.faults sink sink' p
+        (excerpt_events begin until (played_piece (resolved t.planned.score))
         (played_end (resolved t.planned.score))) (excerpt_end begin until (played_end (resolved t.planned.score))))
         same_profile finished;
     tells =

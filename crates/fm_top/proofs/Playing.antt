@@ -96,7 +96,8 @@ module _ {S K : Type 0} (from : SourceSeen S) (source source' : S)
     made = performance number t.planned.score;
     makes = record { score = t.planned.score; means = t.planned.means; is = refl };
     done =
-        subst (λ e. IsFinished to.content to.sure to.faults sink sink' (profile_of t.planned.score) (played_piece (resolved t.planned.score)) e)
+        subst (λ e. IsFinished to.content to.sure to.faults sink sink' (profile_of t.planned.score)
+        (played_piece (resolved t.planned.score)) e)
         (last t.text t.planned.score t.planned.means)
         (subst (λ ls. IsFinished to.content to.sure to.faults sink sink' (profile_of t.planned.score) (piece ls) (piece_end ls)) lines
         (subst (λ p. IsFinished to.content to.sure to.faults sink sink' p (piece (plan_lines plan)) (piece_end (plan_lines plan)))
@@ -120,7 +121,8 @@ module _ {S K : Type 0} (from : SourceSeen S) (source source' : S)
     made = performance number t.planned.score;
     makes = record { score = t.planned.score; means = t.planned.means; is = refl };
     cut =
-        subst (λ e. IsBroken to.content to.sure to.faults sink sink' (profile_of t.planned.score) (played_piece (resolved t.planned.score)) e)
+        subst (λ e. IsBroken to.content to.sure to.faults sink sink' (profile_of t.planned.score)
+        (played_piece (resolved t.planned.score)) e)
         (last t.text t.planned.score t.planned.means)
         (subst (λ ls. IsBroken to.content to.sure to.faults sink sink' (profile_of t.planned.score) (piece ls) (piece_end ls)) lines
         (subst (λ p. IsBroken to.content to.sure to.faults sink sink' p (piece (plan_lines plan)) (piece_end (plan_lines plan)))

@@ -88,7 +88,8 @@ position_made : TextVerdict → ToldOnce → (tick process : ℕ) (text : List �
     → MakesPosition tick process text n → m ≡ n
 position_made one once tick process text m n a b =
     let same : a.score ≡ b.score = one.score text a.score b.score a.means b.means in
-    let there : IsLocated (score_plan b.score) process tick a.line = subst (λ s. IsLocated (score_plan s) process tick a.line) same a.located in
+    let there : IsLocated (score_plan b.score) process tick a.line
+    = subst (λ s. IsLocated (score_plan s) process tick a.line) same a.located in
     a.is ∙ ap only_told (once (score_plan b.score) process tick a.line b.line there b.located) ∙ sym b.is
 
 position_apart : TextVerdict → (tick process : ℕ) (text : List ℕ) (m : Product) (f : RunFault) → MakesPosition tick process text m

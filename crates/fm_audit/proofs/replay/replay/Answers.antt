@@ -14,7 +14,8 @@ use Rattle.fm_audit.proofs.replay.replay.Goals as goal
 all_left : (bytes : List ℕ) (position n : ℕ) (s : Step) → IsFirst (take (length bytes - position) (drop position bytes)) s n →
     IsFirst (drop position bytes) s n
 all_left bytes position n s first =
-    subst (λ (bs : List ℕ). IsFirst bs s n) (take_all (length bytes - position) (drop position bytes) (omega (arith, length-drop position bytes)))
+    subst (λ (bs : List ℕ). IsFirst bs s n)
+    (take_all (length bytes - position) (drop position bytes) (omega (arith, length-drop position bytes)))
     first
 
 pub returns-in-Refused-clause-err : goal.returns-in-Refused-clause-err

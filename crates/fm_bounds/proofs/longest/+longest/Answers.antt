@@ -23,7 +23,8 @@ longest_item-loop-branch-preserved t c =
       ← c.deref-in-loop-branch.ensures.value,
     )
     (c.max-longest.ensures ∙ ap₂ max c.loop-branch.invariant c.longest_items-in-loop-branch.ensures
-    ∙ capped_max (longest_among c.args.whole (branches_of so_far)) (longest_inside c.args.whole (items_view c.deref-in-loop-branch.result.now)))
+    ∙ capped_max (longest_among c.args.whole (branches_of so_far))
+    (longest_inside c.args.whole (items_view c.deref-in-loop-branch.result.now)))
 
 pub longest_item-returns-after-loop-branch : goal.longest_item-returns-after-loop-branch
 longest_item-returns-after-loop-branch t c =

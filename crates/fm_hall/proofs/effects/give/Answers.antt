@@ -9,7 +9,8 @@ pub given_cell-next-requires-clause-computed : goal.given_cell-next-requires-cla
 given_cell-next-requires-clause-computed c =
     let a = c.args in
     let same = ap (λ x. x.computed) c.cell-from.ensures in
-    let le = computed_le _ _ c.requires.hall a.seat a.process a.handed.taken a.handed.computed a.handed.clock a.handed.ended c.requires.allowed in
+    let le = computed_le _ _ c.requires.hall a.seat a.process a.handed.taken a.handed.computed a.handed.clock a.handed.ended
+    c.requires.allowed in
     omega arith
 
 pub given_cell-next-requires-clause-taken : goal.given_cell-next-requires-clause-taken
@@ -17,13 +18,15 @@ given_cell-next-requires-clause-taken c =
     let a = c.args in
     let same = ap (λ x. x.computed) c.cell-from.ensures in
     let also = ap (λ x. x.taken) c.cell-from.ensures in
-    let le = taken_le _ _ c.requires.hall a.seat a.process a.handed.taken a.handed.computed a.handed.clock a.handed.ended c.requires.allowed in
+    let le = taken_le _ _ c.requires.hall a.seat a.process a.handed.taken a.handed.computed a.handed.clock a.handed.ended
+    c.requires.allowed in
     omega arith
 
 pub slice_bounds-take-end : goal.slice_bounds-take-end
 slice_bounds-take-end c =
     let a = c.args in
-    let there = taken_there _ _ c.requires.hall a.seat a.process a.handed.taken a.handed.computed a.handed.clock a.handed.ended c.requires.allowed in
+    let there = taken_there _ _ c.requires.hall a.seat a.process a.handed.taken a.handed.computed a.handed.clock a.handed.ended
+    c.requires.allowed in
     let same = ap length c.waiting_events.ensures.value in
     sym (length-take-le a.handed.taken c.waiting_events.result.now (omega arith))
 

@@ -13,4 +13,5 @@ returns c =
     let held = sym (c.is_held_by.ensures ∙ ap (held_by a.seat) c.cell-from.ensures) ∙ c.if-not-is_held_by.false in
     let take = c.if-handed-must_be_taken.false ∙ c.must_be_taken.ensures in
     let later = rw (c.line-own.ensures.value, c.cell-from.ensures) at c.why_not_given.ensures in
-    give_on g h a.seat a.process a.handed.taken a.handed.computed a.handed.clock a.handed.ended seat process held take c.why_not_given.result later
+    give_on g h a.seat a.process a.handed.taken a.handed.computed a.handed.clock a.handed.ended seat process held take
+    c.why_not_given.result later

@@ -8,7 +8,8 @@ use Rattle.fm_listing.proofs.line.push_event.Goals as goal
 
 pub returns-in_err-push_byte-clause-err : goal.returns-in_err-push_byte-clause-err
 returns-in_err-push_byte-clause-err g c =
-    let same : whole_of c.args.entry.now.status c.args.entry.now.bytes.now ≡ c.args.entry.now.status ∷ c.args.entry.now.bytes.now = rw c.if-has_status.false at (c.has_status.ensures c.args.entry.now.status) in
+    let same : whole_of c.args.entry.now.status c.args.entry.now.bytes.now ≡ c.args.entry.now.status ∷ c.args.entry.now.bytes.now
+    = rw c.if-has_status.false at (c.has_status.ensures c.args.entry.now.status) in
     rw same (
     on_err c.from_residual.result
     (come_breaks _ _ _ _ _ _ _ _ _ _ _ c.in_err-push_byte.ensures.err
@@ -17,7 +18,8 @@ returns-in_err-push_byte-clause-err g c =
 
 pub returns-clause-ok : goal.returns-clause-ok
 returns-clause-ok g c =
-    let same : whole_of c.args.entry.now.status c.args.entry.now.bytes.now ≡ c.args.entry.now.status ∷ c.args.entry.now.bytes.now = rw c.if-has_status.false at (c.has_status.ensures c.args.entry.now.status) in
+    let same : whole_of c.args.entry.now.status c.args.entry.now.bytes.now ≡ c.args.entry.now.status ∷ c.args.entry.now.bytes.now
+    = rw c.if-has_status.false at (c.has_status.ensures c.args.entry.now.status) in
     rw same (
     on_ok_weaker c.push_bytes-2.result
     (λ pass. come_last _ _ _ _ _ _ _ _ _ _ _ pass
@@ -28,7 +30,8 @@ returns-clause-ok g c =
 
 pub returns-clause-err : goal.returns-clause-err
 returns-clause-err g c =
-    let same : whole_of c.args.entry.now.status c.args.entry.now.bytes.now ≡ c.args.entry.now.status ∷ c.args.entry.now.bytes.now = rw c.if-has_status.false at (c.has_status.ensures c.args.entry.now.status) in
+    let same : whole_of c.args.entry.now.status c.args.entry.now.bytes.now ≡ c.args.entry.now.status ∷ c.args.entry.now.bytes.now
+    = rw c.if-has_status.false at (c.has_status.ensures c.args.entry.now.status) in
     rw same (
     on_err_weaker c.push_bytes-2.result
     (λ broke. come_last_breaks _ _ _ _ _ _ _ _ _ _ broke

@@ -11,7 +11,8 @@ unfolding first_line
 returns-in_err-push_entry-clause-err g c =
     on_err c.from_residual.result
     (come_breaks _ _ _ _ _ _ _ _ _ _ _ (rw c.format.ensures at c.in_err-push_entry.ensures.err)
-    (come_begun _ _ _ _ c.args.out.now (first_line c.args.file.now.format (length (tracks c.args.file.now.parts)) c.args.file.now.division)))
+    (come_begun _ _ _ _ c.args.out.now
+    (first_line c.args.file.now.format (length (tracks c.args.file.now.parts)) c.args.file.now.division)))
 
 pub returns-in_err-push_entry-2-clause-err : goal.returns-in_err-push_entry-2-clause-err
 unfolding first_line
@@ -19,7 +20,8 @@ returns-in_err-push_entry-2-clause-err g c =
     on_err c.from_residual-in_err-push_entry-2.result
     (come_breaks _ _ _ _ _ _ _ _ _ _ _ (rw c.tracks.ensures at c.in_err-push_entry-2.ensures.err)
     (come_more _ _ _ _ _ _ _ _ _ _ _ _ (rw c.format.ensures at c.in_ok-push_entry.ensures.ok)
-    (come_begun _ _ _ _ c.args.out.now (first_line c.args.file.now.format (length (tracks c.args.file.now.parts)) c.args.file.now.division))))
+    (come_begun _ _ _ _ c.args.out.now
+    (first_line c.args.file.now.format (length (tracks c.args.file.now.parts)) c.args.file.now.division))))
 
 pub returns-in_err-push_entry-3-clause-err : goal.returns-in_err-push_entry-3-clause-err
 unfolding first_line
@@ -28,7 +30,8 @@ returns-in_err-push_entry-3-clause-err g c =
     (come_breaks _ _ _ _ _ _ _ _ _ _ _ (rw c.division.ensures at c.in_err-push_entry-3.ensures.err)
     (come_more _ _ _ _ _ _ _ _ _ _ _ _ (rw c.tracks.ensures at c.in_ok-push_entry-2.ensures.ok)
     (come_more _ _ _ _ _ _ _ _ _ _ _ _ (rw c.format.ensures at c.in_ok-push_entry.ensures.ok)
-    (come_begun _ _ _ _ c.args.out.now (first_line c.args.file.now.format (length (tracks c.args.file.now.parts)) c.args.file.now.division)))))
+    (come_begun _ _ _ _ c.args.out.now
+    (first_line c.args.file.now.format (length (tracks c.args.file.now.parts)) c.args.file.now.division)))))
 
 pub returns-clause-ok : goal.returns-clause-ok
 unfolding first_line
@@ -38,7 +41,8 @@ returns-clause-ok g c =
     (come_more _ _ _ _ _ _ _ _ _ _ _ _ (rw c.division.ensures at c.in_ok-push_entry-3.ensures.ok)
     (come_more _ _ _ _ _ _ _ _ _ _ _ _ (rw c.tracks.ensures at c.in_ok-push_entry-2.ensures.ok)
     (come_more _ _ _ _ _ _ _ _ _ _ _ _ (rw c.format.ensures at c.in_ok-push_entry.ensures.ok)
-    (come_begun _ _ _ _ c.args.out.now (first_line c.args.file.now.format (length (tracks c.args.file.now.parts)) c.args.file.now.division))))))
+    (come_begun _ _ _ _ c.args.out.now
+    (first_line c.args.file.now.format (length (tracks c.args.file.now.parts)) c.args.file.now.division))))))
     c.push.ensures.ok
 
 pub returns-clause-err : goal.returns-clause-err
@@ -49,5 +53,6 @@ returns-clause-err g c =
     (come_more _ _ _ _ _ _ _ _ _ _ _ _ (rw c.division.ensures at c.in_ok-push_entry-3.ensures.ok)
     (come_more _ _ _ _ _ _ _ _ _ _ _ _ (rw c.tracks.ensures at c.in_ok-push_entry-2.ensures.ok)
     (come_more _ _ _ _ _ _ _ _ _ _ _ _ (rw c.format.ensures at c.in_ok-push_entry.ensures.ok)
-    (come_begun _ _ _ _ c.args.out.now (first_line c.args.file.now.format (length (tracks c.args.file.now.parts)) c.args.file.now.division))))))
+    (come_begun _ _ _ _ c.args.out.now
+    (first_line c.args.file.now.format (length (tracks c.args.file.now.parts)) c.args.file.now.division))))))
     c.push.ensures.err

@@ -172,7 +172,8 @@ outline_item-returns-in_err-body-in-Again-clause-refused t c = λ why spot is k 
     let e = c.deref-in-Again.result.now in
     let n = c.in-Again.most in
     let seen : (item_view c.args.item.now).what ≡ tree.again (expr_view e) n (items_view b)
-    = again_what c.args.item.now c.in-Again.count n c.in-Again.body e b c.in-Again.is c.deref-in-Again.ensures c.deref-in-Again-2.ensures.value in
+    = again_what c.args.item.now c.in-Again.count n c.in-Again.body e b c.in-Again.is c.deref-in-Again.ensures
+    c.deref-in-Again-2.ensures.value in
     behind_own k (body_faults (names_of k) (items_view b)) seen knows.whole refl c.requires
     ∙ (c.in_err-body-in-Again.ensures.refused why spot (handed is c.from_residual-in_err-body-in-Again.ensures.1) k look knows)
 
@@ -182,7 +183,8 @@ outline_item-returns-in_ok-body-in-Again-clause-ok t c = λ k look knows.
     let e = c.deref-in-Again.result.now in
     let n = c.in-Again.most in
     let seen : (item_view c.args.item.now).what ≡ tree.again (expr_view e) n (items_view b)
-    = again_what c.args.item.now c.in-Again.count n c.in-Again.body e b c.in-Again.is c.deref-in-Again.ensures c.deref-in-Again-2.ensures.value in
+    = again_what c.args.item.now c.in-Again.count n c.in-Again.body e b c.in-Again.is c.deref-in-Again.ensures
+    c.deref-in-Again-2.ensures.value in
     let inside = c.in_ok-body-in-Again.ensures.ok k look knows in (
       behind_own k (body_faults (names_of k) (items_view b)) seen knows.whole refl c.requires ∙ inside.0,
       rw (seen, loop_seen look (count.Drawn c.in_ok-expr-in-Again.expr n.value) c.in_ok-body-in-Again.body)
@@ -293,7 +295,8 @@ outline_item-returns-in_err-body-in-Rhythm-clause-refused t c = λ why spot is k
     let b = c.deref-in-Rhythm-2.result.now in
     let l = c.deref-in-Rhythm.result.now in
     let seen : (item_view c.args.item.now).what ≡ tree.rhythm l (items_view b)
-    = rhythm_what c.args.item.now c.in-Rhythm.list c.in-Rhythm.body l b c.in-Rhythm.is c.deref-in-Rhythm.ensures.value c.deref-in-Rhythm-2.ensures.value in
+    = rhythm_what c.args.item.now c.in-Rhythm.list c.in-Rhythm.body l b c.in-Rhythm.is c.deref-in-Rhythm.ensures.value
+    c.deref-in-Rhythm-2.ensures.value in
     behind_own k (body_faults (names_of k) (items_view b)) seen knows.whole refl c.requires
     ∙ (c.in_err-body-in-Rhythm.ensures.refused why spot (handed is c.from_residual-in_err-body-in-Rhythm.ensures.1) k look knows)
 
@@ -302,7 +305,8 @@ outline_item-returns-in_ok-body-in-Rhythm-clause-ok t c = λ k look knows.
     let b = c.deref-in-Rhythm-2.result.now in
     let l = c.deref-in-Rhythm.result.now in
     let seen : (item_view c.args.item.now).what ≡ tree.rhythm l (items_view b)
-    = rhythm_what c.args.item.now c.in-Rhythm.list c.in-Rhythm.body l b c.in-Rhythm.is c.deref-in-Rhythm.ensures.value c.deref-in-Rhythm-2.ensures.value in
+    = rhythm_what c.args.item.now c.in-Rhythm.list c.in-Rhythm.body l b c.in-Rhythm.is c.deref-in-Rhythm.ensures.value
+    c.deref-in-Rhythm-2.ensures.value in
     let inside = c.in_ok-body-in-Rhythm.ensures.ok k look knows in (
       behind_own k (body_faults (names_of k) (items_view b)) seen knows.whole refl c.requires ∙ inside.0,
       rw (
@@ -323,7 +327,8 @@ outline_item-returns-in_err-body-in-Artic-clause-refused t c = λ why spot is k 
     let b = c.deref-in-Artic-2.result.now in
     let l = c.deref-in-Artic.result.now in
     let seen : (item_view c.args.item.now).what ≡ tree.artic l (items_view b)
-    = artic_what c.args.item.now c.in-Artic.list c.in-Artic.body l b c.in-Artic.is c.deref-in-Artic.ensures.value c.deref-in-Artic-2.ensures.value in
+    = artic_what c.args.item.now c.in-Artic.list c.in-Artic.body l b c.in-Artic.is c.deref-in-Artic.ensures.value
+    c.deref-in-Artic-2.ensures.value in
     behind_own k (body_faults (names_of k) (items_view b)) seen knows.whole refl c.requires
     ∙ (c.in_err-body-in-Artic.ensures.refused why spot (handed is c.from_residual-in_err-body-in-Artic.ensures.1) k look knows)
 
@@ -332,7 +337,8 @@ outline_item-returns-in_ok-body-in-Artic-clause-ok t c = λ k look knows.
     let b = c.deref-in-Artic-2.result.now in
     let l = c.deref-in-Artic.result.now in
     let seen : (item_view c.args.item.now).what ≡ tree.artic l (items_view b)
-    = artic_what c.args.item.now c.in-Artic.list c.in-Artic.body l b c.in-Artic.is c.deref-in-Artic.ensures.value c.deref-in-Artic-2.ensures.value in
+    = artic_what c.args.item.now c.in-Artic.list c.in-Artic.body l b c.in-Artic.is c.deref-in-Artic.ensures.value
+    c.deref-in-Artic-2.ensures.value in
     let inside = c.in_ok-body-in-Artic.ensures.ok k look knows in (
       behind_own k (body_faults (names_of k) (items_view b)) seen knows.whole refl c.requires ∙ inside.0,
       rw (seen, under_seen look _ c.in_ok-list-in-Artic.list c.in_ok-body-in-Artic.body)
@@ -348,7 +354,8 @@ outline_item-returns-in_err-body-in-Loud-clause-refused t c = λ why spot is k l
     let b = c.deref-in-Loud-2.result.now in
     let l = c.deref-in-Loud.result.now in
     let seen : (item_view c.args.item.now).what ≡ tree.loud l (items_view b)
-    = loud_what c.args.item.now c.in-Loud.list c.in-Loud.body l b c.in-Loud.is c.deref-in-Loud.ensures.value c.deref-in-Loud-2.ensures.value in
+    = loud_what c.args.item.now c.in-Loud.list c.in-Loud.body l b c.in-Loud.is c.deref-in-Loud.ensures.value
+    c.deref-in-Loud-2.ensures.value in
     behind_own k (body_faults (names_of k) (items_view b)) seen knows.whole refl c.requires
     ∙ (c.in_err-body-in-Loud.ensures.refused why spot (handed is c.from_residual-in_err-body-in-Loud.ensures.1) k look knows)
 
@@ -357,7 +364,8 @@ outline_item-returns-in_ok-body-in-Loud-clause-ok t c = λ k look knows.
     let b = c.deref-in-Loud-2.result.now in
     let l = c.deref-in-Loud.result.now in
     let seen : (item_view c.args.item.now).what ≡ tree.loud l (items_view b)
-    = loud_what c.args.item.now c.in-Loud.list c.in-Loud.body l b c.in-Loud.is c.deref-in-Loud.ensures.value c.deref-in-Loud-2.ensures.value in
+    = loud_what c.args.item.now c.in-Loud.list c.in-Loud.body l b c.in-Loud.is c.deref-in-Loud.ensures.value
+    c.deref-in-Loud-2.ensures.value in
     let inside = c.in_ok-body-in-Loud.ensures.ok k look knows in (
       behind_own k (body_faults (names_of k) (items_view b)) seen knows.whole refl c.requires ∙ inside.0,
       rw (seen, under_seen look _ c.in_ok-list-in-Loud.list c.in_ok-body-in-Loud.body)

@@ -30,7 +30,8 @@ returns-clause-follows c = λ F u below a.
 
 pub returns-clause-text : goal.returns-clause-text
 returns-clause-text c = record {
-  form = λ b. forms.scope (scoping c.args.scope) (leaf_at c.in_ok-spot.ensures.text.bytes c.in_ok-spot.spot) c.in_ok-number.ensures.text.form b;
+  form = λ b. forms.scope (scoping c.args.scope) (leaf_at c.in_ok-spot.ensures.text.bytes c.in_ok-spot.spot)
+      c.in_ok-number.ensures.text.form b;
   spells = λ b next is. rw (c.in_ok-spot.ensures.text.text, c.word.ensures, c.in_ok-number.ensures.text.spells, is) refl;
   stands_for = λ b. ap (λ v. placed c.in_ok-spot.spot (scoping_tree (scoping c.args.scope) v (block_tree b)))
       c.in_ok-number.ensures.text.stands_for;

@@ -13,7 +13,8 @@ pub returns : goal.returns
 returns c =
     c.loop-process.invariant.lines
     ∙ take_all c.loop-process.process (plan_lines c.args.plan.now)
-    (let count = c.processes-process-end.ensures.value in omega (arith, plan-lines-length c.args.plan.now, count, c.loop-process-test.false))
+    (let count = c.processes-process-end.ensures.value in
+    omega (arith, plan-lines-length c.args.plan.now, count, c.loop-process-test.false))
 
 pub loop-process-preserved : goal.loop-process-preserved
 loop-process-preserved c =

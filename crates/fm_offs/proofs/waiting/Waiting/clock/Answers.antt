@@ -10,7 +10,8 @@ pub returns : goal.returns
 returns c =
     let xs = c.self.inside.offs.items in
     let first = c.earliest-first.result in
-    let early : IsEarliest xs first = subst (λ (ys : List NoteOff). IsEarliest ys first) c.as_slice.ensures.value c.earliest-first.ensures in
+    let early : IsEarliest xs first
+    = subst (λ (ys : List NoteOff). IsEarliest ys first) c.as_slice.ensures.value c.earliest-first.ensures in
     c.min.ensures
     ∙ ap (λ (ys : List NoteOff). min c.args.tick (tick_at ys first)) c.deref.ensures.0
     ∙ sym (clock_is c.args.tick first xs early)

@@ -9,7 +9,8 @@ pub returns-then-deref-first-clause-yes : goal.returns-then-deref-first-clause-y
 returns-then-deref-first-clause-yes c = λ _.
     let xs = c.self.inside.offs.items in
     let first = c.earliest-first.result in
-    let early : IsEarliest xs first = subst (λ (ys : List NoteOff). IsEarliest ys first) c.as_slice.ensures.value c.earliest-first.ensures in
+    let early : IsEarliest xs first
+    = subst (λ (ys : List NoteOff). IsEarliest ys first) c.as_slice.ensures.value c.earliest-first.ensures in
     subst (ComesNext c.args.tick c.args.pitches) c.self.view_is
     (comes-due c.args.tick c.args.pitches first xs early
     (subst (λ (ys : List NoteOff). tick_at ys first ≤ c.args.tick) c.deref.ensures.0 c.if-deref-first.true))
@@ -18,7 +19,8 @@ pub returns-clause-yes : goal.returns-clause-yes
 returns-clause-yes c = λ e.
     let xs = c.self.inside.offs.items in
     let first = c.earliest-first.result in
-    let early : IsEarliest xs first = subst (λ (ys : List NoteOff). IsEarliest ys first) c.as_slice.ensures.value c.earliest-first.ensures in
+    let early : IsEarliest xs first
+    = subst (λ (ys : List NoteOff). IsEarliest ys first) c.as_slice.ensures.value c.earliest-first.ensures in
     let late : c.args.tick < tick_at xs first =
     subst (λ (ys : List NoteOff). c.args.tick < tick_at ys first) c.deref.ensures.0 c.if-deref-first.false in
     subst (ComesNext c.args.tick c.args.pitches) c.self.view_is
@@ -28,7 +30,8 @@ pub returns-clause-no : goal.returns-clause-no
 returns-clause-no c = λ e.
     let xs = c.self.inside.offs.items in
     let first = c.earliest-first.result in
-    let early : IsEarliest xs first = subst (λ (ys : List NoteOff). IsEarliest ys first) c.as_slice.ensures.value c.earliest-first.ensures in
+    let early : IsEarliest xs first
+    = subst (λ (ys : List NoteOff). IsEarliest ys first) c.as_slice.ensures.value c.earliest-first.ensures in
     let late : c.args.tick < tick_at xs first =
     subst (λ (ys : List NoteOff). c.args.tick < tick_at ys first) c.deref.ensures.0 c.if-deref-first.false in
     subst (HasRoom c.args.tick c.args.pitches) c.self.view_is

@@ -9,7 +9,8 @@ pub returns-then-deref-first-clause-some : goal.returns-then-deref-first-clause-
 returns-then-deref-first-clause-some c =
     let xs = c.self.inside.offs.items in
     let first = c.earliest-first.result in
-    let early : IsEarliest xs first = subst (λ (ys : List NoteOff). IsEarliest ys first) c.as_slice.ensures.value c.earliest-first.ensures in
+    let early : IsEarliest xs first
+    = subst (λ (ys : List NoteOff). IsEarliest ys first) c.as_slice.ensures.value c.earliest-first.ensures in
     let due : tick_at xs first ≤ c.args.tick =
     subst (λ (ys : List NoteOff). tick_at ys first ≤ c.args.tick) c.deref.ensures.0 c.if-deref-first.true in
     subst (λ (olds : List Sound). LetsOut c.args.tick c.args.pitches olds (off_sounds c.remove.new.self.items) (off_sound c.remove.result))
@@ -23,7 +24,8 @@ pub returns-then-len-pitches-gt-MOST_WAITING-clause-some :
 returns-then-len-pitches-gt-MOST_WAITING-clause-some c =
     let xs = c.self.inside.offs.items in
     let first = c.earliest-first.result in
-    let early : IsEarliest xs first = subst (λ (ys : List NoteOff). IsEarliest ys first) c.as_slice.ensures.value c.earliest-first.ensures in
+    let early : IsEarliest xs first
+    = subst (λ (ys : List NoteOff). IsEarliest ys first) c.as_slice.ensures.value c.earliest-first.ensures in
     let late : c.args.tick < tick_at xs first =
     subst (λ (ys : List NoteOff). c.args.tick < tick_at ys first) c.deref.ensures.0 c.if-deref-first.false in
     let many : most_waiting < length xs + c.args.pitches =
@@ -39,7 +41,8 @@ pub returns-clause-none : goal.returns-clause-none
 returns-clause-none c =
     let xs = c.self.inside.offs.items in
     let first = c.earliest-first.result in
-    let early : IsEarliest xs first = subst (λ (ys : List NoteOff). IsEarliest ys first) c.as_slice.ensures.value c.earliest-first.ensures in
+    let early : IsEarliest xs first
+    = subst (λ (ys : List NoteOff). IsEarliest ys first) c.as_slice.ensures.value c.earliest-first.ensures in
     let late : c.args.tick < tick_at xs first =
     subst (λ (ys : List NoteOff). c.args.tick < tick_at ys first) c.deref.ensures.0 c.if-deref-first.false in
     let few : length xs + c.args.pitches ≤ most_waiting =

@@ -13,7 +13,8 @@ returns-else-left-eq0-clause-stands c = λ s back stands goes.
     let more : 0 < c.in-Some-Counting.left = grind (arith, c.if-left-eq0.false) in
     (round-goes (stock_parts c.args.stock.now) _ s s.frames c.pop.new.self.items _ _ _ back stands.registers stands.dice
     c.push.ensures.items
-    (subst (λ (xs : List Frame). FramesStand (stock_parts c.args.stock.now) xs s.frames) (c.in-Some-Counting.ensures.items ∙ ap (λ (x : Frame). c.pop.new.self.items ++ x ∷ []) c.in-Some-Counting.field-0-is)
+    (subst (λ (xs : List Frame). FramesStand (stock_parts c.args.stock.now) xs s.frames)
+    (c.in-Some-Counting.ensures.items ∙ ap (λ (x : Frame). c.pop.new.self.items ++ x ∷ []) c.in-Some-Counting.field-0-is)
     stands.frames)
     goes more).0
 
@@ -22,7 +23,8 @@ returns-else-left-eq0-clause-operation c = λ s back stands goes.
     let more : 0 < c.in-Some-Counting.left = grind (arith, c.if-left-eq0.false) in
     (round-goes (stock_parts c.args.stock.now) (record c.args.self.now { frames = c.push.new.self }) s s.frames c.pop.new.self.items
     _ _ _ back stands.registers stands.dice c.push.ensures.items
-    (subst (λ (xs : List Frame). FramesStand (stock_parts c.args.stock.now) xs s.frames) (c.in-Some-Counting.ensures.items ∙ ap (λ (x : Frame). c.pop.new.self.items ++ x ∷ []) c.in-Some-Counting.field-0-is)
+    (subst (λ (xs : List Frame). FramesStand (stock_parts c.args.stock.now) xs s.frames)
+    (c.in-Some-Counting.ensures.items ∙ ap (λ (x : Frame). c.pop.new.self.items ++ x ∷ []) c.in-Some-Counting.field-0-is)
     stands.frames)
     goes more).1
 
@@ -31,12 +33,14 @@ returns-else-left-eq0-clause-frames c =
     let more : 0 < c.in-Some-Counting.left = grind (arith, c.if-left-eq0.false) in
     IsFrame-round (stock_parts c.args.stock.now) c.args.self.now.frames.items c.push.new.self.items c.pop.new.self.items _ _ _
     c.requires.frames
-    (c.in-Some-Counting.ensures.items ∙ ap (λ (x : Frame). c.pop.new.self.items ++ x ∷ []) c.in-Some-Counting.field-0-is) c.push.ensures.items more
+    (c.in-Some-Counting.ensures.items ∙ ap (λ (x : Frame). c.pop.new.self.items ++ x ∷ []) c.in-Some-Counting.field-0-is)
+    c.push.ensures.items more
 
 pub returns-then-left-eq0-clause-stands : goal.returns-then-left-eq0-clause-stands
 returns-then-left-eq0-clause-stands c = λ s back stands goes.
     (round-ends (stock_parts c.args.stock.now) _ s s.frames c.pop.new.self.items _ _ _ back stands.registers stands.dice refl
-    (subst (λ (xs : List Frame). FramesStand (stock_parts c.args.stock.now) xs s.frames) (c.in-Some-Counting.ensures.items ∙ ap (λ (x : Frame). c.pop.new.self.items ++ x ∷ []) c.in-Some-Counting.field-0-is)
+    (subst (λ (xs : List Frame). FramesStand (stock_parts c.args.stock.now) xs s.frames)
+    (c.in-Some-Counting.ensures.items ∙ ap (λ (x : Frame). c.pop.new.self.items ++ x ∷ []) c.in-Some-Counting.field-0-is)
     stands.frames)
     goes c.if-left-eq0.true).0
 
@@ -44,12 +48,14 @@ pub returns-then-left-eq0-clause-operation : goal.returns-then-left-eq0-clause-o
 returns-then-left-eq0-clause-operation c = λ s back stands goes.
     (round-ends (stock_parts c.args.stock.now) (record c.args.self.now { frames = c.pop.new.self }) s s.frames c.pop.new.self.items
     _ _ _ back stands.registers stands.dice refl
-    (subst (λ (xs : List Frame). FramesStand (stock_parts c.args.stock.now) xs s.frames) (c.in-Some-Counting.ensures.items ∙ ap (λ (x : Frame). c.pop.new.self.items ++ x ∷ []) c.in-Some-Counting.field-0-is)
+    (subst (λ (xs : List Frame). FramesStand (stock_parts c.args.stock.now) xs s.frames)
+    (c.in-Some-Counting.ensures.items ∙ ap (λ (x : Frame). c.pop.new.self.items ++ x ∷ []) c.in-Some-Counting.field-0-is)
     stands.frames)
     goes c.if-left-eq0.true).1
 
 pub returns-in-Some-Cycling-clause-operation : goal.returns-in-Some-Cycling-clause-operation
 returns-in-Some-Cycling-clause-operation c = λ s back stands goes.
     absurd (no_list-goes_back (stock_parts c.args.stock.now) _ _ back c.pop.new.self.items s.frames
-    (subst (λ (xs : List Frame). FramesStand (stock_parts c.args.stock.now) xs s.frames) (c.in-Some-Cycling.ensures.items ∙ ap (λ (x : Frame). c.pop.new.self.items ++ x ∷ []) c.in-Some-Cycling.field-0-is)
+    (subst (λ (xs : List Frame). FramesStand (stock_parts c.args.stock.now) xs s.frames)
+    (c.in-Some-Cycling.ensures.items ∙ ap (λ (x : Frame). c.pop.new.self.items ++ x ∷ []) c.in-Some-Cycling.field-0-is)
     stands.frames) goes)

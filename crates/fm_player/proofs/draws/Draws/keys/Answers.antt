@@ -20,7 +20,8 @@ loop-pitch-preserved c =
       omega (arith, c.push.ensures.len, c.loop-pitch.invariant.1),
       subst (All (λ key. key < DATA_VALUES)) (sym c.push.ensures.items)
           (All-push (λ key. key < DATA_VALUES) c.loop-pitch.keys.items c.nearest_to.result c.loop-pitch.invariant.2 small),
-      keys-more t c.args.self.now c.loop-pitch.self c.number-value.new.self c.loop-pitch.keys.items c.push.new.self.items c.number-value.result
+      keys-more t c.args.self.now c.loop-pitch.self c.number-value.new.self c.loop-pitch.keys.items c.push.new.self.items
+          c.number-value.result
           c.args.pitches.now c.loop-pitch.pitch-index c.args.scope _ c.loop-pitch.invariant.3 c.loop-pitch-test.true
           c.number-value.ensures.draws items,
     )

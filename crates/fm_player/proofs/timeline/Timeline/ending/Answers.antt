@@ -25,7 +25,8 @@ ending-requires-clause-fits c =
 
 pub ending-requires-clause-ready : goal.ending-requires-clause-ready
 ending-requires-clause-ready c =
-    ReadyFrom-later Ending c.args.warps.now c.args.self.now.nest c.args.self.now.position c.args.end c.requires.«from» c.requires.timed.endings
+    ReadyFrom-later Ending c.args.warps.now c.args.self.now.nest c.args.self.now.position c.args.end c.requires.«from»
+    c.requires.timed.endings
 
 pub far-requires-clause-named : goal.far-requires-clause-named
 far-requires-clause-named c =

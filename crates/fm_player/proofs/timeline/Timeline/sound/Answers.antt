@@ -14,7 +14,8 @@ ending-ending-requires-clause-limited c =
 
 pub onset-self-requires-clause-ready : goal.onset-self-requires-clause-ready
 onset-self-requires-clause-ready c =
-    ReadyFrom-later Onset c.args.warps.now c.ending-ending.new.self.nest c.args.self.now.position _ (omega arith) c.ending-ending.ensures.onsets
+    ReadyFrom-later Onset c.args.warps.now c.ending-ending.new.self.nest c.args.self.now.position _ (omega arith)
+    c.ending-ending.ensures.onsets
 
 pub returns-clause-timed : goal.returns-clause-timed
 returns-clause-timed c =
