@@ -5,4 +5,5 @@ pub mod Slots
 pub mod Chain
 pub mod Watching
 pub mod Starts
+pub mod Hands
 pub mod Rounds

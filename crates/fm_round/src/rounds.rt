@@ -1,5 +1,5 @@
 //! A plan that is played in rounds.
-ghost use Rattle.std.specs.Prelude.{◌≡◌, ◌≤◌, length, OnOk, OnErr, IfOk};
+ghost use Rattle.std.specs.Prelude.{◌≡◌, ◌<◌, ◌≤◌, length, OnOk, OnErr, IfOk};
 ghost use Rattle.fm_edge.specs.Content.{IsNew};
 ghost use Rattle.fm_line.specs.Line.{line};
 ghost use Rattle.fm_line.specs.Piece.{piece};
@@ -8,11 +8,13 @@ ghost use Rattle.fm_program.specs.Process.{plan_lines};
 ghost use Rattle.fm_smf.specs.Writing.{IsFinished, IsBroken};
 ghost use Rattle.fm_play.specs.Ends.{piece_end};
 ghost use Rattle.fm_play.specs.Performance.{played_of};
+ghost use Rattle.fm_round.specs.Hands.{AreHands, MayRun};
 ghost use Rattle.fm_round.specs.Rounds.{AreFresh};
-ghost use Rattle.fm_round.specs.Slots.{AllAtEnd, IsAtEnd, IsFresh};
+ghost use Rattle.fm_round.specs.Slots.{AllAtEnd, IsAtEnd, IsFresh, RunsAll};
 
 use crate::limits::MAX_WORKERS;
-use crate::perform::{perform_alone, perform_shared};
+use crate::perform::perform;
+use crate::run::{run_alone, run_shared};
 use crate::slot::Slot;
 use crate::watch::{Watch, open_watch};
 use fm_buffer::{Gather, MAX_ROOM, Outbox};
@@ -88,41 +90,38 @@ impl Rounds {
             self.profile (piece (plan_lines self)) (piece_end (plan_lines self))) }
         ensures played { IfOk result (λ played. played ≡ played_of self) }
     {
-        let Rounds {
-            plan,
-            mut watch,
-            mut slots,
-            mut gather,
-            room,
-            lead,
-        } = self;
-        let lent = slots.as_mut_slice();
-        let mut writer = begin_file(&plan, sink)?;
-        let events = perform_shared(
-            rt,
-            gate,
-            workers.max(1),
-            &plan,
-            &mut watch,
-            lent,
-            &mut gather,
-            room,
-            lead,
-            &mut writer,
-            sink,
-        )?;
-        let last = end_of_piece(&plan, lent);
-        let bytes = finish_file(&plan, last, writer, sink)?;
-        Ok(Played {
-            events,
-            last,
-            bytes,
-        })
+        let many = workers.max(1);
+        let hands = |plan: &Plan, limit: u64, next: &[u32], slots: &mut [Slot]|
+            requires { (0 < many) × (many ≤ MAX_WORKERS) × MayRun plan.now next.now slots.now }
+            ensures { RunsAll plan.now limit slots.entry.now slots.exit.now }
+        { run_shared(rt, gate, many, plan, limit, next, slots) };
+        self.play_by(&hands, sink)
     }
 
     /// Plays the plan into a new sink, in the plan's profile, on the caller's thread. It always
     /// returns, and takes no memory.
     pub fn play_alone<K: Sink>(self, sink: &mut K) -> Result<Played, SinkFault>
+        requires new { IsNew (K.content sink.old) }
+        ensures ok { OnOk result (IsFinished K.content K.sure K.faults sink.old sink.new
+            self.profile (piece (plan_lines self)) (piece_end (plan_lines self))) }
+        ensures err { OnErr result (IsBroken K.content K.sure K.faults sink.old sink.new
+            self.profile (piece (plan_lines self)) (piece_end (plan_lines self))) }
+        ensures played { IfOk result (λ played. played ≡ played_of self) }
+    {
+        let hands = |plan: &Plan, limit: u64, next: &[u32], slots: &mut [Slot]|
+            requires { MayRun plan.now next.now slots.now }
+            ensures { RunsAll plan.now limit slots.entry.now slots.exit.now }
+        { run_alone(plan, limit, next, slots) };
+        self.play_by(&hands, sink)
+    }
+
+    // Plays the plan into a new sink, whoever runs the rounds.
+    fn play_by<H: Fn(&Plan, u64, &[u32], &mut [Slot]), K: Sink>(
+        self,
+        hands: &H,
+        sink: &mut K,
+    ) -> Result<Played, SinkFault>
+        requires hands { AreHands H.Fn hands.now }
         requires new { IsNew (K.content sink.old) }
         ensures ok { OnOk result (IsFinished K.content K.sure K.faults sink.old sink.new
             self.profile (piece (plan_lines self)) (piece_end (plan_lines self))) }
@@ -140,7 +139,8 @@ impl Rounds {
         } = self;
         let lent = slots.as_mut_slice();
         let mut writer = begin_file(&plan, sink)?;
-        let events = perform_alone(
+        let events = perform(
+            hands,
             &plan,
             &mut watch,
             lent,

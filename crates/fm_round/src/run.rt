@@ -1,8 +1,9 @@
 //! One quantum of each process, on one thread or on several.
 ghost use Rattle.std.specs.Prelude.{◌≡◌, ◌+◌, ◌*◌, ◌<◌, ◌≤◌, true, false, length};
 ghost use Rattle.std.specs.Thread.{IsSync};
-ghost use Rattle.fm_round.specs.Chain.{Cuts, Enters, IsChain, OthersIdle, OthersIdleFrom, link};
-ghost use Rattle.fm_round.specs.Slots.{AllSlots, AreSlots, NoneRuns, RunsAll, RunsEach, SomeRuns};
+ghost use Rattle.fm_round.specs.Chain.{Cuts, Enters, IsChain, OthersIdleFrom, link};
+ghost use Rattle.fm_round.specs.Hands.{MayRun};
+ghost use Rattle.fm_round.specs.Slots.{AreSlots, NoneRuns, RunsAll, RunsEach, SomeRuns};
 
 use crate::limits::{MAX_PROCESSES, MAX_WORKERS};
 use crate::slot::{Slot, is_live, run_slot};
@@ -13,11 +14,7 @@ use std::thread::{Threads, join_mut};
 /// One quantum of each process up to the limit, a tick, on the caller's thread. Only those in the
 /// chain are gone through.
 pub fn run_alone(plan: &Plan, limit: u64, next: &[u32], slots: &mut [Slot])
-    requires few { length slots.old ≤ MAX_PROCESSES }
-    requires slots { AllSlots plan.now slots.old }
-    requires chain { IsChain next.now }
-    requires size { length next.now ≡ length slots.old }
-    requires idle { OthersIdle next.now slots.old }
+    requires { MayRun plan.now next.now slots.old }
     ensures { RunsAll plan.now limit slots.old slots.new }
 {
     run_chunk(&OpenGate, 0, plan, limit, next, 0, 0, slots);
@@ -35,11 +32,7 @@ pub fn run_shared<R: Threads + Sync, G: Gate + Sync>(
     slots: &mut [Slot],
 )
     requires workers { (0 < workers) × (workers ≤ MAX_WORKERS) }
-    requires few { length slots.old ≤ MAX_PROCESSES }
-    requires slots { AllSlots plan.now slots.old }
-    requires chain { IsChain next.now }
-    requires size { length next.now ≡ length slots.old }
-    requires idle { OthersIdle next.now slots.old }
+    requires ready { MayRun plan.now next.now slots.old }
     ensures { RunsAll plan.now limit slots.old slots.new }
 {
     share(rt, gate, plan, 0, workers, limit, next, 0, 0, slots);

@@ -1,7 +1,7 @@
 use Rattle.fm_round.specs.Rounds.{Between}
 use Rattle.fm_round.specs.Slots.{loads}
 use Rattle.fm_round.specs.Watching.{Watched}
-use Rattle.fm_round.proofs.perform.perform_alone.Given as goal
+use Rattle.fm_round.proofs.perform.perform.Given as goal
 
 abbrev pub invariant-loop-next : goal.invariant-loop-next
 invariant-loop-next g l = record {
