@@ -7,5 +7,6 @@ pub mod ItemLemmas
 pub mod GrowingLemmas
 pub mod KeyLemmas
 pub mod PhraseLemmas
+pub mod LookLemmas
 pub mod WalkLemmas
 pub mod MapLemmas

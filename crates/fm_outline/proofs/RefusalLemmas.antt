@@ -1,6 +1,7 @@
 -- What a refusal tells.
-use Rattle.std.proofs.Common.{◌≡◌, List, [], ◌∷◌, ◌++◌, ◌∙◌, sym, ap, refl, Option, Some, None, Result, Ok, Err, IsErrAnd}
-use Rattle.std.specs.Prelude.{⊤}
+use Rattle.std.proofs.Common.{◌≡◌, List, [], ◌∷◌, ◌++◌, ◌∙◌, sym, ap, refl, Option, Some, None, Result, Ok, Err, IsErrAnd, subst}
+use Rattle.std.specs.Prelude.{⊤, IfOk}
+use Rattle.std.specs.declared.alloc.AllocError.{AllocError}
 use Rattle.fm_lex.specs.declared.spot.Spot.{Spot}
 use Rattle.fm_meaning.specs.Fault.{NumberedFault}
 use Rattle.fm_meaning.specs.Faults.{first_found}
@@ -10,7 +11,7 @@ use Rattle.fm_fault.specs.declared.why.Why.{Why}
 use Rattle.fm_fault.specs.declared.fault.Fault.{Fault}
 use Rattle.fm_fault.specs.declared.fault.CheckFault.{CheckFault}
 use Rattle.fm_fault.specs.declared.fault.CheckFault.TheVariants.{Refused}
-use Rattle.fm_outline.specs.Refusal.{answer_of}
+use Rattle.fm_outline.specs.Refusal.{answer_of, memory_answer, Refuses}
 
 -- what `?` hands on is what it was given
 pub handed : {A B E : Type 0} {r : Result A E} {e f : E} → r ≡ Err f → IsErrAnd r (λ y. y ≡ e)
@@ -41,6 +42,18 @@ pub failed : (r : Result ⊤ Fault) (e : CheckFault) (fs : List NumberedFault) �
 failed (Ok y) e fs answer first why spot is = cc
 failed (Err f) e fs answer first why spot is =
     let told : Refused f.why f.spot ≡ Refused why spot = cc in sym first ∙ ap told_by told
+
+-- what holds of all that was made holds of the answer
+pub made_holds : {A : Type 0} {P Q : A → Type 0} {r : Result A CheckFault} (m : Result A AllocError) → r ≡ memory_answer m
+    → IfOk m P → ((x : A) → P x → Q x) → IfOk r Q
+made_holds {Q = Q} (Ok x) is given more = subst (λ s. IfOk s Q) (sym is) (more x given)
+made_holds {Q = Q} (Err e) is given more = subst (λ s. IfOk s Q) (sym is) tt
+
+-- want of memory tells of no fault
+pub made_told : {A : Type 0} {r : Result A CheckFault} (P : Spot → Why → Type 0) (m : Result A AllocError)
+    → r ≡ memory_answer m → Refuses r P
+made_told P (Ok x) is why spot told = cc
+made_told P (Err e) is why spot told = cc
 
 -- faults behind none
 pub behind : (fs gs : List NumberedFault) → None ≡ first_found fs → first_found (fs ++ gs) ≡ first_found gs

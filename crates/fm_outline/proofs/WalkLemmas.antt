@@ -1,10 +1,10 @@
 -- The walk over the entries, one more at a time.
-use Rattle.std.proofs.Common.{◌≡◌, ℕ, zero, suc, ◌+◌, ◌<◌, ◌≤◌, List, [], ◌∷◌, ◌++◌, map, drop, length, get_or, refl, ap, ap₂, sym, ◌∙◌, add-one, arith, Bool, cond, Some, None, is_some, drop_of_length-le, subst, Vec, Global}
+use Rattle.std.proofs.Common.{◌≡◌, ℕ, suc, ◌+◌, ◌<◌, ◌≤◌, List, [], ◌∷◌, ◌++◌, map, drop, length, get_or, refl, ap, ap₂, sym, ◌∙◌, add-one, Bool, cond, Some, None, is_some, drop_of_length-le, subst, Vec, Global}
 use Rattle.std.specs.Prelude.{unwrap_or}
 use Rattle.std.specs.List.{list_any}
 use Rattle.std.specs.Str.{bytes_eq}
 use Rattle.std.proofs.Math.Seq.{drop-cons}
-use Rattle.std.proofs.lemmas.List.{map-append, length-append}
+use Rattle.std.proofs.lemmas.List.{map-append}
 use Rattle.fm_lex.specs.declared.spot.Spot.{Spot}
 use Rattle.fm_names.specs.Named.{named}
 use Rattle.fm_names.specs.declared.names.Names as table
@@ -25,54 +25,16 @@ use Rattle.fm_outline.specs.declared.known.Known.{Known}
 use Rattle.fm_outline.specs.declared.known.Meaning.{Meaning}
 use Rattle.fm_outline.specs.declared.known.Meaning.TheVariants.{Shape, Phrase}
 use Rattle.fm_outline.specs.declared.step.Step.{Step}
-use Rattle.fm_outline.specs.View.{Look, phrase_at, look_in, phrases_behind, phrases_view, instruction_view, step_view, block_view}
+use Rattle.fm_outline.specs.View.{Look, phrase_at, look_in, phrases_view, instruction_view, step_view, block_view}
 use Rattle.fm_outline.specs.Growing.{followed}
 use Rattle.fm_outline.specs.Knows.{Knows, labels, names_of, phrase_number, shape_index}
 use Rattle.fm_outline.specs.Walked.{Extends, WalkedBy}
 use Rattle.fm_outline.proofs.NameLemmas.{either_of, either_known, other_kind, double_is, new_behind}
 use Rattle.fm_outline.proofs.PhraseLemmas.{phrases_more, get_mapped}
+use Rattle.fm_outline.proofs.LookLemmas.{phrases_length, extends_less, extends_last}
 use Rattle.fm_outline.proofs.RefusalLemmas.{before, behind, no_first}
 use Rattle.fm_outline.proofs.SeenLemmas.{step_seen}
 use Rattle.fm_outline.proofs.GrowingLemmas.{placed, placed_more}
-
--- ---- phrases
-
--- there are as many as were defined
-behind_length : (blocks : List plain.Block) (ps : List (List Step))
-    → length (phrases_behind blocks ps) ≡ length blocks + length ps
-behind_length blocks [] = omega arith
-behind_length blocks (p ∷ ps) =
-    omega (
-      arith,
-      behind_length (blocks ++ block_view (look_in blocks) p ∷ []) ps,
-      length-append blocks (block_view (look_in blocks) p ∷ []),
-    )
-
-pub phrases_length : (ps : List (List Step)) → length (phrases_view ps) ≡ length ps
-phrases_length ps = omega (arith, behind_length [] ps)
-
--- an index before the end
-get_before : {A : Type 0} (xs : List A) (y d : A) (n : ℕ) → n < length xs → get_or (xs ++ y ∷ []) n d ≡ get_or xs n d
-get_before [] y d n within = absurd (omega arith)
-get_before (x ∷ xs) y d zero within = refl
-get_before (x ∷ xs) y d (suc n) within = get_before xs y d n (omega arith)
-
--- the index at the end
-get_end : {A : Type 0} (xs : List A) (y d : A) → get_or (xs ++ y ∷ []) (length xs) d ≡ y
-get_end [] y d = refl
-get_end (x ∷ xs) y d = get_end xs y d
-
--- what extends more extends less
-extends_less : (blocks : List plain.Block) (b : plain.Block) (look : Look) → Extends (blocks ++ b ∷ []) look
-    → Extends blocks look
-extends_less blocks b look more n within =
-    more n (omega (arith, length-append blocks (b ∷ []))) ∙ get_before blocks b plain.done n within
-
--- the last one
-extends_last : (blocks : List plain.Block) (b : plain.Block) (look : Look) → Extends (blocks ++ b ∷ []) look
-    → look (length blocks) ≡ b
-extends_last blocks b look more =
-    more (length blocks) (omega (arith, length-append blocks (b ∷ []))) ∙ get_end blocks b plain.done
 
 -- the faults of the parts of a shape
 abbrev pub parts_faults : (whole : ℕ) → List PartText → List NumberedFault

@@ -1,9 +1,11 @@
-//! What the checks of a statement answer, as an answer of the walk.
+//! What the checks of a statement answer, and what is made of it, as an answer of the walk.
 
 ghost use Rattle.std.specs.Prelude.{◌≡◌};
-ghost use Rattle.fm_outline.specs.Refusal.{answer_of};
+ghost use Rattle.fm_outline.specs.Refusal.{answer_of, call_of, memory_answer};
 
+use crate::step::Instruction;
 use fm_fault::{CheckFault, Fault, refused};
+use std::alloc::AllocError;
 
 /// A fault refuses the score.
 pub(crate) fn answered(check: Result<(), Fault>) -> Result<(), CheckFault>
@@ -12,5 +14,27 @@ pub(crate) fn answered(check: Result<(), Fault>) -> Result<(), CheckFault>
     match check {
         Ok(()) => Ok(()),
         Err(fault) => Err(refused(fault)),
+    }
+}
+
+/// What was made of a statement that has none inside, or want of memory.
+pub(crate) fn made(outlined: Result<Instruction, AllocError>) -> Result<Instruction, CheckFault>
+    ensures { result ≡ memory_answer outlined }
+{
+    match outlined {
+        Ok(instruction) => Ok(instruction),
+        Err(_) => Err(CheckFault::Memory),
+    }
+}
+
+/// The call of a phrase by its number, or the fault of a name that stands for none.
+pub(crate) fn called(number: Result<u32, CheckFault>) -> Result<Instruction, CheckFault>
+    ensures { result ≡ call_of number }
+{
+    match number {
+        Ok(number) => Ok(Instruction::Phrase {
+            number: Some(number),
+        }),
+        Err(fault) => Err(fault),
     }
 }

@@ -19,7 +19,7 @@ use crate::leaf::{
 };
 use crate::number::{add_lengths, add_numbers};
 use crate::quality::Quality;
-use crate::refusal::answered;
+use crate::refusal::{answered, called, made};
 use crate::step::{Instruction, Step};
 use crate::tables::{Tables, append};
 use fm_fault::CheckFault;
@@ -49,24 +49,24 @@ pub(crate) fn outline_item(
         ≡ Some (fault_at spot why)) }
 {
     match &item.what {
-        What::Note { pitches, duration } => Ok(outline_note(
+        What::Note { pitches, duration } => made(outline_note(
             alloc,
             known.whole,
             pitches,
             duration,
             tables,
-        )?),
-        What::Play { pitches } => Ok(outline_play(alloc, pitches, tables)?),
-        What::Rest { duration } => Ok(outline_rest(alloc, known.whole, duration, tables)?),
+        )),
+        What::Play { pitches } => made(outline_play(alloc, pitches, tables)),
+        What::Rest { duration } => made(outline_rest(alloc, known.whole, duration, tables)),
         What::Skip => Ok(Instruction::Rest {
             lasting: Lasting::Beat,
         }),
         What::Control { controller, amount } => {
-            Ok(outline_control(alloc, *controller, amount, tables)?)
+            made(outline_control(alloc, *controller, amount, tables))
         }
-        What::Program { amount } => Ok(outline_send(alloc, Point::Program, amount, tables)?),
-        What::Bend { amount } => Ok(outline_send(alloc, Point::Bend, amount, tables)?),
-        What::Set { register, value } => Ok(outline_set(alloc, *register, value, tables)?),
+        What::Program { amount } => made(outline_send(alloc, Point::Program, amount, tables)),
+        What::Bend { amount } => made(outline_send(alloc, Point::Bend, amount, tables)),
+        What::Set { register, value } => made(outline_set(alloc, *register, value, tables)),
         What::If { test, yes, no } => {
             let expr = tables.add_expr(alloc, test)?;
             let yes = outline_items(alloc, yes, known, tables)?;
@@ -87,10 +87,7 @@ pub(crate) fn outline_item(
             };
             Ok(Instruction::Loop { count, body })
         }
-        What::Do { name } => {
-            let number = Some(known.phrase(name)?);
-            Ok(Instruction::Phrase { number })
-        }
+        What::Do { name } => called(known.phrase(name)),
         What::Par { branches } => {
             let mut outlined = Vec::with_capacity(alloc, branches.len())?;
             for branch in branches {

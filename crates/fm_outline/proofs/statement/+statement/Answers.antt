@@ -1,4 +1,4 @@
-use Rattle.std.proofs.Common.{◌≡◌, ◌+◌, [], refl, rules, map, drop, ap, sym, ◌∙◌, drop_of_length-le, arith, Vec, Global}
+use Rattle.std.proofs.Common.{◌≡◌, ◌+◌, [], refl, map, drop, ap, sym, ◌∙◌, drop_of_length-le, arith, Vec, Global}
 use Rattle.fm_program.specs.declared.op.Count.TheVariants as count
 use Rattle.fm_grammar.specs.declared.item.Item.{Item}
 use Rattle.fm_grammar.specs.declared.number.Number.{Number}
@@ -20,7 +20,7 @@ use Rattle.fm_outline.specs.Growing.{followed, joined_behind}
 use Rattle.fm_outline.specs.declared.step.Step.{Step}
 use Rattle.fm_outline.proofs.ItemLemmas.{note_what, play_what, rest_what, control_what, program_what, bend_what, set_what, choice_what, repeat_what, again_what, par_what, warp_what, channel_what, volume_what, gate_what, rhythm_what, artic_what, loud_what}
 use Rattle.fm_outline.proofs.InsideLemmas.{own_clean, own_told, leaf_clean, behind_own, first_block, second_block, under_known}
-use Rattle.fm_outline.proofs.RefusalLemmas.{handed, before, behind, failed}
+use Rattle.fm_outline.proofs.RefusalLemmas.{handed, before, behind, failed, made_holds, made_told}
 use Rattle.fm_outline.proofs.NameLemmas.{number_of}
 use Rattle.fm_outline.proofs.SeenLemmas.{choice_seen, loop_seen, par_seen, warp_seen, channel_seen, steady_seen, under_seen}
 use Rattle.fm_outline.proofs.GrowingLemmas.{items_from, arms_from, steps_more, arms_more, choice_numbered, again_numbered, under_numbered}
@@ -46,57 +46,78 @@ outline_item-outline_note-requires-clause-duration t c =
     = note_what c.args.item.now c.in-Note.pitches c.in-Note.duration c.deref.result.now c.in-Note.is c.deref.ensures.value in
     none_second (pitches_faults ps) (duration_faults c.args.known.now.whole d) (own_clean c.args.known.now.whole seen c.requires)
 
-pub outline_item-returns-in_ok-outline_note-in-Note-clause-ok :
-    goal.outline_item-returns-in_ok-outline_note-in-Note-clause-ok
-outline_item-returns-in_ok-outline_note-in-Note-clause-ok t c = λ k look knows.
+pub outline_item-returns-in-Note-clause-ok : goal.outline_item-returns-in-Note-clause-ok
+outline_item-returns-in-Note-clause-ok t c =
     let ps = map pitch_view c.deref.result.now in
     let d = duration_view c.in-Note.duration in
     let seen : (item_view c.args.item.now).what ≡ tree.note ps d
     = note_what c.args.item.now c.in-Note.pitches c.in-Note.duration c.deref.result.now c.in-Note.is c.deref.ensures.value in
-    (leaf_clean k seen knows.whole refl c.requires, rw (seen, knows.whole) (c.in_ok-outline_note-in-Note.ensures look))
+    made_holds c.outline_note.result c.made.ensures c.outline_note.ensures (λ i is k look knows.
+    (leaf_clean k seen knows.whole refl c.requires, rw (seen, knows.whole) (is look)))
 
-pub outline_item-returns-in_ok-outline_play-in-Play-clause-ok :
-    goal.outline_item-returns-in_ok-outline_play-in-Play-clause-ok
-outline_item-returns-in_ok-outline_play-in-Play-clause-ok t c = λ k look knows.
+pub outline_item-returns-in-Note-clause-refused : goal.outline_item-returns-in-Note-clause-refused
+outline_item-returns-in-Note-clause-refused t c = made_told _ c.outline_note.result c.made.ensures
+
+pub outline_item-returns-in-Play-clause-ok : goal.outline_item-returns-in-Play-clause-ok
+outline_item-returns-in-Play-clause-ok t c =
     let ps = c.deref-in-Play.result.now in
     let seen : (item_view c.args.item.now).what ≡ tree.play (map pitch_view ps)
     = play_what c.args.item.now c.in-Play.pitches ps c.in-Play.is c.deref-in-Play.ensures.value in
-    (leaf_clean k seen knows.whole refl c.requires, rw seen (c.in_ok-outline_play-in-Play.ensures look))
+    made_holds c.outline_play.result c.made-in-Play.ensures c.outline_play.ensures (λ i is k look knows.
+    (leaf_clean k seen knows.whole refl c.requires, rw seen (is look)))
 
-pub outline_item-returns-in_ok-outline_rest-in-Rest-clause-ok :
-    goal.outline_item-returns-in_ok-outline_rest-in-Rest-clause-ok
-outline_item-returns-in_ok-outline_rest-in-Rest-clause-ok t c = λ k look knows.
+pub outline_item-returns-in-Play-clause-refused : goal.outline_item-returns-in-Play-clause-refused
+outline_item-returns-in-Play-clause-refused t c = made_told _ c.outline_play.result c.made-in-Play.ensures
+
+pub outline_item-returns-in-Rest-clause-ok : goal.outline_item-returns-in-Rest-clause-ok
+outline_item-returns-in-Rest-clause-ok t c =
     let seen : (item_view c.args.item.now).what ≡ tree.rest (duration_view c.in-Rest.duration)
     = rest_what c.args.item.now c.in-Rest.duration c.in-Rest.is in
-    (leaf_clean k seen knows.whole refl c.requires, rw seen (c.in_ok-outline_rest-in-Rest.ensures k look knows.whole))
+    made_holds c.outline_rest.result c.made-in-Rest.ensures c.outline_rest.ensures (λ i is k look knows.
+    (leaf_clean k seen knows.whole refl c.requires, rw seen (is k look knows.whole)))
 
-pub outline_item-returns-in_ok-outline_control-in-Control-clause-ok :
-    goal.outline_item-returns-in_ok-outline_control-in-Control-clause-ok
-outline_item-returns-in_ok-outline_control-in-Control-clause-ok t c = λ k look knows.
+pub outline_item-returns-in-Rest-clause-refused : goal.outline_item-returns-in-Rest-clause-refused
+outline_item-returns-in-Rest-clause-refused t c = made_told _ c.outline_rest.result c.made-in-Rest.ensures
+
+pub outline_item-returns-in-Control-clause-ok : goal.outline_item-returns-in-Control-clause-ok
+outline_item-returns-in-Control-clause-ok t c =
     let seen : (item_view c.args.item.now).what ≡ tree.control c.in-Control.controller (amount_view c.in-Control.amount)
     = control_what c.args.item.now c.in-Control.controller c.in-Control.amount c.in-Control.is in
-    (leaf_clean k seen knows.whole refl c.requires, rw seen (c.in_ok-outline_control-in-Control.ensures k look))
+    made_holds c.outline_control.result c.made-in-Control.ensures c.outline_control.ensures (λ i is k look knows.
+    (leaf_clean k seen knows.whole refl c.requires, rw seen (is k look)))
 
-pub outline_item-returns-in_ok-outline_send-in-Program-clause-ok :
-    goal.outline_item-returns-in_ok-outline_send-in-Program-clause-ok
-outline_item-returns-in_ok-outline_send-in-Program-clause-ok t c = λ k look knows.
+pub outline_item-returns-in-Control-clause-refused : goal.outline_item-returns-in-Control-clause-refused
+outline_item-returns-in-Control-clause-refused t c = made_told _ c.outline_control.result c.made-in-Control.ensures
+
+pub outline_item-returns-in-Program-clause-ok : goal.outline_item-returns-in-Program-clause-ok
+outline_item-returns-in-Program-clause-ok t c =
     let seen : (item_view c.args.item.now).what ≡ tree.program (amount_view c.in-Program.amount)
     = program_what c.args.item.now c.in-Program.amount c.in-Program.is in
-    (leaf_clean k seen knows.whole refl c.requires, rw seen (c.in_ok-outline_send-in-Program.ensures look))
+    made_holds c.outline_send.result c.made-in-Program.ensures c.outline_send.ensures (λ i is k look knows.
+    (leaf_clean k seen knows.whole refl c.requires, rw seen (is look)))
 
-pub outline_item-returns-in_ok-outline_send-in-Bend-clause-ok :
-    goal.outline_item-returns-in_ok-outline_send-in-Bend-clause-ok
-outline_item-returns-in_ok-outline_send-in-Bend-clause-ok t c = λ k look knows.
+pub outline_item-returns-in-Program-clause-refused : goal.outline_item-returns-in-Program-clause-refused
+outline_item-returns-in-Program-clause-refused t c = made_told _ c.outline_send.result c.made-in-Program.ensures
+
+pub outline_item-returns-in-Bend-clause-ok : goal.outline_item-returns-in-Bend-clause-ok
+outline_item-returns-in-Bend-clause-ok t c =
     let seen : (item_view c.args.item.now).what ≡ tree.bend (amount_view c.in-Bend.amount)
     = bend_what c.args.item.now c.in-Bend.amount c.in-Bend.is in
-    (leaf_clean k seen knows.whole refl c.requires, rw seen (c.in_ok-outline_send-in-Bend.ensures look))
+    made_holds c.outline_send-in-Bend.result c.made-in-Bend.ensures c.outline_send-in-Bend.ensures (λ i is k look knows.
+    (leaf_clean k seen knows.whole refl c.requires, rw seen (is look)))
 
-pub outline_item-returns-in_ok-outline_set-in-Set-clause-ok :
-    goal.outline_item-returns-in_ok-outline_set-in-Set-clause-ok
-outline_item-returns-in_ok-outline_set-in-Set-clause-ok t c = λ k look knows.
+pub outline_item-returns-in-Bend-clause-refused : goal.outline_item-returns-in-Bend-clause-refused
+outline_item-returns-in-Bend-clause-refused t c = made_told _ c.outline_send-in-Bend.result c.made-in-Bend.ensures
+
+pub outline_item-returns-in-Set-clause-ok : goal.outline_item-returns-in-Set-clause-ok
+outline_item-returns-in-Set-clause-ok t c =
     let seen : (item_view c.args.item.now).what ≡ tree.set c.in-Set.register (expr_view c.deref-in-Set.result.now)
     = set_what c.args.item.now c.in-Set.register c.in-Set.value c.deref-in-Set.result.now c.in-Set.is c.deref-in-Set.ensures in
-    (leaf_clean k seen knows.whole refl c.requires, rw seen (c.in_ok-outline_set-in-Set.ensures k look))
+    made_holds c.outline_set.result c.made-in-Set.ensures c.outline_set.ensures (λ i is k look knows.
+    (leaf_clean k seen knows.whole refl c.requires, rw seen (is k look)))
+
+pub outline_item-returns-in-Set-clause-refused : goal.outline_item-returns-in-Set-clause-refused
+outline_item-returns-in-Set-clause-refused t c = made_told _ c.outline_set.result c.made-in-Set.ensures
 
 -- ---- statements with blocks
 
