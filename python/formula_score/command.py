@@ -17,6 +17,11 @@ def find_program(program: Optional[str] = None) -> Optional[str]:
     return program or os.environ.get("FORMULA") or shutil.which("formula")
 
 
+def _environment() -> dict[str, str]:
+    """The environment without FORMULA: a program that runs `scripts/formula` would be run by it again."""
+    return {name: value for name, value in os.environ.items() if name != "FORMULA"}
+
+
 def _option(name: str, number: int) -> list[str]:
     word = f"--{name.rstrip('_')}"
     if isinstance(number, bool):
@@ -44,7 +49,7 @@ def play(text: Union[str, bytes], path: Union[str, os.PathLike[str]], program: O
         words += ["--", source, os.fspath(path)]
         try:
             run = subprocess.run([command, *words], stdin=subprocess.DEVNULL, stdout=subprocess.PIPE,
-                                 stderr=subprocess.DEVNULL, check=False)
+                                 stderr=subprocess.DEVNULL, check=False, env=_environment())
         except OSError as error:
             raise CommandError(127, "", f"{command} cannot be run: {error.strerror}") from error
         if run.returncode == 0:

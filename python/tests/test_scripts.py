@@ -1,0 +1,73 @@
+"""The script that runs the program, where FORMULA names what would run the script again."""
+
+from __future__ import annotations
+
+import os
+import pathlib
+import shutil
+import signal
+import subprocess
+import tempfile
+import unittest
+import unittest.mock
+
+from formula_score import play
+
+from .program import TOP
+
+#: A run that calls itself without end is stopped after so many seconds.
+LONGEST = 10
+STAND_IN = "#!/bin/sh\necho \"FORMULA is ${FORMULA-not set}\"\n"
+
+
+def written(path: pathlib.Path, text: str) -> str:
+    """A program of this text."""
+    path.parent.mkdir(parents=True, exist_ok=True)
+    path.write_text(text)
+    path.chmod(0o755)
+    return str(path)
+
+
+def said(words: list[str], formula: str) -> str:
+    """What a run says, with FORMULA set; with all that it started it is ended where it does not end."""
+    with subprocess.Popen(words, env={**os.environ, "FORMULA": formula}, stdin=subprocess.DEVNULL,
+                          stdout=subprocess.PIPE, stderr=subprocess.STDOUT, start_new_session=True) as run:
+        try:
+            return run.communicate(timeout=LONGEST)[0].decode()
+        except subprocess.TimeoutExpired:
+            os.killpg(run.pid, signal.SIGKILL)
+            return "it did not end"
+
+
+class Scripts(unittest.TestCase):
+    def setUp(self) -> None:
+        folder = tempfile.TemporaryDirectory()
+        self.addCleanup(folder.cleanup)
+        self.top = pathlib.Path(folder.name)
+        self.built = written(self.top / "crates" / "fm_main" / "out" / "fm_main", STAND_IN)
+        (self.top / "scripts").mkdir()
+        for name in ("formula", "batch"):
+            shutil.copy(TOP / "scripts" / name, self.top / "scripts")
+        self.script = str(self.top / "scripts" / "formula")
+
+    def test_a_script_that_formula_names_is_no_program(self) -> None:
+        link = str(self.top / "link")
+        os.symlink(self.script, link)
+        for name in (self.script, link, str(self.top / "scripts" / "batch")):
+            self.assertEqual(said([self.script, "--program"], name), f"{self.built}\n", name)
+            self.assertEqual(said([self.script, "in", "out"], name), "FORMULA is not set\n", name)
+
+    def test_a_program_that_runs_the_script_ends(self) -> None:
+        wrapper = written(self.top / "wrapper", f"#!/bin/sh\nexec '{self.script}' \"$@\"\n")
+        self.assertEqual(said([self.script, "in", "out"], wrapper), "FORMULA is not set\n")
+
+    def test_the_library_hands_it_to_no_program(self) -> None:
+        kept = self.top / "kept"
+        stand_in = written(self.top / "stand_in", f"#!/bin/sh\necho \"${{FORMULA-not set}}\" >'{kept}'\n")
+        with unittest.mock.patch.dict(os.environ, FORMULA=stand_in):
+            play("formula 1;", str(self.top / "out.mid"))
+        self.assertEqual(kept.read_text(), "not set\n")
+
+
+if __name__ == "__main__":
+    unittest.main()
