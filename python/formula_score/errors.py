@@ -1,4 +1,7 @@
-"""What goes wrong: in a score that is made, and in a run of the command."""
+"""What goes wrong: in a score that is made, and in a run of the command.
+
+Each exception keeps what it was made of, so that it can be copied, pickled and handed from process to process.
+"""
 
 from __future__ import annotations
 
@@ -11,16 +14,21 @@ class BarError(ScoreError):
     """A bar that is longer or shorter than its time signature says."""
 
     def __init__(self, bar: int, why: str):
-        super().__init__(f"bar {bar} {why}")
+        super().__init__(bar, why)
         #: its number, from 1
         self.bar = bar
+        #: what is wrong with it
+        self.why = why
+
+    def __str__(self) -> str:
+        return f"bar {self.bar} {self.why}"
 
 
 class CommandError(RuntimeError):
     """A run of the command that ended above 0."""
 
     def __init__(self, status: int, said: str, why: str):
-        super().__init__(why or said or f"the command ended with status {status}")
+        super().__init__(status, said, why)
         #: the exit status
         self.status = status
         #: the command's own line
@@ -28,12 +36,16 @@ class CommandError(RuntimeError):
         #: the same in more words
         self.why = why
 
+    def __str__(self) -> str:
+        return self.why or self.said or f"the command ended with status {self.status}"
+
 
 class Refused(CommandError):
     """A score text that has a fault."""
 
     def __init__(self, said: str, why: str, line: int, column: int, number: int):
         super().__init__(3, said, why)
+        self.args = (said, why, line, column, number)
         #: where its first fault stands, each from 1; a column is a byte
         self.line, self.column = line, column
         #: the fault's number, a key of `formula_score.faults.FAULTS`
