@@ -2,12 +2,16 @@
 
 from __future__ import annotations
 
+from bisect import bisect_right
+from operator import itemgetter
 from typing import NamedTuple, Optional
 
-from .music import Block, Message, Music, Note, Par, Part, Phrase, Repeat, Rest, Warp, deformed
+from .music import Block, Message, Music, Note, Par, Part, Phrase, Repeat, Rest, Warp
 
 DEFAULT_GATE, DEFAULT_VELOCITY, RELEASE_VELOCITY = 90, 64, 64
 LAST_TICK, MOST_WAITING = 2 ** 40, 16
+
+_by_tick = itemgetter(0)
 
 
 class Event(NamedTuple):
@@ -17,6 +21,36 @@ class Event(NamedTuple):
     process: int
     number: int
     message: bytes
+
+
+class _Shape:
+    """Where positions inside a warp lie outside. It finds a part by its place, and never counts from the first one."""
+
+    def __init__(self, parts: tuple[Part, ...]):
+        # where each stretched part begins, and where that lies outside for a note's end and for an onset
+        self.begins, self.ends_there, self.onsets_there = [0], [0], [0]
+        self.stretched = []
+        for part in parts:
+            if part.kind in ("pause", "breath"):
+                self.onsets_there[-1] += part.ticks
+                self.ends_there[-1] = self.onsets_there[-1] if part.kind == "pause" else self.ends_there[-1]
+                continue
+            self.stretched.append((part.ticks, part.first, part.last))
+            self.begins.append(self.begins[-1] + part.ticks)
+            end = self.onsets_there[-1] + part.ticks * (part.first + part.last) // 2000
+            self.ends_there.append(end)
+            self.onsets_there.append(end)
+
+    def outside(self, position: int, onset: bool) -> int:
+        at = bisect_right(self.begins, position) - 1
+        inside = position - self.begins[at]
+        if inside == 0:
+            return self.onsets_there[at] if onset else self.ends_there[at]
+        if at == len(self.stretched):
+            return self.onsets_there[at] + inside
+        ticks, first, last = self.stretched[at]
+        stretched = (2 * ticks * first * inside + (last - first) * inside * inside) // (2000 * ticks)
+        return self.onsets_there[at] + stretched
 
 
 class _List:
@@ -31,69 +65,93 @@ class _List:
 
 
 class _Process:
-    """Where a process is, in the innermost warp, and what is in force there."""
+    """Where a process is, in the innermost warp, what is in force there, and what it has played."""
 
     def __init__(self, number: int, position: int, channel: int, lists: tuple[tuple[str, _List], ...],
-                 levels: tuple[tuple[int, tuple[Part, ...]], ...]):
+                 levels: tuple[tuple[int, _Shape], ...]):
         self.number, self.position, self.channel = number, position, channel
         self.lists = tuple((kind, _List(each.values)) for kind, each in lists)
-        self.levels = levels  # of each open warp, from the outside, where it begins and its parts
+        self.levels = levels  # of each open warp, from the outside, where it begins and its shape
+        self.played: list[Event] = []
+        self.waiting: list[tuple[int, bytes]] = []  # note-offs, those of earlier notes first
 
     def outside(self, position: int, onset: bool) -> int:
-        for begun, parts in reversed(self.levels):
-            position = begun + deformed(parts, position if onset else min(position, LAST_TICK), onset)
+        for begun, shape in reversed(self.levels):
+            position = begun + shape.outside(position if onset else min(position, LAST_TICK), onset)
         return position
 
     def entry(self, kind: str, otherwise: int) -> int:
-        return next((each.take() for named, each in reversed(self.lists) if named == kind), otherwise)
+        for named, each in reversed(self.lists):
+            if named == kind:
+                return each.take()
+        return otherwise
+
+    def add(self, tick: int, message: bytes) -> None:
+        self.played.append(Event(tick, self.number, len(self.played), message))
+
+    def release(self, tick: int, room: int) -> None:
+        """Plays the note-offs that are due, then those that wait longest, until no more than `room` wait."""
+        if self.waiting:
+            due = [each for each in self.waiting if each[0] <= tick]
+            if due:
+                due.sort(key=_by_tick)
+                for each in due:
+                    self.add(*each)
+                self.waiting = [each for each in self.waiting if each[0] > tick]
+            while len(self.waiting) > room:
+                self.add(tick, self.waiting.pop(0)[1])
 
 
 class _Player:
     def __init__(self) -> None:
-        self.made: list[list[tuple[int, bytes]]] = []  # what each process makes, note-offs behind their note-ons
-        self.ends: dict[int, int] = {}
-        self.born = 0
+        self.processes: list[_Process] = []
+        self.shapes: dict[tuple[Part, ...], _Shape] = {}
+        self.messages: dict[tuple[int, int, int], bytes] = {}  # each once, however often it is played
 
     def start(self, position: int, like: Optional[_Process]) -> _Process:
-        self.born += 1
-        self.made.append([])
-        if like is None:
-            return _Process(0, position, 0, (), ())
-        return _Process(self.born - 1, position, like.channel, like.lists, like.levels)
+        number = len(self.processes)
+        process = (_Process(0, position, 0, (), ()) if like is None
+                   else _Process(number, position, like.channel, like.lists, like.levels))
+        self.processes.append(process)
+        return process
 
-    def add(self, now: _Process, tick: int, status: int, *data: int) -> None:
-        self.made[now.number].append((tick, bytes([status | now.channel, *data])))
+    def message(self, status: int, first: int, second: int) -> bytes:
+        found = self.messages.get((status, first, second))
+        if found is None:
+            found = self.messages[status, first, second] = bytes((status, first, second))
+        return found
 
     def end(self, now: _Process) -> int:
         """Ends the process where it is, and gives its position."""
-        self.ends[now.number] = now.outside(now.position, True)
+        now.release(now.outside(now.position, True), 0)
         return now.position
 
     def play(self, items: tuple[Music, ...], now: _Process) -> _Process:
         """Plays them; what follows goes on in the process that is given back."""
         for item in items:
-            now = self.play_one(item, now)
+            if isinstance(item, Note):
+                self.note(item, now)
+            elif isinstance(item, Rest):
+                now.position += item.ticks
+            elif isinstance(item, Message):
+                self.control(item, now)
+            else:
+                now = self.opened(item, now)
         return now
 
-    def play_one(self, item: Music, now: _Process) -> _Process:
-        if isinstance(item, Note):
-            self.note(item, now)
-        elif isinstance(item, Rest):
-            now.position += item.ticks
-        elif isinstance(item, Message):
-            self.message(item, now)
-        elif isinstance(item, Phrase):
+    def opened(self, item: Music, now: _Process) -> _Process:
+        if isinstance(item, Phrase):
             return self.play(item.body, now)
-        elif isinstance(item, Repeat):
+        if isinstance(item, Repeat):
             for _ in range(item.count):
                 now = self.play(item.body, now)
         elif isinstance(item, Block):
             return self.block(item, now)
         elif isinstance(item, Warp):
-            begun, outer = now.position, now.levels
-            now.position, now.levels = 0, (*outer, (begun, item.parts))
+            begun, outer, shape = now.position, now.levels, self.shape(item.parts)
+            now.position, now.levels = 0, (*outer, (begun, shape))
             now = self.play(item.body, now)
-            now.position, now.levels = begun + deformed(item.parts, now.position, True), outer
+            now.position, now.levels = begun + shape.outside(now.position, True), outer
         elif isinstance(item, Par):
             forked, last = now, self.end(now)
             for branch in item.branches:
@@ -101,24 +159,32 @@ class _Player:
             return self.start(last, forked)
         return now
 
+    def shape(self, parts: tuple[Part, ...]) -> _Shape:
+        if parts not in self.shapes:
+            self.shapes[parts] = _Shape(parts)
+        return self.shapes[parts]
+
     def note(self, item: Note, now: _Process) -> None:
         percent, loud = now.entry("artic", DEFAULT_GATE), now.entry("loud", DEFAULT_VELOCITY)
-        begin = now.outside(now.position, True)
-        end = max(begin, now.outside(now.position + item.ticks * percent // 100, False))
-        for pitch in item.pitches:
-            self.add(now, begin, 0x90, int(pitch), loud)
-        for pitch in item.pitches:
-            self.add(now, end, 0x80, int(pitch), RELEASE_VELOCITY)
+        begin, end = now.position, now.position + item.ticks * percent // 100
         now.position += item.ticks
+        if now.levels:
+            begin, end = now.outside(begin, True), now.outside(end, False)
+        now.release(begin, MOST_WAITING - len(item.pitches))
+        for pitch in item.pitches:
+            now.add(begin, self.message(0x90 | now.channel, pitch, loud))
+        for pitch in item.pitches:
+            now.waiting.append((max(begin, end), self.message(0x80 | now.channel, pitch, RELEASE_VELOCITY)))
 
-    def message(self, item: Message, now: _Process) -> None:
+    def control(self, item: Message, now: _Process) -> None:
         tick = now.outside(now.position, True)
+        now.release(tick, MOST_WAITING)
         if item.kind == "control":
-            self.add(now, tick, 0xB0, item.controller, item.value)
+            now.add(tick, self.message(0xB0 | now.channel, item.controller, item.value))
         elif item.kind == "program":
-            self.add(now, tick, 0xC0, item.value)
+            now.add(tick, bytes((0xC0 | now.channel, item.value)))
         else:
-            self.add(now, tick, 0xE0, (item.value + 8192) & 127, (item.value + 8192) >> 7)
+            now.add(tick, self.message(0xE0 | now.channel, (item.value + 8192) & 127, (item.value + 8192) >> 7))
 
     def block(self, item: Block, now: _Process) -> _Process:
         channel, lists = now.channel, now.lists
@@ -134,31 +200,9 @@ class _Player:
         return after
 
 
-def _come_out(made: list[tuple[int, bytes]], end: int) -> list[tuple[int, bytes]]:
-    """What one process plays to its end. Its note-offs wait for their ticks: before each other message comes what is
-    due, before the note-ons of a note the longest waiting where there is no room, and the rest at the end."""
-    out: list[tuple[int, bytes]] = []
-    waiting: list[tuple[int, bytes]] = []
-    for place, (tick, message) in enumerate([*made, (end, b"")]):
-        kind = message[0] >> 4 if message else 0
-        if kind == 8:
-            waiting.append((tick, message))
-            continue
-        out += sorted((each for each in waiting if each[0] <= tick), key=lambda each: each[0])
-        waiting = [each for each in waiting if each[0] > tick]
-        room = MOST_WAITING if message else 0
-        if kind == 9:
-            room -= next((k for k, (_, m) in enumerate(made[place:]) if m[0] >> 4 != 9), len(made) - place)
-        while len(waiting) > room:
-            out.append((tick, waiting.pop(0)[1]))
-        if message:
-            out.append((tick, message))
-    return out
-
-
 def events_of(items: tuple[Music, ...]) -> list[Event]:
     """All events of the items, in the order of the file."""
     player = _Player()
     player.end(player.play(items, player.start(0, None)))
-    return sorted(Event(tick, process, number, message) for process, made in enumerate(player.made)
-                  for number, (tick, message) in enumerate(_come_out(made, player.ends[process])))
+    # those of a process stand in the order of their ticks, and what falls on one tick goes by the processes
+    return sorted((event for process in player.processes for event in process.played), key=_by_tick)
