@@ -13,19 +13,19 @@ README.md beside this package is the page to read first.
 from .command import find_program, play
 from .errors import BarError, CommandError, Refused, ScoreError
 from .expected import Event
-from .lengths import dotted, euclid, ticks, triplet
+from .lengths import LengthLike, dotted, euclid, ticks, triplet
 from .midi import DRUMS, DYNAMICS, INSTRUMENTS, drum
 from .music import (
-    Meter, Music, accents, articulations, bend, breath, channel, control, crescendo, drums, dynamics, flat, gate,
+    Meter, Music, Part, Seq, accents, articulations, bend, breath, channel, control, crescendo, drums, dynamics, flat, gate,
     hits, instrument, melody, note, par, pause, phrase, repeat, rest, seq, slope, stretch_of, swing, tempo,
     tempo_change, warp,
 )
-from .pitch import CHORDS, MODES, Pitch, Scale, chord
+from .pitch import CHORDS, MODES, Pitch, PitchLike, Scale, chord
 from .score import Score
 
 __all__ = [
-    "BarError", "CHORDS", "CommandError", "DRUMS", "DYNAMICS", "Event", "INSTRUMENTS", "MODES", "Meter", "Music",
-    "Pitch", "Refused", "Scale", "Score", "ScoreError", "accents", "articulations", "bend", "breath", "channel",
+    "BarError", "CHORDS", "CommandError", "DRUMS", "DYNAMICS", "Event", "INSTRUMENTS", "LengthLike", "MODES", "Meter", "Music",
+    "Part", "Pitch", "PitchLike", "Refused", "Scale", "Score", "ScoreError", "Seq", "accents", "articulations", "bend", "breath", "channel",
     "chord", "control", "crescendo", "dotted", "drum", "drums", "dynamics", "euclid", "find_program", "flat", "gate",
     "hits", "instrument", "melody", "note", "par", "pause", "phrase", "play", "repeat", "rest", "seq", "slope",
     "stretch_of", "swing", "tempo", "tempo_change", "ticks", "triplet", "warp",

@@ -2,11 +2,11 @@
 
 from __future__ import annotations
 
-from bisect import bisect_right
 from operator import itemgetter
 from typing import NamedTuple, Optional
 
-from .music import Block, Message, Music, Note, Par, Part, Phrase, Repeat, Rest, Warp
+from .nodes import Block, Message, Music, Note, Par, Phrase, Repeat, Rest, Warp
+from .shapes import Curve
 
 DEFAULT_GATE, DEFAULT_VELOCITY, RELEASE_VELOCITY = 90, 64, 64
 LAST_TICK, MOST_WAITING = 2 ** 40, 16
@@ -21,36 +21,6 @@ class Event(NamedTuple):
     process: int
     number: int
     message: bytes
-
-
-class _Shape:
-    """Where positions inside a warp lie outside. It finds a part by its place, and never counts from the first one."""
-
-    def __init__(self, parts: tuple[Part, ...]):
-        # where each stretched part begins, and where that lies outside for a note's end and for an onset
-        self.begins, self.ends_there, self.onsets_there = [0], [0], [0]
-        self.stretched = []
-        for part in parts:
-            if part.kind in ("pause", "breath"):
-                self.onsets_there[-1] += part.ticks
-                self.ends_there[-1] = self.onsets_there[-1] if part.kind == "pause" else self.ends_there[-1]
-                continue
-            self.stretched.append((part.ticks, part.first, part.last))
-            self.begins.append(self.begins[-1] + part.ticks)
-            end = self.onsets_there[-1] + part.ticks * (part.first + part.last) // 2000
-            self.ends_there.append(end)
-            self.onsets_there.append(end)
-
-    def outside(self, position: int, onset: bool) -> int:
-        at = bisect_right(self.begins, position) - 1
-        inside = position - self.begins[at]
-        if inside == 0:
-            return self.onsets_there[at] if onset else self.ends_there[at]
-        if at == len(self.stretched):
-            return self.onsets_there[at] + inside
-        ticks, first, last = self.stretched[at]
-        stretched = (2 * ticks * first * inside + (last - first) * inside * inside) // (2000 * ticks)
-        return self.onsets_there[at] + stretched
 
 
 class _List:
@@ -68,16 +38,16 @@ class _Process:
     """Where a process is, in the innermost warp, what is in force there, and what it has played."""
 
     def __init__(self, number: int, position: int, channel: int, lists: tuple[tuple[str, _List], ...],
-                 levels: tuple[tuple[int, _Shape], ...]):
+                 levels: tuple[tuple[int, Curve], ...]):
         self.number, self.position, self.channel = number, position, channel
         self.lists = tuple((kind, _List(each.values)) for kind, each in lists)
-        self.levels = levels  # of each open warp, from the outside, where it begins and its shape
+        self.levels = levels  # of each open warp, from the outside, where it begins and its curve
         self.played: list[Event] = []
         self.waiting: list[tuple[int, bytes]] = []  # note-offs, those of earlier notes first
 
     def outside(self, position: int, onset: bool) -> int:
-        for begun, shape in reversed(self.levels):
-            position = begun + shape.outside(position if onset else min(position, LAST_TICK), onset)
+        for begun, curve in reversed(self.levels):
+            position = begun + curve.outside(position if onset else min(position, LAST_TICK), onset)
         return position
 
     def entry(self, kind: str, otherwise: int) -> int:
@@ -105,7 +75,6 @@ class _Process:
 class _Player:
     def __init__(self) -> None:
         self.processes: list[_Process] = []
-        self.shapes: dict[tuple[Part, ...], _Shape] = {}
         self.messages: dict[tuple[int, int, int], bytes] = {}  # each once, however often it is played
 
     def start(self, position: int, like: Optional[_Process]) -> _Process:
@@ -148,21 +117,16 @@ class _Player:
         elif isinstance(item, Block):
             return self.block(item, now)
         elif isinstance(item, Warp):
-            begun, outer, shape = now.position, now.levels, self.shape(item.parts)
-            now.position, now.levels = 0, (*outer, (begun, shape))
+            begun, outer = now.position, now.levels
+            now.position, now.levels = 0, (*outer, (begun, item.curve))
             now = self.play(item.body, now)
-            now.position, now.levels = begun + shape.outside(now.position, True), outer
+            now.position, now.levels = begun + item.curve.outside(now.position, True), outer
         elif isinstance(item, Par):
             forked, last = now, self.end(now)
             for branch in item.branches:
                 last = max(last, self.end(self.play(branch, self.start(forked.position, forked))))
             return self.start(last, forked)
         return now
-
-    def shape(self, parts: tuple[Part, ...]) -> _Shape:
-        if parts not in self.shapes:
-            self.shapes[parts] = _Shape(parts)
-        return self.shapes[parts]
 
     def note(self, item: Note, now: _Process) -> None:
         percent, loud = now.entry("artic", DEFAULT_GATE), now.entry("loud", DEFAULT_VELOCITY)

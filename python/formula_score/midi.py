@@ -4,8 +4,8 @@ from __future__ import annotations
 
 from typing import Union
 
-from .errors import ScoreError
 from .pitch import Pitch
+from .values import known, whole
 
 #: The programs of General MIDI level 1, from program 0.
 INSTRUMENTS = tuple(name.strip() for name in """
@@ -45,27 +45,17 @@ DYNAMICS = {"ppp": 16, "pp": 33, "p": 49, "mp": 64, "mf": 80, "f": 96, "ff": 112
 def instrument_number(name: Union[str, int]) -> int:
     """The program of an instrument by its name, counted from 0: the flute is 73."""
     if isinstance(name, str):
-        if name not in INSTRUMENTS:
-            near = [each for each in INSTRUMENTS if name in each]
-            raise ScoreError(f"there is no instrument {name!r}" + (f"; is it {' or '.join(near)}?" if near else ""))
-        return INSTRUMENTS.index(name)
-    return name
+        return INSTRUMENTS.index(known("instrument", name, INSTRUMENTS))
+    return whole("a program", name, 0, 127)
 
 
 def drum(name: str) -> Pitch:
     """The key of a drum by its name."""
-    if name not in DRUMS:
-        near = [each for each in DRUMS if name in each]
-        raise ScoreError(f"there is no drum {name!r}" + (f"; is it {' or '.join(near)}?" if near else ""))
-    return DRUMS[name]
+    return DRUMS[known("drum", name, DRUMS)]
 
 
 def velocity(loudness: Union[str, int]) -> int:
     """The velocity of a dynamic, `pp` to `ff`, or the number itself, 1 to 127."""
     if isinstance(loudness, str):
-        if loudness not in DYNAMICS:
-            raise ScoreError(f"there is no dynamic {loudness!r}; there are {', '.join(DYNAMICS)}")
-        return DYNAMICS[loudness]
-    if not 1 <= loudness <= 127:
-        raise ScoreError(f"there is no velocity {loudness}: velocities go from 1 to 127")
-    return loudness
+        return DYNAMICS[known("dynamic", loudness, DYNAMICS)]
+    return whole("a velocity", loudness, 1, 127)

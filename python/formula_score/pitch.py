@@ -3,9 +3,10 @@
 from __future__ import annotations
 
 import re
-from typing import Union
+from typing import Iterator, Union
 
 from .errors import ScoreError
+from .values import known, shown, text, whole
 
 _DEGREES = {"c": 0, "d": 2, "e": 4, "f": 5, "g": 7, "a": 9, "b": 11}
 _NAMES = ("c", "cs", "d", "ds", "e", "f", "fs", "g", "gs", "a", "as", "b")
@@ -36,18 +37,15 @@ class Pitch(int):
     """
 
     def __new__(cls, of: PitchLike) -> "Pitch":
-        key = _key_of(of) if isinstance(of, str) else int(of)
-        if not 0 <= key <= 127:
-            raise ScoreError(f"there is no key {key}: keys go from 0 to 127")
-        return super().__new__(cls, key)
+        return super().__new__(cls, whole("a key", _key_of(of) if isinstance(of, str) else of, 0, 127))
 
     def __add__(self, semitones: int) -> "Pitch":
-        return Pitch(int(self) + semitones)
+        return Pitch(int(self) + _semitones(semitones))
 
     __radd__ = __add__
 
     def __sub__(self, semitones: int) -> "Pitch":
-        return Pitch(int(self) - semitones)
+        return Pitch(int(self) - _semitones(semitones))
 
     def above(self, other: PitchLike) -> int:
         """How many semitones it lies above another pitch; below, it is negative."""
@@ -58,36 +56,52 @@ class Pitch(int):
         return f"{_NAMES[degree]}{octave - 1}" if octave else f"key {int(self)}"
 
     def __repr__(self) -> str:
-        return f"Pitch({str(self)!r})"
+        return f"Pitch({str(self)!r})" if self >= 12 else f"Pitch({int(self)})"
+
+
+def _semitones(number: int) -> int:
+    return whole("a number of semitones", number, -127, 127)
 
 
 def _key_of(name: str) -> int:
     found = re.fullmatch(r"([a-g])([sb]?)([0-9])", name)
     if not found:
-        raise ScoreError(f"{name!r} is no pitch: pitches are written as c4, fs4 (F sharp) or bb3 (B flat)")
+        raise ScoreError(f"{shown(name)} is no pitch: pitches are written as c4, fs4 (F sharp) or bb3 (B flat)")
     letter, sign, octave = found.groups()
     return 12 * (int(octave) + 1) + _DEGREES[letter] + {"": 0, "s": 1, "b": -1}[sign]
 
 
 class Scale:
-    """A scale from a pitch up. `Scale("d4", "dorian")[0]` is D4; any whole number counts on, below too."""
+    """A scale from a pitch up: `Scale("d4", "dorian")[0]` is D4, and any whole number counts on, below too.
+
+    `tonic` is the pitch of degree 0, `mode` its name in `MODES`; `list(scale)` has the pitches of one octave.
+    """
 
     def __init__(self, tonic: PitchLike, mode: str = "major"):
-        if mode not in MODES:
-            raise ScoreError(f"there is no mode {mode!r}; there are {', '.join(MODES)}")
-        self.tonic, self.mode = Pitch(tonic), mode
+        #: the pitch of degree 0
+        self.tonic = Pitch(tonic)
+        #: a key of `MODES`
+        self.mode = known("mode", mode, MODES)
 
     def __getitem__(self, degree: int) -> Pitch:
         steps = MODES[self.mode]
-        octave, step = divmod(degree, len(steps))
+        octave, step = divmod(_degree(degree), len(steps))
         return self.tonic + (12 * octave + steps[step])
 
-    def __contains__(self, pitch: PitchLike) -> bool:
-        return (int(Pitch(pitch)) - int(self.tonic)) % 12 in MODES[self.mode]
+    def __len__(self) -> int:
+        """How many degrees an octave has."""
+        return len(MODES[self.mode])
+
+    def __iter__(self) -> Iterator[Pitch]:
+        """The pitches of one octave, from the tonic up."""
+        return map(self.__getitem__, range(len(self)))
+
+    def __contains__(self, pitch: object) -> bool:
+        return (int(Pitch(pitch)) - int(self.tonic)) % 12 in MODES[self.mode]  # type: ignore[arg-type]
 
     def triad(self, degree: int) -> tuple[Pitch, ...]:
         """The chord of three notes on a degree of the scale."""
-        return self[degree], self[degree + 2], self[degree + 4]
+        return self[degree], self[_degree(degree) + 2], self[_degree(degree) + 4]
 
     def __repr__(self) -> str:
         return f"Scale({str(self.tonic)!r}, {self.mode!r})"
@@ -95,12 +109,16 @@ class Scale:
 
 def chord(name: str, octave: int = 4, inversion: int = 0) -> tuple[Pitch, ...]:
     """The pitches of a chord by its name, as `chord("Am7", 3)`: a letter `A` to `G`, `#`, `b` or nothing, a kind."""
-    found = re.fullmatch(r"([A-G])([#b]?)(.*)", name)
+    found = re.fullmatch(r"([A-G])([#b]?)(.*)", text("the name of a chord", name))
     if not found or found.group(3) not in CHORDS:
-        raise ScoreError(f"there is no chord {name!r}; kinds are {', '.join(filter(None, CHORDS))}, or none for major")
+        raise ScoreError(f"there is no chord {shown(name)}; kinds are {', '.join(filter(None, CHORDS))}, or none for "
+                         "major")
     letter, sign, kind = found.groups()
-    root = Pitch(f"{letter.lower()}{octave}") + {"": 0, "#": 1, "b": -1}[sign]
+    root = Pitch(f"{letter.lower()}{whole('an octave', octave, 0, 9)}") + {"": 0, "#": 1, "b": -1}[sign]
     pitches = [root + step for step in CHORDS[kind]]
-    if not 0 <= inversion < len(pitches):
-        raise ScoreError(f"the chord {name} has the inversions 0 to {len(pitches) - 1}")
-    return tuple(pitches[inversion:] + [pitch + 12 for pitch in pitches[:inversion]])
+    turned = whole(f"an inversion of {name}", inversion, 0, len(pitches) - 1)
+    return tuple(pitches[turned:] + [pitch + 12 for pitch in pitches[:turned]])
+
+
+def _degree(degree: int) -> int:
+    return whole("a degree", degree, -128, 128)

@@ -3,21 +3,27 @@
 from __future__ import annotations
 
 import os
-from typing import Iterator, NamedTuple, Optional, Union
+from fractions import Fraction
+from functools import lru_cache
+from typing import NamedTuple, Optional, Union
 
 from . import command
 from .errors import ScoreError
 from .expected import Event, events_of
-from .lengths import written
-from .music import Block, Message, Music, Note, Par, Part, Phrase, Repeat, Rest, Warp, body_of
+from .lengths import DIVISION, MAX_DIVISION, MIN_DIVISION, written
+from .nodes import (
+    Block, Held, Message, Music, Note, Par, Phrase, Repeat, Rest, Warp, body_of, first_fine,
+)
+from .shapes import Part
+from .values import shown, whole
 
 MAX_BYTES = 1_048_576
 MAX_END = 2**40
 MAX_EVENTS = 4_000_000
-MAX_PROCESSES = 4_096
+#: by the version
+MAX_PROCESSES = {1: 4_096, 2: 16_384}
 MAX_OPERATIONS = 262_144
 MAX_STEPS = 16_777_216
-MAX_WARPS, MAX_LOOPS_AND_LISTS, MAX_BLOCKS, MAX_BRACES = 8, 16, 64, 64
 _WIDTH = 100
 
 
@@ -26,25 +32,47 @@ class Score:
 
     It is judged as it is made, by all that the command judges a text by: a score that is made is played, unless
     a file or memory fails.
+
+    `text` is the text, and `end` the ticks up to the End of Track, of which a quarter note has as many as `division`
+    says: 480, and in a score of version 2 what is chosen, 24 to 960. `body` is the music with lengths in these ticks,
+    `seed` what the draws of a score depend on, and `version` 1 or 2: 2 writes running status and may have 16,384
+    processes in place of 4,096.
     """
 
-    def __init__(self, *items: Music, seed: int = 0):
-        if not 0 <= seed <= 999_999_999:
-            raise ScoreError(f"a seed goes from 0 to 999,999,999, and {seed} does not")
-        self.seed = seed
-        self.body = body_of(items)
+    def __init__(self, *items: Music, seed: int = 0, version: int = 1, division: int = DIVISION):
+        #: 0 to 999,999,999
+        self.seed = whole("a seed", seed, 0, 999_999_999)
+        #: 1 or 2
+        self.version = whole("a version", version, 1, 2)
+        #: the ticks of a quarter note
+        self.division = whole("a division", division, MIN_DIVISION, MAX_DIVISION)
+        if self.version == 1 and self.division != DIVISION:
+            raise ScoreError(f"a score of version 1 has {DIVISION} ticks a quarter note: write version=2 too")
+        #: the music, with lengths in ticks of the division
+        self.body = _resolved(body_of(items), self.division)
         #: where the End of Track stands, in ticks
         self.end = sum(item.ticks for item in self.body)
-        _judge_depths(self.body, 0, 0, 0, 0)
-        _judge_totals(_totals(self.body), self.end)
+        totals = _Counts().all(self.body)
+        #: how many events it plays
+        self.event_count = totals.events
+        #: how many processes it has
+        self.process_count = 1 + totals.processes
+        #: how many steps its playing takes, as docs/LANGUAGE.md counts them
+        self.step_count = totals.steps + self.process_count
+        _judge(totals, self.end, self.version)
         #: the text of the score
-        self.text = _text(self.body, seed)
+        self.text = text_of(self.body, self.seed, self.version, self.division)
         if len(self.text) > MAX_BYTES:
             raise ScoreError(f"a score has at most 1,048,576 bytes, and this one {len(self.text):,}: "
                              "name what comes again as a phrase")
 
     def __str__(self) -> str:
         return self.text
+
+    def __repr__(self) -> str:
+        lines = self.text.count("\n")
+        return (f"<Score of {self.end:,} ticks, {self.event_count:,} events, {self.process_count:,} processes, "
+                f"{lines:,} lines of text>")
 
     def events(self) -> list[Event]:
         """All events with their ticks, in the order of the file. It takes memory for all of them."""
@@ -60,82 +88,96 @@ class Score:
         command.play(self.text, path, program, **options)
 
 
-def _children(item: Music) -> Iterator[tuple[Music, ...]]:
-    if isinstance(item, Par):
-        yield from item.branches
-    else:
-        yield getattr(item, "body", ())
-
-
-def _judge_depths(items: tuple[Music, ...], warps: int, opened: int, blocks: int, braces: int) -> None:
-    for what, number, most in (("warps", warps, MAX_WARPS), ("loops and lists", opened, MAX_LOOPS_AND_LISTS),
-                               ("blocks", blocks, MAX_BLOCKS), ("braces", braces, MAX_BRACES)):
-        if number > most:
-            raise ScoreError(f"at most {most} {what} stand in one another")
-    for item in items:
-        if isinstance(item, (Note, Rest, Message)):
-            continue
-        is_counted = isinstance(item, Repeat) or isinstance(item, Block) and item.word in ("loud", "artic")
-        inside = sum(each.ticks for each in getattr(item, "body", ()))
-        if isinstance(item, Warp) and inside > MAX_END:
-            raise ScoreError(f"a warp holds at most 2^40 ticks, and this one {inside:,}")
-        # a phrase is written elsewhere, where its own braces begin anew
-        deep = 2 if isinstance(item, Par) else 1
-        below = 1 if isinstance(item, Phrase) else braces + deep
-        for body in _children(item):
-            _judge_depths(body, warps + isinstance(item, Warp), opened + is_counted, blocks + deep, below)
-
-
-def _judge_totals(inner: "_Totals", end: int) -> None:
-    processes = 1 + inner.processes
-    for what, number, most in (("processes", processes, MAX_PROCESSES),
-                               ("operations", inner.operations + processes, MAX_OPERATIONS),
-                               ("ticks", end, MAX_END), ("events", inner.events, MAX_EVENTS),
-                               ("steps", inner.steps + processes, MAX_STEPS)):
-        if number > most:
-            raise ScoreError(f"a score has at most {most:,} {what}, and this one {number:,}")
+def _resolved(items: tuple[Music, ...], division: int) -> tuple[Music, ...]:
+    """The items with lengths in ticks of which a quarter note has as many as the division says."""
+    if division != DIVISION:
+        known: dict[int, Phrase] = {}
+        items = tuple(item.scaled(Fraction(division, DIVISION), known) for item in items)
+    fine = first_fine(items)
+    if fine is not None:
+        place = getattr(fine, "place", "")
+        raise ScoreError(f"{place + ': ' if place else ''}the length {Fraction(fine) / (4 * division)} is "
+                         f"{Fraction(fine)} ticks, and no whole number of them, where a quarter note has {division}")
+    return items
 
 
 class _Totals(NamedTuple):
-    """What the command counts before it plays: docs/LANGUAGE.md, Ranges."""
+    """What the command counts before it plays: docs/LANGUAGE.md, Ranges; and how many warps hold too much."""
 
     processes: int = 0
     operations: int = 0
     events: int = 0
     steps: int = 0
+    overfull: int = 0
 
     def plus(self, *others: "_Totals") -> "_Totals":
         return _Totals(*map(sum, zip(self, *others)))
 
 
-def _totals(items: tuple[Music, ...]) -> _Totals:
-    return _Totals().plus(*map(_totals_of, items))
+class _Counts:
+    """Counts; what stands in several places is counted once, and added as often as it stands there."""
+
+    def __init__(self) -> None:
+        self._known: dict[int, _Totals] = {}
+
+    def all(self, items: tuple[Music, ...]) -> _Totals:
+        return _Totals(*map(sum, zip(_Totals(), *map(self.one, items))))
+
+    def one(self, item: Music) -> _Totals:
+        if isinstance(item, Note):
+            return _of_notes(len(item.pitches))
+        if isinstance(item, Rest):
+            return _REST
+        if isinstance(item, Message):
+            return _MESSAGE
+        if id(item) not in self._known:
+            self._known[id(item)] = self._opened(item)
+        return self._known[id(item)]
+
+    def _opened(self, item: Music) -> _Totals:
+        if isinstance(item, Par):
+            return _Totals(1 + len(item.branches)).plus(*map(self.all, item.branches))
+        assert isinstance(item, Held)
+        inner = self.all(item.body)
+        if isinstance(item, Repeat) and inner.processes:  # written out, a round after the other
+            whole_of_it = _Totals(*(item.count * each for each in inner))
+            return whole_of_it.plus(_Totals(operations=1 + item.count))
+        if isinstance(item, Repeat):
+            return _Totals(0, 2 + inner.operations, item.count * inner.events, 2 + item.count * (inner.steps + 1),
+                           item.count * inner.overfull)
+        if isinstance(item, Warp):
+            return inner.plus(_Totals(operations=2, steps=2, overfull=int(item.inside > MAX_END)))
+        if isinstance(item, Block) and item.word in ("loud", "artic"):
+            return inner.plus(_Totals(operations=2, steps=2))
+        return inner.plus(_Totals(operations=1))
 
 
-def _totals_of(item: Music) -> _Totals:
-    if isinstance(item, Note):
-        return _Totals(0, 1, 2 * len(item.pitches), 1 + 2 * len(item.pitches))
-    if isinstance(item, Rest):
-        return _Totals(0, 1, 0, 1)
-    if isinstance(item, Message):
-        return _Totals(0, 1, 1, 1)
-    if isinstance(item, Par):
-        return _Totals(1 + len(item.branches)).plus(*map(_totals, item.branches))
-    inner, lists = _totals(getattr(item, "body")), ("loud", "artic")
-    if isinstance(item, Repeat) and inner.processes:  # written out, a round after the other
-        whole = _Totals(*(item.count * each for each in inner))
-        return whole.plus(_Totals(operations=1 + item.count))
-    if isinstance(item, Repeat):
-        return _Totals(0, 2 + inner.operations, item.count * inner.events, 2 + item.count * (inner.steps + 1))
-    if isinstance(item, Warp) or isinstance(item, Block) and item.word in lists:
-        return inner.plus(_Totals(operations=2, steps=2))
-    return inner.plus(_Totals(operations=1))
+_REST, _MESSAGE = _Totals(operations=1, steps=1), _Totals(operations=1, events=1, steps=1)
+
+
+@lru_cache(maxsize=None)
+def _of_notes(pitches: int) -> _Totals:
+    return _Totals(operations=1, events=2 * pitches, steps=1 + 2 * pitches)
+
+
+def _judge(inner: _Totals, end: int, version: int) -> None:
+    """Refuses what the command would, by its totals."""
+    processes = 1 + inner.processes
+    for what, number, most in (("processes", processes, MAX_PROCESSES[version]),
+                               ("operations", inner.operations + processes, MAX_OPERATIONS),
+                               ("ticks", end, MAX_END), ("events", inner.events, MAX_EVENTS),
+                               ("steps", inner.steps + processes, MAX_STEPS)):
+        if number > most:
+            raise ScoreError(f"a score has at most {most:,} {what}, and this one {shown(number)}")
+    if inner.overfull:
+        raise ScoreError("a warp holds at most 2^40 ticks, and one of these more")
 
 
 class _Definitions:
     """The shapes and phrases of a text, each written once, and above those that name it."""
 
-    def __init__(self) -> None:
+    def __init__(self, whole_note: int) -> None:
+        self.whole_note = whole_note
         self.shapes: dict[tuple[Part, ...], str] = {}
         self.phrases: dict[str, Phrase] = {}
         self.lines: list[str] = []
@@ -146,7 +188,7 @@ class _Definitions:
             while name in self.phrases:
                 name += "_"
             self.shapes[parts] = name
-            self.lines.append(f"shape {name} = {', '.join(map(str, parts))};")
+            self.lines.append(f"shape {name} = {', '.join(part.text(self.whole_note) for part in parts)};")
         return self.shapes[parts]
 
     def phrase(self, item: Phrase) -> str:
@@ -178,9 +220,9 @@ class _Definitions:
 
     def plain(self, item: Music) -> Optional[str]:
         if isinstance(item, Note):
-            return f"note {', '.join(map(str, item.pitches))} {written(item.ticks)};"
+            return f"note {', '.join(map(str, item.pitches))} {written(item.ticks, self.whole_note)};"
         if isinstance(item, Rest):
-            return f"rest {written(item.ticks)};"
+            return f"rest {written(item.ticks, self.whole_note)};"
         if isinstance(item, Message):
             return f"{item.kind}{f' {item.controller}' if item.kind == 'control' else ''} {item.value};"
         if isinstance(item, Phrase):
@@ -207,8 +249,13 @@ class _Definitions:
         return [f"{indent}{head} {{", *self.block(getattr(item, "body"), depth + 1), indent + "}"]
 
 
-def _text(body: tuple[Music, ...], seed: int) -> str:
-    definitions = _Definitions()
+def text_of(body: tuple[Music, ...], seed: int = 0, version: int = 1, division: int = DIVISION) -> str:
+    """The text of a score."""
+    definitions = _Definitions(4 * division)
     lines = definitions.block(body, 0)
-    head = ["formula 1;"] + ([f"seed {seed};"] if seed else [])
+    head = [f"formula {version};"]
+    if division != DIVISION:
+        head.append(f"division {division};")
+    if seed:
+        head.append(f"seed {seed};")
     return "\n".join(head + definitions.lines + lines) + "\n"

@@ -10,14 +10,24 @@ import tempfile
 import unittest
 from typing import Optional
 
+from formula_score import Score
+
 TOP = pathlib.Path(__file__).resolve().parents[2]
 sys.path.insert(0, str(TOP / "tools" / "score_model"))
+
+import score_model  # type: ignore[import-not-found]  # noqa: E402
 
 _BUILT = TOP / "crates" / "fm_main" / "out" / "fm_main"
 PROGRAM: Optional[str] = os.environ.get("FORMULA") or (str(_BUILT) if _BUILT.exists() else None)
 
 needs_program = unittest.skipIf(
     PROGRAM is None, f"NOT TRIED: no program: FORMULA names none, and {_BUILT} is not there")
+
+
+def foretold(score: Score) -> bytes:
+    """The file of a score, of the library's events as tools/score_model writes them."""
+    made: bytes = score_model.file_of(score.events(), score.end, score.version == 2, score.division)
+    return made
 
 
 def run(text: str) -> tuple[int, str, bytes]:

@@ -46,9 +46,10 @@ class Time(unittest.TestCase):
     def test_lengths(self):
         self.assertEqual([note("c4", of).ticks for of in ("3/8", Fraction(1, 12), 1, ticks(7), dotted("1/4"),
                                                            triplet("1/8"))], [720, 160, 1920, 7, 720, 160])
-        for wrong in (0.25, "1/7", "1", "x", "1/0", -1, 521):
-            if wrong != "1":
-                self.assertRaises(ScoreError, rest, wrong)
+        for wrong in (0.25, "1/961", "x", "1/0", -1, 521):
+            self.assertRaises(ScoreError, rest, wrong)
+        with self.assertRaisesRegex(ScoreError, rf"^{__file__}:[0-9]+: the length 1/7 is 1920/7 ticks, and no whole "):
+            Score(rest("1/7"))
 
     def test_bars_are_counted(self):
         bars = Meter("3/4").bars
@@ -67,6 +68,9 @@ class Time(unittest.TestCase):
                 (3840, False, 4930), (4000, True, 5090))
         for position, onset, outside in rows:
             self.assertEqual(deformed(parts, position, onset), outside, (position, onset))
+        # a breath and a pause at one place: a note that ends there waits for the pause alone
+        both = [flat("1/4", 1000), breath(ticks(5)), pause(ticks(3))]
+        self.assertEqual([deformed(both, 480, onset) for onset in (False, True)], [483, 488])
 
     def test_tempo(self):
         self.assertEqual(tempo(90, repeat(8, note("c4", "1/4"))).parts[0].first, 1333)

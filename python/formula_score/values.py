@@ -1,0 +1,116 @@
+"""What a caller hands in, read in one place: whole and real numbers, truths, lists and names.
+
+Whole numbers are what `operator.index` takes, so numpy's and others' too; a truth and a float are none. Whatever
+else is handed in is a `ScoreError` that shows it.
+"""
+
+from __future__ import annotations
+
+import difflib
+import itertools
+import math
+import numbers
+import operator
+from decimal import Decimal
+from typing import Iterable, Iterator, Optional
+
+from .errors import ScoreError
+
+#: The most statements that a score can hold, so the most that any list can be of use for.
+MOST_ITEMS = 262_144
+_SHOWN = 60
+
+
+def shown(value: object) -> str:
+    """The value for a message; the end of a long one is left out."""
+    try:
+        text = repr(value)
+    except Exception:  # a class may do what it likes, and an int may have too many digits
+        text = f"a value of the type {type(value).__name__}"
+    return text if len(text) <= _SHOWN else text[:_SHOWN] + "…"
+
+
+def whole(what: str, value: object, low: int, high: int) -> int:
+    """The whole number, of so many to so many."""
+    number = index(value)
+    if number is None:
+        raise ScoreError(f"{what} is a whole number from {low:,} to {high:,}, and {shown(value)} is none")
+    if not low <= number <= high:
+        raise ScoreError(f"{what} goes from {low:,} to {high:,}, and {shown(number)} does not")
+    return number
+
+
+def index(value: object) -> Optional[int]:
+    """The value as an int, where it is a whole number; else None."""
+    if is_truth(value):
+        return None
+    try:
+        return int(operator.index(value))  # type: ignore[arg-type]
+    except Exception:  # no `__index__`, or one that fails
+        return None
+
+
+def is_truth(value: object) -> bool:
+    """Whether the value is True or False, numpy's too."""
+    return isinstance(value, bool) or type(value).__name__ in ("bool", "bool_")
+
+
+def real(what: str, value: object) -> float:
+    """The number, a float or of any other kind; no infinite one, and no truth."""
+    try:
+        if is_truth(value) or not isinstance(value, (numbers.Real, Decimal)) and index(value) is None:
+            raise TypeError
+        number = float(value)  # type: ignore[arg-type]
+    except Exception:  # no number, or one that is too great for a float
+        raise ScoreError(f"{what} is a number, and {shown(value)} is none") from None
+    if not math.isfinite(number):
+        raise ScoreError(f"{what} is a number, and {shown(value)} is none")
+    return number
+
+
+def truth(what: str, value: object) -> bool:
+    """True or False, numpy's too, or 1 or 0."""
+    if is_truth(value):
+        return bool(value)
+    number = index(value)
+    if number not in (0, 1):
+        raise ScoreError(f"{what} is True or False, and {shown(value)} is neither")
+    return bool(number)
+
+
+def text(what: str, value: object) -> str:
+    """The text."""
+    if not isinstance(value, str):
+        raise ScoreError(f"{what} is a text, and {shown(value)} is none")
+    return value
+
+
+def listed(what: str, values: object, low: int, high: int = MOST_ITEMS) -> list[object]:
+    """The values of a list or of whatever else goes through its values, so many to so many of them."""
+    try:
+        if isinstance(values, (str, bytes)):
+            raise TypeError
+        found: Iterator[object] = iter(values)  # type: ignore[call-overload]
+    except Exception:  # it has no values, or does not give them
+        raise ScoreError(f"{what} is a list, and {shown(values)} is none: put it into brackets") from None
+    taken = list(itertools.islice(found, high + 1))
+    if not low <= len(taken) <= high:
+        count = f"more than {high:,}" if len(taken) > high else f"{len(taken):,}"
+        raise ScoreError(f"{what} has {low:,} to {high:,} entries, and this one {count}")
+    return taken
+
+
+def near(name: str, names: Iterable[str]) -> str:
+    """What may have been meant, as the end of a message: those that hold the name, else those of near spelling."""
+    every = list(names)
+    found = [each for each in every if name and name in each] or difflib.get_close_matches(name, every, 3, 0.5)
+    return f"; is it {' or '.join(found[:6])}?" if found else ""
+
+
+def known(what: str, name: object, names: Iterable[str]) -> str:
+    """The name, which has to be one of these."""
+    every = list(names)
+    if not isinstance(name, str) or name not in every:
+        told = near(name.lower(), every) if isinstance(name, str) and len(name) < _SHOWN else ""
+        raise ScoreError(f"there is no {what} {shown(name)}{told or '; there are ' + ', '.join(every)}")
+    return name
