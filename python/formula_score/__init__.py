@@ -10,8 +10,8 @@
 README.md beside this package is the page to read first.
 """
 
-from .command import find_program, play
-from .errors import BarError, CommandError, Refused, ScoreError
+from .command import FileEvent, Large, Listing, Located, audit, find_program, large, listing, locate, play, render
+from .errors import BarError, CommandError, FileRefused, RecordRefused, Refused, ScoreError
 from .expected import Event
 from .lengths import LengthLike, dotted, euclid, ticks, triplet
 from .midi import DRUMS, DYNAMICS, INSTRUMENTS, drum
@@ -21,12 +21,14 @@ from .music import (
     tempo_change, warp,
 )
 from .pitch import CHORDS, MODES, Pitch, PitchLike, Scale, chord
-from .score import Score
+from .score import Score, render_all
 
 __all__ = [
-    "BarError", "CHORDS", "CommandError", "DRUMS", "DYNAMICS", "Event", "INSTRUMENTS", "LengthLike", "MODES", "Meter", "Music",
-    "Part", "Pitch", "PitchLike", "Refused", "Scale", "Score", "ScoreError", "Seq", "accents", "articulations", "bend", "breath", "channel",
-    "chord", "control", "crescendo", "dotted", "drum", "drums", "dynamics", "euclid", "find_program", "flat", "gate",
-    "hits", "instrument", "melody", "note", "par", "pause", "phrase", "play", "repeat", "rest", "seq", "slope",
-    "stretch_of", "swing", "tempo", "tempo_change", "ticks", "triplet", "warp",
+    "BarError", "CHORDS", "CommandError", "DRUMS", "DYNAMICS", "Event", "FileEvent", "FileRefused", "INSTRUMENTS",
+    "Large", "LengthLike", "Listing", "Located", "MODES", "Meter", "Music", "Part", "Pitch", "PitchLike",
+    "RecordRefused", "Refused", "Scale", "Score", "ScoreError", "Seq", "accents", "articulations", "audit", "bend",
+    "breath", "channel", "chord", "control", "crescendo", "dotted", "drum", "drums", "dynamics", "euclid",
+    "find_program", "flat", "gate", "hits", "instrument", "large", "listing", "locate", "melody", "note", "par",
+    "pause", "phrase", "play", "render", "render_all", "repeat", "rest", "seq", "slope", "stretch_of", "swing",
+    "tempo", "tempo_change", "ticks", "triplet", "warp",
 ]

@@ -50,3 +50,27 @@ class Refused(CommandError):
         self.line, self.column = line, column
         #: the fault's number, a key of `formula_score.faults.FAULTS`
         self.number = number
+
+
+class FileRefused(CommandError):
+    """What is no MIDI file that is read."""
+
+    def __init__(self, said: str, why: str, byte: int, number: int):
+        super().__init__(3, said, why)
+        self.args = (said, why, byte, number)
+        #: where its first fault stands, in bytes from 0
+        self.byte = byte
+        #: the fault's number, a key of `formula_score.faults.FILE_FAULTS`
+        self.number = number
+
+
+class RecordRefused(CommandError):
+    """What is no record of a run to its end."""
+
+    def __init__(self, said: str, why: str, place: int, number: int):
+        super().__init__(3, said, why)
+        self.args = (said, why, place, number)
+        #: where it is refused, in bytes or in steps as the fault says
+        self.place = place
+        #: the fault's number, a key of `formula_score.faults.RECORD_FAULTS`
+        self.number = number

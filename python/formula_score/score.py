@@ -3,9 +3,10 @@
 from __future__ import annotations
 
 import os
+from concurrent.futures import ThreadPoolExecutor
 from fractions import Fraction
 from functools import lru_cache
-from typing import NamedTuple, Optional, Union
+from typing import Iterable, NamedTuple, Optional, Union
 
 from . import command
 from .errors import ScoreError
@@ -78,14 +79,57 @@ class Score:
         """All events with their ticks, in the order of the file. It takes memory for all of them."""
         return events_of(self.body)
 
-    def save(self, path: Union[str, os.PathLike[str]]) -> None:
+    def save(self, path: command.Path) -> None:
         """Writes the text into a file."""
         with open(path, "w", encoding="ascii", newline="\n") as file:
             file.write(self.text)
 
-    def play(self, path: Union[str, os.PathLike[str]], program: Optional[str] = None, **options: int) -> None:
-        """Lets the command write the MIDI file; `command.play` says more."""
-        command.play(self.text, path, program, **options)
+    def play(self, path: command.Path, program: Optional[str] = None, *, workers: Optional[int] = None,
+             lead: Optional[int] = None, room: Optional[int] = None, rounds: bool = False, parts: bool = False,
+             from_: Optional[int] = None, to: Optional[int] = None, record: bool = False) -> None:
+        """Lets the command write the MIDI file.
+
+        `workers`, `lead`, `room` and `rounds` change how it is computed; `parts` gives a track to each channel,
+        `from_` and `to` cut an excerpt out between two ticks, and `record` writes the record of the run.
+        """
+        command.play(self.text, path, program, workers=workers, lead=lead, room=room, rounds=rounds, parts=parts,
+                     from_=from_, to=to, record=record)
+
+    def render(self, program: Optional[str] = None, *, workers: Optional[int] = None, lead: Optional[int] = None,
+               room: Optional[int] = None, rounds: bool = False, parts: bool = False, from_: Optional[int] = None,
+               to: Optional[int] = None, record: bool = False) -> bytes:
+        """The bytes of the file that `play` writes, with the same options."""
+        return command.render(self.text, program, workers=workers, lead=lead, room=room, rounds=rounds, parts=parts,
+                              from_=from_, to=to, record=record)
+
+    def locate(self, tick: int, process: int = 0, program: Optional[str] = None) -> command.Located:
+        """Where a tick of the file lies in the deformations that are open where a process starts."""
+        return command.locate(self.text, tick, process, program)
+
+
+def render_all(scores: Iterable[Union[Score, str, bytes]], jobs: Optional[int] = None,
+               program: Optional[str] = None) -> list[Union[bytes, Exception]]:
+    """The files of many scores or texts, in their order; in place of one that is not played stands its exception.
+
+    So many run at a time as `jobs` says, else as many as there are processors, each on one thread.
+    """
+    count = whole("a number of jobs", processors() if jobs is None else jobs, 1, 10_000)
+    found = command.find_program(program)
+
+    def rendered(score: Union[Score, str, bytes]) -> Union[bytes, Exception]:
+        try:
+            text = score.text if isinstance(score, Score) else score
+            return command.render(text, found, workers=0)
+        except Exception as error:  # it is a value here
+            return error
+
+    with ThreadPoolExecutor(count) as pool:
+        return list(pool.map(rendered, scores))
+
+
+def processors() -> int:
+    """How many processors this process may use."""
+    return len(os.sched_getaffinity(0)) if hasattr(os, "sched_getaffinity") else os.cpu_count() or 1
 
 
 def _resolved(items: tuple[Music, ...], division: int) -> tuple[Music, ...]:
