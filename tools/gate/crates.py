@@ -1,8 +1,8 @@
 """Which crates stand on which, as crates.txt says, and what is proved one after another."""
 
 
-def read_uses(path):
-    """Returns for each crate those of the file that it stands on, none where there is no such file."""
+def read_names(path):
+    """Returns for each crate all that its line names, none where there is no such file."""
     uses = {}
     try:
         with open(path, encoding="utf-8", errors="replace") as it:
@@ -13,6 +13,12 @@ def read_uses(path):
         name, colon, below = line.partition(":")
         if colon and name[:1].isalpha():
             uses[name.split()[0]] = below.split()
+    return uses
+
+
+def read_uses(path):
+    """Returns for each crate those of the file that it stands on, none where there is no such file."""
+    uses = read_names(path)
     return {name: [it for it in below if it in uses] for name, below in uses.items()}
 
 
