@@ -1,0 +1,537 @@
+"""Reads the notation of definitions: files of words, names that a file brings in, and what each definition names.
+
+A file is a head of `use` lines and then items. An item begins at the column of its block and goes on with lines that
+stand further right, or with clauses that begin with the item's own name. What this reader does not know ends it with
+file and line: nothing is skipped."""
+from __future__ import annotations
+
+import re
+from collections.abc import Callable, Iterator
+from dataclasses import dataclass, field
+
+# What a name is made of is all but blanks and these.
+NAME = r"[^\s(){}.;,@\"«»]+"
+WORDS = re.compile(
+    r"(?P<blank>\s+)|(?P<comment>--[^\n]*|\{-.*?-\})|(?P<text>\"(?:\\.|[^\"\\])*\")"
+    rf"|(?P<behind>(?<=[)\]}}])(?:\.{NAME})+)|(?P<name>(?:«{NAME}»|{NAME})(?:\.(?:«{NAME}»|{NAME}))*)"
+    r"|(?P<mark>[(){};,@.])",
+    re.DOTALL,
+)
+CLOSERS = frozenset(") ] }".split())
+MARKS = frozenset("→ λ × ↦ = | : [ ] ( ) { } ; , . ◌".split())
+IN_FRONT = frozenset("pub abbrev unfoldable pattern axiom".split())
+NUMERAL = re.compile(r"[0-9][0-9_]*|0[xob][0-9a-fA-F_]+")
+
+
+class NotRead(Exception):
+    """The notation at a place is not known to this reader."""
+
+
+@dataclass(frozen=True)
+class Word:
+    text: str
+    line: int
+    column: int
+    kind: str = "name"
+
+    @property
+    def parts(self) -> list[str]:
+        """The names of a path, `«»` taken off."""
+        return [part.strip("«»") for part in self.text.split(".")]
+
+
+@dataclass(frozen=True)
+class Import:
+    """A name of this file, or a short name of a module, for what stands elsewhere."""
+
+    module: str
+    name: str | None
+    passed_on: bool
+    line: int
+
+
+@dataclass
+class Item:
+    """A definition: its kind, where it stands with its comment, and its words."""
+
+    kind: str
+    name: str
+    first: int
+    start: int
+    last: int
+    words: list[Word]
+    clauses: list[list[Word]] = field(default_factory=list)
+    constructors: dict[str, int] = field(default_factory=dict)
+    # sections and mutual blocks round it, from the outside
+    blocks: tuple[Block, ...] = ()
+    public: bool = False
+
+
+@dataclass
+class Block:
+    """A section with parameters, or a block of items that name each other."""
+
+    kind: str
+    head: list[Word]
+    first: int
+    start: int
+    column: int
+
+
+@dataclass
+class File:
+    path: str
+    module: str
+    lines: list[str]
+    imports: dict[str, Import]
+    items: list[Item]
+    head: str
+
+
+def words_of(text: str, path: str = "") -> list[Word]:
+    """Returns the words of a text with their places; comments are no words."""
+    found, at, line, begin = [], 0, 1, 0
+    while at < len(text):
+        match = WORDS.match(text, at)
+        if match is None:
+            raise NotRead(f"{path}:{line}: no word begins here: {text[at:at + 20]!r}")
+        kind, word = str(match.lastgroup), match.group()
+        if kind in ("text", "behind", "name", "mark"):
+            # a dot that is followed by a blank ends the binders of a λ
+            found.append(Word(word, line, at - begin, "mark" if word in MARKS else kind))
+        ends = word.count("\n")
+        if ends:
+            line += ends
+            begin = at + word.rfind("\n") + 1
+        at = match.end()
+    return found
+
+
+def is_operator(name: str) -> bool:
+    return "◌" in name
+
+
+def parts_of(name: str) -> list[str]:
+    """The words between the places of an operator."""
+    return [part for part in name.split("◌") if part]
+
+
+def comment_above(lines: list[str], start: int) -> int:
+    """Returns the number of the first line of the comment that stands right above a line, or that line's own."""
+    first = start
+    while first > 1 and re.match(r" *--(?! ----)", lines[first - 2]):
+        first -= 1
+    return first
+
+
+def groups_of(words: list[Word]) -> Iterator[list[Word]]:
+    """Cuts the words of a block into the lines that begin at its column, each with what stands further right."""
+    if not words:
+        return
+    column, group = words[0].column, [words[0]]
+    line = words[0].line
+    for word in words[1:]:
+        if word.line != line and word.column <= column and word.text not in CLOSERS:
+            yield group
+            group = []
+        group.append(word)
+        line = word.line
+    yield group
+
+
+def leading_marks(group: list[Word]) -> list[str]:
+    """The words in front of a definition's head."""
+    found = []
+    for word in group:
+        if word.text not in IN_FRONT:
+            break
+        found.append(word.text)
+    return found
+
+
+class Reader:
+    """Reads one file."""
+
+    def __init__(self, path: str, module: str, text: str):
+        self.path, self.module, self.lines = path, module, text.split("\n")
+        self.imports: dict[str, Import] = {}
+        self.items: list[Item] = []
+        self.read_block(words_of(text, path), ())
+        first = self.lines[0] if self.lines and self.lines[0].startswith("--") else ""
+        self.file = File(path, module, self.lines, self.imports, self.items, first.removeprefix("--").strip())
+
+    def refuse(self, word: Word, why: str) -> NotRead:
+        return NotRead(f"{self.path}:{word.line}: {why}: {word.text}")
+
+    def read_block(self, words: list[Word], blocks: tuple[Block, ...]) -> None:
+        current: Item | None = None
+        for group in groups_of(words):
+            marks = leading_marks(group)
+            at = len(marks)
+            head = group[at].text
+            if head == "use":
+                self.read_use(group[at + 1:], "pub" in marks)
+            elif head == "mod":
+                continue
+            elif head in ("module", "mutual"):
+                inner = self.inside(group, at)
+                block = Block(head, group[:len(group) - len(inner)],
+                              comment_above(self.lines, group[0].line), group[0].line, group[0].column)
+                self.read_block(inner, (*blocks, block))
+            elif head in ("record", "data"):
+                current = self.item(head, group[at + 1], group, blocks, marks)
+                if head == "data":
+                    current.constructors = self.constructors(group)
+            elif head in ("infix", "infixl", "infixr", "unfolding", "ruleset"):
+                if current is not None and head == "unfolding":
+                    current.words += group
+                    current.last = group[-1].line
+                elif head != "unfolding":
+                    self.item(head, group[-1], group, blocks, marks)
+            elif self.is_signature(group, at):
+                current = self.item("definition", group[at], group, blocks, marks)
+            elif current is not None and self.names(group, current.name):
+                current.clauses.append(group)
+                current.words += group
+                current.last = group[-1].line
+            else:
+                raise self.refuse(group[0], "no item begins so")
+
+    def item(self, kind: str, name: Word, group: list[Word], blocks: tuple[Block, ...], marks: list[str]) -> Item:
+        made = Item(kind, name.parts[-1], comment_above(self.lines, group[0].line), group[0].line, group[-1].line,
+                    list(group), blocks=blocks, public="pub" in marks)
+        self.items.append(made)
+        return made
+
+    def inside(self, group: list[Word], at: int) -> list[Word]:
+        """The words of a block's body: those on the lines behind its head."""
+        if group[at].text == "mutual":
+            return group[at + 1:]
+        where = next((k for k, word in enumerate(group) if word.text == "where"), None)
+        if where is None:
+            raise self.refuse(group[0], "a section without `where`")
+        return group[where + 1:]
+
+    def constructors(self, group: list[Word]) -> dict[str, int]:
+        """The names that a `data` declares, with their lines."""
+        where = next((k for k, word in enumerate(group) if word.text == "where"), None)
+        if where is None:
+            return {}
+        found = {}
+        for line in groups_of(group[where + 1:]):
+            if line[0].text == "deriving":
+                continue
+            for word in line:
+                if word.text == ":":
+                    break
+                found[word.parts[-1]] = word.line
+        return found
+
+    def is_signature(self, group: list[Word], at: int) -> bool:
+        """A name, level variables in braces if any, and a colon."""
+        if at >= len(group) or group[at].kind == "mark":
+            return False
+        behind = at + 1
+        if behind < len(group) and group[behind].text == "{":
+            close = next((k for k in range(behind, len(group)) if group[k].text == "}"), behind)
+            if ":" not in [word.text for word in group[behind:close]]:
+                behind = close + 1
+        return behind < len(group) and group[behind].text == ":"
+
+    def names(self, group: list[Word], name: str) -> bool:
+        """Whether a clause is one of this definition."""
+        if is_operator(name):
+            equals = next((k for k, word in enumerate(group) if word.text == "="), len(group))
+            return any(word.text in parts_of(name) or word.text == name for word in group[:equals])
+        return group[0].parts[-1] == name
+
+    def read_use(self, words: list[Word], passed_on: bool) -> None:
+        path = words[0]
+        if len(words) > 1 and words[1].text == "." and words[2].text == "{":
+            names, module = words[3:], ".".join(path.parts)
+            k = 0
+            while names[k].text != "}":
+                name = names[k]
+                short = name.parts[-1]
+                inner = ".".join([module, *name.parts[:-1]])
+                if names[k + 1].text == "as":
+                    short = names[k + 2].parts[-1]
+                    k += 2
+                self.imports[short] = Import(inner, name.parts[-1], passed_on, name.line)
+                k += 1
+                if names[k].text == ",":
+                    k += 1
+        elif len(words) >= 3 and words[1].text == "as":
+            self.imports[f"{words[2].parts[-1]}."] = Import(".".join(path.parts), None, passed_on, path.line)
+        elif len(words) == 1:
+            self.imports[f"{path.parts[-1]}."] = Import(".".join(path.parts), None, passed_on, path.line)
+        else:
+            raise self.refuse(path, "a `use` line of another form")
+
+
+@dataclass(frozen=True)
+class Named:
+    """A name that a definition uses and does not bind."""
+
+    parts: tuple[str, ...]
+    line: int
+    column: int
+
+
+class Uses:
+    """Finds the free names of terms, by the rules of what binds a name."""
+
+    def __init__(self, path: str, is_constructor: Callable[[Word], bool]):
+        self.path, self.is_constructor = path, is_constructor
+        self.found: list[Named] = []
+
+    def refuse(self, word: Word, why: str) -> NotRead:
+        return NotRead(f"{self.path}:{word.line}: {why}: {word.text}")
+
+    def use(self, word: Word) -> None:
+        self.found.append(Named(tuple(word.parts), word.line, word.column))
+
+    def term(self, words: list[Word], at: int, bound: frozenset[str], stops: frozenset[str]) -> int:
+        """Reads a term up to one of the words that stop it, and returns where that stands."""
+        while at < len(words):
+            word = words[at]
+            text = word.text
+            if text in stops and word.kind != "text":
+                return at
+            if text == "λ":
+                at, bound = self.binders(words, at + 1, bound)
+            elif text == "let":
+                at, bound = self.let(words, at + 1, bound)
+            elif text in ("(", "{"):
+                at, bound = self.group(words, at, bound)
+            elif text == "record":
+                at = self.record(words, at + 1, bound)
+            elif text == "elim":
+                at = self.elim(words, at + 1, bound)
+            elif text == "unfold":
+                at += 1
+                while words[at].text != "in":
+                    self.use(words[at])
+                    at += 1
+                at += 1
+            elif word.kind in ("text", "behind") or text in MARKS or text in ("Type", "_", "?", "𝕀", "as", "in"):
+                at += 1
+            elif NUMERAL.fullmatch(text):
+                at += 1
+            else:
+                if word.parts[0] not in bound:
+                    self.use(word)
+                at += 1
+        return at
+
+    def closed(self, words: list[Word], at: int) -> int:
+        """Returns where the bracket that opens here is closed."""
+        depth = 0
+        for k in range(at, len(words)):
+            if words[k].text in ("(", "{", "[") and words[k].kind != "text":
+                depth += 1
+            elif words[k].text in (")", "}", "]") and words[k].kind != "text":
+                depth -= 1
+                if depth == 0:
+                    return k
+        raise self.refuse(words[at], "a bracket that is not closed")
+
+    def telescope(self, words: list[Word], at: int) -> list[str] | None:
+        """The names of `(x y : A)` or `{x : A}`, or None where the bracket holds something else."""
+        names, k = [], at + 1
+        while k < len(words) and words[k].kind == "name" and len(words[k].parts) == 1:
+            names.append(words[k].parts[0])
+            k += 1
+        return names if names and k < len(words) and words[k].text == ":" else None
+
+    def group(self, words: list[Word], at: int, bound: frozenset[str]) -> tuple[int, frozenset[str]]:
+        """A bracket: binders of a type, an implicit argument, a tuple, or a term in parentheses."""
+        names = self.telescope(words, at)
+        close = self.closed(words, at)
+        if names is not None:
+            colon = at + 1 + len(names)
+            self.term(words[:close], colon + 1, bound, frozenset())
+            return close + 1, bound | frozenset(names)
+        inner = at + 1
+        if words[at].text == "{":
+            if inner + 1 < close and words[inner + 1].text == "=":
+                inner += 2
+            elif all(NUMERAL.fullmatch(word.text) or word.text in (",", "ℓ") for word in words[inner:close]):
+                return close + 1, bound
+        # a `,` or `;` parts terms; what a `(x : A) ×` binds ends at the bracket
+        self.terms(words, inner, close, bound)
+        return close + 1, bound
+
+    def terms(self, words: list[Word], at: int, close: int, bound: frozenset[str]) -> None:
+        inner = words[:close]
+        while at < close:
+            at = self.term(inner, at, bound, frozenset((",", ";"))) + 1
+
+    def binders(self, words: list[Word], at: int, bound: frozenset[str]) -> tuple[int, frozenset[str]]:
+        """What a λ binds, up to its dot."""
+        new: set[str] = set()
+        while words[at].text != ".":
+            at = self.binder(words, at, bound, new)
+        return at + 1, bound | new
+
+    def binder(self, words: list[Word], at: int, bound: frozenset[str], new: set[str]) -> int:
+        """One name, pattern of a tuple or of a record, or name with its type."""
+        word = words[at]
+        if word.text in ("(", "{"):
+            close = self.closed(words, at)
+            names = self.telescope(words, at)
+            if names is not None:
+                self.term(words[:close], at + 2 + len(names), bound, frozenset())
+                new.update(names)
+            else:
+                k = at + 1
+                while k < close:
+                    k = k + 1 if words[k].text in (",", "=") else self.binder(words, k, bound, new)
+            return close + 1
+        if word.text == "record":
+            close = self.closed(words, at + 1)
+            k = at + 2
+            while k < close:
+                # label = name
+                k = self.binder(words, k + 2, bound, new)
+                if words[k].text == ";":
+                    k += 1
+            return close + 1
+        if word.text != "_":
+            new.add(word.parts[0])
+        return at + 1
+
+    def let(self, words: list[Word], at: int, bound: frozenset[str]) -> tuple[int, frozenset[str]]:
+        new: set[str] = set()
+        at = self.binder(words, at, bound, new)
+        if words[at].text == ":":
+            at = self.term(words, at + 1, bound, frozenset("="))
+        if words[at].text != "=":
+            raise self.refuse(words[at], "a `let` without `=`")
+        at = self.term(words, at + 1, bound, frozenset(("in",)))
+        return at + 1, bound | new
+
+    def record(self, words: list[Word], at: int, bound: frozenset[str]) -> int:
+        """`record { .. }` as a value or a type, or `record r { .. }`."""
+        if words[at].text == "(":
+            close = self.closed(words, at)
+            self.terms(words, at + 1, close, bound)
+            at = close + 1
+        elif words[at].text != "{":
+            if words[at].parts[0] not in bound:
+                self.use(words[at])
+            at += 1
+        if at < len(words) and words[at].kind == "behind":
+            at += 1
+        close = self.closed(words, at)
+        k, inner = at + 1, words[:close]
+        while k < close:
+            label, sign = words[k], words[k + 1].text
+            if sign not in ("=", ":"):
+                raise self.refuse(label, "a field without `=` or `:`")
+            k = self.term(inner, k + 2, bound, frozenset(";")) + 1
+            if sign == ":":
+                bound = bound | {label.text}
+        return close + 1
+
+    def elim(self, words: list[Word], at: int, bound: frozenset[str]) -> int:
+        """`elim t as (λ x. M) [ p ↦ e | .. ]`."""
+        at = self.term(words, at, bound, frozenset("["))
+        close = self.closed(words, at)
+        k, inner = at + 1, words[:close]
+        while k < close:
+            new: set[str] = set()
+            k = self.pattern(inner, k, bound, new, "↦")
+            k = self.term(inner, k + 1, bound | new, frozenset("|")) + 1
+        return close + 1
+
+    def pattern(self, words: list[Word], at: int, bound: frozenset[str], new: set[str], stop: str) -> int:
+        """Reads patterns up to the word that stops them; adds the names that they bind."""
+        while words[at].text != stop:
+            word = words[at]
+            if word.text == "{" and words[at + 2].text == "=":
+                at += 3
+                continue
+            if word.kind == "mark" or word.text == "_" or word.kind == "text":
+                at += 1
+                continue
+            if self.is_constructor(word):
+                self.use(word)
+            else:
+                if len(word.parts) > 1:
+                    raise self.refuse(word, "a path in a pattern that is no constructor")
+                new.add(word.parts[0])
+            at += 1
+        return at
+
+
+def names_in_item(path: str, item: Item, is_constructor: Callable[[Word], bool], fixed: frozenset[str]) -> list[Named]:
+    """Returns what a definition names and does not bind; `fixed` are the parameters of the sections round it."""
+    uses = Uses(path, is_constructor)
+    words = item.words
+    if item.kind in ("record", "data"):
+        return names_in_type(uses, item, fixed)
+    if item.kind != "definition":
+        return []
+    behind, unfolded, ends = signature_of(item)
+    levels = frozenset(word.text for word in words[:behind] if word.kind == "name")
+    uses.term(words[:unfolded], behind + 1, fixed | (levels - {item.name}), frozenset())
+    for word in words[unfolded + 1:ends]:
+        uses.use(word)
+    for clause in item.clauses:
+        new: set[str] = set()
+        sides = clause if is_operator(item.name) else clause[1:]
+        if is_operator(item.name):
+            own = set(parts_of(item.name)) | {item.name}
+            sides = [word for k, word in enumerate(clause)
+                     if not (word.text in own and k < clause.index(equals_of(clause)))]
+        at = uses.pattern(sides, 0, fixed, new, "=")
+        uses.term(sides, at + 1, fixed | new, frozenset())
+    return uses.found
+
+
+def signature_of(item: Item) -> tuple[int, int, int]:
+    """Where the colon of a definition stands, where its type ends, and where its first clause begins."""
+    words = item.words
+    behind = next(k for k, word in enumerate(words) if word.text == ":")
+    ends = len(words) - sum(map(len, item.clauses))
+    unfolded = (k for k in range(behind, ends) if words[k].text == "unfolding" and words[k].line != words[k - 1].line)
+    return behind, next(unfolded, ends), ends
+
+
+def names_in_signature(path: str, item: Item, is_constructor: Callable[[Word], bool]) -> list[Named]:
+    """Returns what the type of a definition without parameters names."""
+    uses = Uses(path, is_constructor)
+    behind, unfolded, _ = signature_of(item)
+    uses.term(item.words[:unfolded], behind + 1, frozenset(), frozenset())
+    return uses.found
+
+
+def equals_of(clause: list[Word]) -> Word:
+    return next(word for word in clause if word.text == "=")
+
+
+def names_in_type(uses: Uses, item: Item, fixed: frozenset[str]) -> list[Named]:
+    """What a record or a data type names: its parameters, its type, its fields or constructors in turn."""
+    words = item.words
+    start = next(k for k, word in enumerate(words) if word.text in ("record", "data")) + 2
+    where = next((k for k, word in enumerate(words) if word.text == "where"), len(words))
+    bound, at = fixed, start
+    while at < where and words[at].text in ("(", "{"):
+        at, bound = uses.group(words, at, bound)
+    uses.term(words[:where], at + 1, bound, frozenset())
+    for line in groups_of(words[where + 1:]):
+        if line[0].text == "deriving":
+            continue
+        colon = next((k for k, word in enumerate(line) if word.text == ":"), None)
+        if colon is None:
+            continue
+        uses.term(line, colon + 1, bound, frozenset())
+        if item.kind == "record":
+            bound = bound | {word.parts[0] for word in line[:colon] if word.text != "pub"}
+    return uses.found
+
+
+def parameters_of(block: Block) -> list[Word]:
+    """The words of a section's parameters, without `module _` and `where`."""
+    return [word for word in block.head if word.text not in ("module", "_", "where", "abbrev", "mutual", "pub", "unfoldable")]

@@ -1,0 +1,260 @@
+"""Finds what each name of a definition means: a definition of the repository, an item of its code, or a library's."""
+from __future__ import annotations
+
+import os
+import re
+from dataclasses import dataclass, field
+from functools import cached_property
+
+from rust import CodeFile, CodeItem, code_files
+from notation import (
+    Block, File, Import, Item, Named, NotRead, Reader, Uses, Word, names_in_item, parameters_of, parts_of,
+)
+
+# What the notation itself brings.
+BUILT_IN = frozenset("Unit tt absurd ⊥ ¬ IsProp IsSet Dec yes no search grind cc rw simp omega refl ℓ ∥◌∥₁".split())
+
+# Constructors of the libraries: a name of theirs that stands in a pattern has to be one of these.
+LIBRARY_CONSTRUCTORS = frozenset(
+    "zero suc true false [] ◌∷◌ pos negsuc refl tt some none Some None Ok Err inl inr left right Less Equal Greater "
+    "Set Append SetTrue SetFalse Count".split())
+
+
+@dataclass(frozen=True)
+class Target:
+    """What a name means: `definition` and `code` belong to the repository, `library` does not."""
+
+    kind: str
+    module: str
+    name: str
+
+
+@dataclass
+class Needed:
+    """A definition with what it names."""
+
+    target: Target
+    path: str
+    first: int
+    last: int
+    names: list[Target]
+    # where in its file it names each of them: line, column and how many signs
+    places: dict[tuple[int, int, int], Target]
+    file: File | None = None
+    item: Item | None = None
+    code: CodeItem | None = None
+    blocks: list[Block] = field(default_factory=list)
+
+
+class Repository:
+    def __init__(self, top: str):
+        self.top = top
+        self.files: dict[str, File] = {}
+        self.codes: dict[str, dict[str, CodeItem]] = {}
+        self.code_of: dict[str, CodeFile] = {}
+
+    @cached_property
+    def crates(self) -> set[str]:
+        return set(os.listdir(f"{self.top}/crates"))
+
+    # ---- files
+
+    def is_own(self, module: str) -> bool:
+        parts = module.split(".")
+        return len(parts) > 1 and parts[0] == "Rattle" and parts[1] in self.crates
+
+    def file(self, module: str) -> File | None:
+        """The file of a module of the repository's definitions or proofs, or None where there is none."""
+        if module not in self.files:
+            parts = module.split(".")
+            base = f"{self.top}/crates/{parts[1]}/{'/'.join(parts[2:])}"
+            path = next((it for it in (f"{base}.antt", f"{base}/Lib.antt") if os.path.isfile(it)), None)
+            if path is None:
+                return None
+            with open(path, encoding="utf-8") as file:
+                self.files[module] = Reader(os.path.relpath(path, self.top), module, file.read()).file
+        return self.files[module]
+
+    def known_file(self, module: str) -> File:
+        file = self.file(module)
+        if file is None:
+            raise NotRead(f"no module {module}")
+        return file
+
+    def code(self, crate: str) -> dict[str, CodeItem]:
+        """The types, constants and traits of a crate."""
+        if crate not in self.codes:
+            items: dict[str, CodeItem] = {}
+            for path in code_files(f"{self.top}/crates/{crate}"):
+                file = self.code_of[path] = CodeFile(path)
+                items.update(file.items())
+            self.codes[crate] = items
+        return self.codes[crate]
+
+    # ---- names
+
+    def declared(self, module: str, name: str) -> Target:
+        """What a name of a module means that is made from code: `.declared.file.Item`."""
+        crate, rest = module.split(".")[1], module.split(".")
+        items = self.code(crate)
+        path = rest[rest.index("declared") + 1:]
+        # a variant and a fold belong to their type, the record of ghost members to its trait
+        for candidate in (name,) if path[-1] == "TheConstants" else reversed(path):
+            if candidate in items:
+                return Target("code", crate, candidate)
+        raise NotRead(f"no item of the code of {crate} for {module}.{name}")
+
+    def item(self, module: str, name: str) -> Target | None:
+        """What a name that a module hands out means."""
+        if not self.is_own(module):
+            return Target("library", module, name)
+        if ".declared." in module:
+            return self.declared(module, name)
+        file = self.file(module)
+        if file is None:
+            # a name in a module of that name: a constructor behind its type
+            above, _, last = module.rpartition(".")
+            return self.item(above, last) if self.file(above) else None
+        found = self.own(file, name)
+        if found:
+            return found
+        passed = file.imports.get(name)
+        if passed and passed.name:
+            return self.item(passed.module, passed.name)
+        return None
+
+    def own(self, file: File, name: str) -> Target | None:
+        for item in file.items:
+            if item.name == name:
+                return Target("definition", file.module, item.name)
+        for item in file.items:
+            if name in item.constructors:
+                return Target("definition", file.module, item.name)
+        return None
+
+    def resolve(self, file: File, parts: tuple[str, ...], line: int) -> Target | None:
+        """What a path of a file means; None for what the notation itself brings."""
+        first = parts[0]
+        found = self.own(file, first) or self.brought(file, first)
+        if found:
+            return found
+        alias = file.imports.get(f"{first}.")
+        if alias and len(parts) > 1:
+            target = self.item(alias.module, parts[1])
+            if target:
+                return target
+            below = self.item(f"{alias.module}.{parts[1]}", parts[2]) if len(parts) > 2 else None
+            if below:
+                return below
+        operators = [name for name in [*file.imports, *(item.name for item in file.items)]
+                     if "◌" in name and (first in parts_of(name))]
+        for name in operators:
+            return self.own(file, name) or self.brought(file, name)
+        if first in BUILT_IN:
+            return None
+        raise NotRead(f"{file.path}:{line}: what does this name mean: {'.'.join(parts)}")
+
+    def brought(self, file: File, name: str) -> Target | None:
+        it = file.imports.get(name)
+        if it is None or it.name is None:
+            return None
+        target = self.item(it.module, it.name)
+        if target is None:
+            raise NotRead(f"{file.path}:{it.line}: {it.module} has no {it.name}")
+        return target
+
+    def is_constructor(self, file: File, word: Word) -> bool:
+        """Whether a name in a pattern is a constructor; one that is not binds a variable."""
+        parts = tuple(word.parts)
+        try:
+            target = self.resolve(file, parts, word.line)
+        except NotRead:
+            if len(parts) > 1:
+                raise
+            return False
+        if target is None:
+            return word.text in ("tt", "yes", "no", "refl")
+        if target.kind == "library":
+            if target.name in LIBRARY_CONSTRUCTORS or target.module.endswith("TheVariants"):
+                return True
+            if len(parts) > 1:
+                raise NotRead(f"{file.path}:{word.line}: is this a constructor: {word.text}")
+            return False
+        if target.kind == "code":
+            return target.name != parts[-1] or self.code(target.module)[target.name].kind == "struct"
+        inner = self.files[target.module]
+        return any(parts[-1] in item.constructors for item in inner.items if item.name == target.name) or "◌" in target.name
+
+    # ---- what a definition needs
+
+    def definition(self, target: Target) -> Needed:
+        if target.kind == "code":
+            return self.code_needed(target)
+        file = self.known_file(target.module)
+        item = next(it for it in file.items if it.name == target.name)
+        fixed: set[str] = set()
+        uses = Uses(file.path, lambda word: self.is_constructor(file, word))
+        for block in item.blocks:
+            words = parameters_of(block)
+            at, bound = 0, frozenset(fixed)
+            while at < len(words):
+                at, bound = uses.group(words, at, bound)
+            fixed |= bound
+        named = uses.found + names_in_item(file.path, item, lambda word: self.is_constructor(file, word), frozenset(fixed))
+        names = self.targets(file, named)
+        # all of a block that name each other belong together
+        group = [block for block in item.blocks if block.kind == "mutual"]
+        if group:
+            names += [Target("definition", file.module, it.name) for it in file.items if group[-1] in it.blocks]
+        # the fixity of an operator stands beside it
+        return Needed(target, file.path, item.first, item.last, self.unique(names, target), self.places(file, named), file, item,
+                      blocks=list(item.blocks))
+
+    def targets(self, file: File, named: list[Named]) -> list[Target]:
+        found = [self.resolve(file, it.parts, it.line) for it in named]
+        return [it for it in found if it is not None]
+
+    def places(self, file: File, named: list[Named]) -> dict[tuple[int, int, int], Target]:
+        found = {}
+        for it in named:
+            target = self.resolve(file, it.parts, it.line)
+            if target is not None:
+                found[it.line, it.column, len(".".join(it.parts))] = target
+        return found
+
+    def unique(self, names: list[Target], but: Target) -> list[Target]:
+        return [it for it in dict.fromkeys(names) if it != but]
+
+    def code_needed(self, target: Target) -> Needed:
+        item = self.code(target.module)[target.name]
+        file = self.ghost_file(item.path)
+        names: list[Target] = []
+        for words in item.terms:
+            uses = Uses(item.path, lambda word: self.is_constructor(file, word))
+            own = frozenset(("self", "result", "Self", "this", target.name, *re.findall(r"ghost (\w+)", item.text),
+                             *re.findall(r"(\w+):", item.text)))
+            uses.term(words, 0, own, frozenset())
+            names += self.targets(file, uses.found)
+        names += self.types_in(target, item)
+        return Needed(target, os.path.relpath(item.path, self.top), item.first, item.last, self.unique(names, target), {}, code=item)
+
+    def ghost_file(self, path: str) -> File:
+        """What a file of code brings in for its clauses, as a file without definitions."""
+        code = self.code_of[path]
+        reader = Reader(os.path.relpath(path, self.top), "", "\n".join(f"use {it}" for it in code.ghost_uses))
+        return reader.file
+
+    def types_in(self, target: Target, item: CodeItem) -> list[Target]:
+        """The types and constants of the repository that a type's fields or a constant's value name."""
+        code = self.code_of[item.path]
+        plain = "\n".join(re.sub(r"//.*|#\[.*\]", "", line) for line in item.text.split("\n") if "impl" not in line)
+        plain = re.sub(r"(?:requires|ensures|ghost)[^{;]*\{[^}]*\}", "", plain)
+        found = []
+        for name in dict.fromkeys(re.findall(r"\b[A-Z]\w*", plain)):
+            if name in self.code(target.module) and name != target.name:
+                found.append(Target("code", target.module, name))
+                continue
+            crate = re.search(rf"^(?:pub )?use (fm_\w+)::(?:\w+::)*(?:\{{[^}}]*\b{name}\b|{name};)", code.text, re.M)
+            if crate and name in self.code(crate[1]):
+                found.append(Target("code", crate[1], name))
+        return found
