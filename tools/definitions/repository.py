@@ -202,11 +202,6 @@ class Repository:
             fixed |= bound
         named = uses.found + names_in_item(file.path, item, lambda word: self.is_constructor(file, word), frozenset(fixed))
         names = self.targets(file, named)
-        # all of a block that name each other belong together
-        group = [block for block in item.blocks if block.kind == "mutual"]
-        if group:
-            names += [Target("definition", file.module, it.name) for it in file.items if group[-1] in it.blocks]
-        # the fixity of an operator stands beside it
         return Needed(target, file.path, item.first, item.last, self.unique(names, target), self.places(file, named), file, item,
                       blocks=list(item.blocks))
 

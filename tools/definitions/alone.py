@@ -1,0 +1,225 @@
+"""Writes the definitions of a reading list as a crate of their own, which the checker takes, and takes them out one by one.
+
+    alone.py FUNCTION CLAUSE FOLDER [--each [FIRST [LAST]]]
+
+The crate has nothing but what scripts/statement prints, with the `use` lines that this needs. With --each every
+definition is left out once, and the check has to refuse what is left: so the list has nothing that is not needed. Those
+that the clause itself names are not left out, since the crate does not hold the clause."""
+from __future__ import annotations
+
+import os
+import re
+import shutil
+import subprocess
+import sys
+
+sys.dont_write_bytecode = True
+from notation import File, Named, NotRead, Uses, names_in_item, parameters_of, parts_of  # noqa: E402
+from page import heads  # noqa: E402
+from repository import Needed, Repository, Target  # noqa: E402
+from statement import Statement, statement_of, text_of  # noqa: E402
+
+TOP = os.path.dirname(os.path.dirname(os.path.dirname(os.path.abspath(__file__))))
+CRATE = "statement"
+KEPT_DERIVES = ("Clone", "Copy", "Drop")
+
+
+def module_of(module: str) -> str:
+    """The module of the new crate for one of the repository's: `Rattle.fm_smf.specs.Track` is `FmSmfTrack`."""
+    parts = module.split(".")
+    if parts[0] != "Rattle" or not parts[1].startswith("fm_"):
+        return module
+    if "declared" in parts:
+        at = parts.index("declared") + 1
+        file = code_module(parts[1], parts[at:])
+        behind = parts[at + len(file_parts(parts[1], parts[at:])):]
+        return ".".join(["Rattle", CRATE, "specs", "declared", file, *behind])
+    name = "".join(part.capitalize() for part in parts[1].split("_")) + "".join(parts[3:])
+    return f"Rattle.{CRATE}.specs.{name}"
+
+
+def file_parts(crate: str, path: list[str]) -> list[str]:
+    """How many parts of a path name the file of code."""
+    for count in range(len(path), 0, -1):
+        if os.path.isfile(f"{TOP}/crates/{crate}/src/{'/'.join(path[:count])}.rt"):
+            return path[:count]
+    raise NotRead(f"no file of code for {crate} {path}")
+
+
+def code_module(crate: str, path: list[str]) -> str:
+    return "_".join([crate, *file_parts(crate, path)])
+
+
+def code_file(path: str) -> str:
+    """The module of a file of code."""
+    parts = path.split("/")
+    return "_".join([parts[1], *parts[3:]]).removesuffix(".rt")
+
+
+class Alone:
+    def __init__(self, repository: Repository, statement: Statement, left_out: Target | None = None):
+        self.repository, self.statement, self.left_out = repository, statement, left_out
+        self.needed = {it.target: it for it in statement.needed if it.target != left_out}
+
+    # ---- definitions
+
+    def used_imports(self, file: File, needed: list[Needed]) -> set[str]:
+        """The short names of a file's `use` lines that the needed definitions use."""
+        keys: set[str] = set()
+        for it in needed:
+            if it.item is None:
+                continue
+            uses = Uses(file.path, lambda word: self.repository.is_constructor(file, word))
+            bound: frozenset[str] = frozenset()
+            for block in it.blocks:
+                words = parameters_of(block)
+                at = 0
+                while at < len(words):
+                    at, bound = uses.group(words, at, bound)
+            named = uses.found + names_in_item(file.path, it.item, lambda word: self.repository.is_constructor(file, word), bound)
+            keys.update(key for name in named if (key := self.key(file, name)))
+        return keys
+
+    def key(self, file: File, name: Named) -> str | None:
+        first = name.parts[0]
+        if self.repository.own(file, first):
+            return None
+        if first in file.imports:
+            return first
+        if f"{first}." in file.imports and len(name.parts) > 1:
+            return f"{first}."
+        return next((it for it in file.imports if "◌" in it and first in parts_of(it)), None)
+
+    def specs(self, file: File, needed: list[Needed]) -> str:
+        lines = []
+        for key in sorted(self.used_imports(file, needed)):
+            it = file.imports[key]
+            if it.name is None:
+                short = key.removesuffix(".")
+                lines.append(f"use {module_of(it.module)}" + ("" if it.module.endswith(f".{short}") and not self.repository.is_own(it.module) else f" as {short}"))
+                continue
+            target = self.repository.item(it.module, it.name)
+            module = target.module if target and target.kind == "definition" else it.module
+            name = f"{it.name} as {key}" if it.name != key else key
+            lines.append(f"use {module_of(module)}.{{{name}}}")
+        shown: tuple[int, ...] = ()
+        for it2 in needed:
+            head, shown = heads(it2, shown)
+            lines += ["", *([head] if head else []), text_of(self.repository, it2)]
+        return "\n".join(lines) + "\n"
+
+    # ---- code
+
+    def source(self, needed: list[Needed]) -> str:
+        lines = [f"//! From {needed[0].path}."]
+        wanted: set[Target] = set()
+        for it in needed:
+            wanted.update(name for name in it.names if name.kind == "code" and name in self.needed)
+        own = {it.target for it in needed}
+        path = next(it.code.path for it in needed if it.code)
+        for use in self.repository.code_of[path].ghost_uses:
+            lines += self.ghost_use(path, use)
+        lines += [f"use crate::{code_file(self.needed[it].path)}::{it.name};" for it in sorted(wanted - own, key=str)]
+        items = [plain_item(text_of(self.repository, it)) for it in needed]
+        lines += library_uses(self.repository.code_of[path].text, "\n".join(items))
+        for item in items:
+            lines += ["", item]
+        return "\n".join(lines) + "\n"
+
+    def ghost_use(self, path: str, use: str) -> list[str]:
+        """The part of a `ghost use` line that is there."""
+        file = self.repository.ghost_file(path)
+        kept = []
+        for key, it in file.imports.items():
+            if it.name and it.module == use.split(".{")[0]:
+                target = self.repository.item(it.module, it.name)
+                if target and (target.kind == "library" or target in self.needed):
+                    kept.append(it.name if it.name == key else f"{it.name} as {key}")
+        return [f"ghost use {module_of(use.split('.{')[0])}.{{{', '.join(kept)}}};"] if kept else []
+
+    # ---- the crate
+
+    def write(self, folder: str) -> None:
+        crate = f"{folder}/crates/{CRATE}"
+        shutil.rmtree(crate, ignore_errors=True)
+        for part in ("src", "specs", "proofs"):
+            os.makedirs(f"{crate}/{part}")
+        libraries = sorted({module.split(".")[1] for module in self.statement.library if module.startswith("Rattle.")} - {"std", "core"})
+        write(f"{folder}/crates.txt", f"{CRATE}: {' '.join(libraries)}\n")
+        write(f"{folder}/HANDLES", "Handles allowed: none.\n")
+        modules, sources = [], []
+        for path in dict.fromkeys(it.path for it in self.statement.needed):
+            needed = sorted((it for it in self.needed.values() if it.path == path), key=lambda it: it.first)
+            if not needed:
+                continue
+            file = needed[0].file
+            if file:
+                name = module_of(file.module).rpartition(".")[2]
+                modules.append(name)
+                write(f"{crate}/specs/{name}.antt", self.specs(file, needed))
+            else:
+                sources.append(code_file(path))
+                write(f"{crate}/src/{sources[-1]}.rt", self.source(needed))
+        write(f"{crate}/specs/Lib.antt", "".join(f"pub mod {name}\n" for name in modules))
+        write(f"{crate}/proofs/Lib.antt", "")
+        write(f"{crate}/src/lib.rt", "//! The definitions of a reading list.\n#![tactic(auto)]\n\n"
+              + "".join(f"pub mod {name};\n" for name in sources))
+
+
+def library_uses(code: str, items: str) -> list[str]:
+    """The `use` lines of the libraries that some items of a file of code need."""
+    found = []
+    for path, names in re.findall(r"^use (std(?:::\w+)*)::(\w+|\{[^}]*\});", code, re.M):
+        kept = [name for name in re.findall(r"\w+", names) if re.search(rf"\b{name}\b", items)]
+        found += [f"use {path}::{name};" for name in kept]
+    return found
+
+
+def plain_item(text: str) -> str:
+    """An item of the code without what it derives for running."""
+    def kept(match: re.Match[str]) -> str:
+        names = [it for it in re.findall(r"\w+", match[1]) if it in KEPT_DERIVES]
+        return f"#[derive({', '.join(names)})]" if names else ""
+    text = re.sub(r"#\[derive\(([^)]*)\)\]", kept, text)
+    return re.sub(r"\n *#\[(?!derive)[^\n]*\]", "", text)
+
+
+def write(path: str, text: str) -> None:
+    with open(path, "w", encoding="utf-8") as file:
+        file.write(text)
+
+
+def check(folder: str) -> tuple[bool, str]:
+    done = subprocess.run(["rt", "check"], cwd=f"{folder}/crates/{CRATE}", stdout=subprocess.PIPE, stderr=subprocess.STDOUT, text=True)
+    return done.returncode == 0, done.stdout
+
+
+def main() -> int:
+    if len(sys.argv) < 4:
+        print(__doc__)
+        return 2
+    repository = Repository(TOP)
+    statement = statement_of(repository, sys.argv[1], sys.argv[2])
+    folder = sys.argv[3]
+    Alone(repository, statement).write(folder)
+    proved, said = check(folder)
+    print(f"all {len(statement.needed)}: {'accepted' if proved else 'refused'}")
+    if not proved:
+        print(said[-3000:])
+        return 1
+    if "--each" not in sys.argv:
+        return 0
+    bounds = [int(it) for it in sys.argv[sys.argv.index("--each") + 1:]]
+    named = {name for it in statement.needed for name in it.names}
+    kept = 0
+    for it in [it for it in statement.needed if it.target in named][slice(*bounds)]:
+        Alone(repository, statement, it.target).write(folder)
+        proved, said = check(folder)
+        kept += proved
+        print(f"{'NOT NEEDED' if proved else 'needed'} {it.path}:{it.first} {it.target.name}", flush=True)
+    print(f"{kept} are not needed")
+    return kept != 0
+
+
+if __name__ == "__main__":
+    sys.exit(main())
