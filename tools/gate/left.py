@@ -1,0 +1,58 @@
+"""How long a build still takes, by what its crates took before."""
+
+# What crates took that are not in the table, in seconds.
+UNKNOWN = 30
+
+# A crate that takes less than this part of its seconds was proved before.
+KEPT = 10
+
+# From how many foretold seconds on a run tells how fast this machine is.
+ENOUGH = 20
+
+
+def read_seconds(path):
+    """Returns the processor seconds of each crate of the table."""
+    with open(path, encoding="utf-8") as file:
+        rows = [line.split() for line in file if line.strip() and not line.startswith("#")]
+    return {name: float(seconds) for name, seconds in rows}
+
+
+def foretold(uses, left, seconds, lanes):
+    """Returns how many seconds these crates take on so many processors: all their work shared out, but no less than the
+    longest of their chains."""
+    chains = {}
+
+    def chain(name):
+        if name not in chains:
+            below = max((chain(it) for it in uses[name] if it in left), default=0)
+            chains[name] = below + seconds.get(name, UNKNOWN)
+        return chains[name]
+
+    return max(sum(seconds.get(it, UNKNOWN) for it in left) / lanes, max(map(chain, left), default=0))
+
+
+class Forecast:
+    """Tells the time left, scaled by how fast the first crates of this run were."""
+
+    def __init__(self, uses, seconds, lanes):
+        self.uses, self.seconds, self.lanes = uses, seconds, lanes
+        self.proved = set(uses)
+
+    def took(self, name, seconds):
+        """Notes how long a crate took. One that took next to nothing was there from an earlier run."""
+        if seconds < self.seconds.get(name, UNKNOWN) / KEPT:
+            self.proved.discard(name)
+
+    def left(self, crates, elapsed):
+        """Returns how many seconds are left for these crates, so long after the start."""
+        rest = foretold(self.uses, set(crates), self.seconds, self.lanes)
+        done = foretold(self.uses, self.proved, self.seconds, self.lanes) - rest
+        return rest * (elapsed / done if done >= ENOUGH else 1)
+
+
+def in_words(seconds):
+    """Returns a time as a person says it."""
+    minutes = round(seconds / 60)
+    if minutes < 1:
+        return "less than a minute"
+    return f"about {minutes} minute{'s' if minutes > 1 else ''}"
