@@ -2,9 +2,14 @@
 import json
 import os
 import re
+import shutil
+import subprocess
+import tempfile
 import unittest
 
 TOP = os.path.dirname(os.path.dirname(os.path.dirname(os.path.abspath(__file__))))
+VIM = os.path.join(TOP, "editors", "vim")
+REFUSED = "formula: score refused: 2:12 fault 3"
 GRAMMAR = os.path.join(TOP, "editors", "vscode", "syntaxes", "formula.tmLanguage.json")
 FOLDERS = [os.path.join(TOP, "examples", name) for name in ("scores", "tutorial", "long")]
 
@@ -48,6 +53,32 @@ class Editors(unittest.TestCase):
              "storage.type", "entity.name", "punctuation", "support.function", "constant.other.pitch", "punctuation",
              "constant.other.pitch", "constant.numeric", "keyword.operator", "constant.numeric", "punctuation",
              "punctuation", "comment.line.number-sign"])
+
+    def test_vs_code_finds_the_place_in_the_line_of_a_refusal(self):
+        with open(os.path.join(TOP, "editors", "vscode", "package.json"), encoding="utf-8") as file:
+            pattern = json.load(file)["contributes"]["problemMatchers"][0]["pattern"]
+        shown = REFUSED.replace("formula: score refused", "/a b/tune.score")
+        match = re.match(pattern["regexp"], shown)
+        self.assertEqual([match[pattern[it]] for it in ("file", "line", "column", "message")],
+                         ["/a b/tune.score", "2", "12", "fault 3"])
+
+    @unittest.skipUnless(shutil.which("vim"), "vim is not installed")
+    def test_vim_jumps_to_the_place_of_a_refusal(self):
+        with tempfile.TemporaryDirectory() as folder:
+            score, place = os.path.join(folder, "a tune.score"), os.path.join(folder, "place")
+            command = os.path.join(folder, "refuses")
+            with open(score, "w", encoding="utf-8") as file:
+                file.write("formula 1;\nnote c4 1/4 oops\n")
+            with open(command, "w", encoding="utf-8") as file:
+                file.write(f'#!/bin/sh\n[ "$1" = "{score}" ] || exit 9\necho "{REFUSED}"\necho "and a caret under it" >&2\nexit 3\n')
+            os.chmod(command, 0o755)
+            subprocess.run(
+                ["vim", "-N", "-u", "NONE", "-es", f"+set runtimepath^={VIM}", f"+let g:formula_command = '{command}'",
+                 "+filetype plugin on", "+set filetype=formula", "+silent make",
+                 f"+call writefile([line('.') . ':' . col('.') . ' ' . len(getqflist())], '{place}')", "+qa!", score],
+                timeout=20, check=False, stdin=subprocess.DEVNULL, stdout=subprocess.DEVNULL, stderr=subprocess.DEVNULL)
+            with open(place, encoding="utf-8") as file:
+                self.assertEqual(file.read(), "2:12 1\n")
 
 
 if __name__ == "__main__":
