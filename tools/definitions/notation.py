@@ -187,7 +187,8 @@ class Reader:
                     current.words += group
                     current.last = group[-1].line
                 elif head != "unfolding":
-                    self.item(head, group[-1], group, blocks, marks)
+                    # the fixity of an operator: the operator has an item of its own
+                    self.item(head, group[0], group, blocks, marks)
             elif self.is_signature(group, at):
                 current = self.item("definition", group[at], group, blocks, marks)
             elif current is not None and self.names(group, current.name):
@@ -488,6 +489,11 @@ def names_in_item(path: str, item: Item, is_constructor: Callable[[Word], bool],
         at = uses.pattern(sides, 0, fixed, new, "=")
         uses.term(sides, at + 1, fixed | new, frozenset())
     return uses.found
+
+
+def is_row(item: Item) -> bool:
+    """Whether it is a lemma that is closed by computing."""
+    return bool(item.clauses) and [word.text for word in item.clauses[-1]][-2:] == ["=", "refl"]
 
 
 def signature_of(item: Item) -> tuple[int, int, int]:

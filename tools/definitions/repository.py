@@ -52,6 +52,7 @@ class Repository:
         self.files: dict[str, File] = {}
         self.codes: dict[str, dict[str, CodeItem]] = {}
         self.code_of: dict[str, CodeFile] = {}
+        self.needed: dict[Target, Needed] = {}
 
     @cached_property
     def crates(self) -> set[str]:
@@ -188,8 +189,11 @@ class Repository:
     # ---- what a definition needs
 
     def definition(self, target: Target) -> Needed:
-        if target.kind == "code":
-            return self.code_needed(target)
+        if target not in self.needed:
+            self.needed[target] = self.code_needed(target) if target.kind == "code" else self.read_definition(target)
+        return self.needed[target]
+
+    def read_definition(self, target: Target) -> Needed:
         file = self.known_file(target.module)
         item = next(it for it in file.items if it.name == target.name)
         fixed: set[str] = set()

@@ -7,7 +7,7 @@ import os
 from collections import defaultdict
 from dataclasses import dataclass, field
 
-from notation import Block, File, Item, NotRead, Uses, names_in_signature
+from notation import Block, File, Item, NotRead, Uses, is_row, names_in_signature
 from repository import Needed, Repository, Target
 from rust import Clause, Function, code_files
 
@@ -148,8 +148,7 @@ def rows_of(repository: Repository, needed: dict[Target, Needed]) -> dict[Target
         if file is None:
             continue
         for item in file.items:
-            computes = item.clauses and [word.text for word in item.clauses[-1]][-2:] == ["=", "refl"]
-            if item.kind != "definition" or not computes:
+            if item.kind != "definition" or not is_row(item):
                 continue
             for name in dict.fromkeys(named_in_row(repository, file, item)):
                 if name in needed and name.kind == "definition" and computes_itself(needed[name]):

@@ -1,0 +1,319 @@
+"""What translated definitions run on: their values, and the library's functions that they name.
+
+Natural and whole numbers are integers, Bool is bool, tuples are tuples. A list is NIL or a Pair, so that a part of a list
+is no copy. A record has its fields; any other value has the name of its constructor and its parts."""
+from __future__ import annotations
+
+import itertools
+from collections.abc import Callable, Iterable, Iterator
+from typing import Any
+
+
+class NoClause(Exception):
+    """A definition has no clause for its arguments."""
+
+
+class Made:
+    """A value of a constructor."""
+
+    __slots__ = ("tag", "args")
+
+    def __init__(self, tag: str, args: tuple[Any, ...] = ()):
+        self.tag, self.args = tag, args
+
+    def __eq__(self, other: object) -> bool:
+        return isinstance(other, Made) and self.tag == other.tag and self.args == other.args
+
+    def __hash__(self) -> int:
+        return hash((self.tag, self.args))
+
+    def __repr__(self) -> str:
+        return self.tag if not self.args else f"({' '.join([self.tag, *map(repr, self.args)])})"
+
+
+class Record:
+    """A value with named fields."""
+
+    def __init__(self, **fields: Any):
+        self.__dict__.update(fields)
+
+    def __eq__(self, other: object) -> bool:
+        return isinstance(other, Record) and self.__dict__ == other.__dict__
+
+    def __hash__(self) -> int:
+        return hash(tuple(sorted(self.__dict__.items())))
+
+    def __repr__(self) -> str:
+        return "{" + "; ".join(f"{name} = {value!r}" for name, value in self.__dict__.items()) + "}"
+
+
+def updated(record: Record, **fields: Any) -> Record:
+    return Record(**{**record.__dict__, **fields})
+
+
+class Nil:
+    """The empty list."""
+
+    def __iter__(self) -> Iterator[Any]:
+        return iter(())
+
+    def __repr__(self) -> str:
+        return "[]"
+
+
+NIL = Nil()
+
+
+class Pair:
+    """A list that is not empty."""
+
+    __slots__ = ("head", "tail")
+
+    def __init__(self, head: Any, tail: Any):
+        self.head, self.tail = head, tail
+
+    def __iter__(self) -> Iterator[Any]:
+        at: Any = self
+        while at is not NIL:
+            yield at.head
+            at = at.tail
+
+    def __eq__(self, other: object) -> bool:
+        if not isinstance(other, Pair):
+            return False
+        end = object()
+        return all(a == b for a, b in itertools.zip_longest(self, other, fillvalue=end))
+
+    def __hash__(self) -> int:
+        return hash(tuple(self))
+
+    def __repr__(self) -> str:
+        return "[" + ", ".join(map(repr, self)) + "]"
+
+
+def listed(items: Iterable[Any], tail: Any = NIL) -> Any:
+    """The list of some items, in front of another list."""
+    for item in reversed(list(items)):
+        tail = Pair(item, tail)
+    return tail
+
+
+class Joined(Pair):
+    """Two lists one behind the other. They are gone through once somebody looks, so that `xs ++ ys` costs nothing."""
+
+    __slots__ = ("parts", "made")
+
+    def __init__(self, left: Any, right: Any):
+        self.parts: tuple[Any, ...] = (left, right)
+        self.made: Any = None
+
+    def force(self) -> Any:
+        if self.made is None:
+            items: list[Any] = []
+            waiting = [self]
+            while waiting:
+                at: Any = waiting.pop()
+                while at is not NIL:
+                    if isinstance(at, Joined):
+                        if at.made is None:
+                            waiting.append(at.parts[1])
+                            at = at.parts[0]
+                            continue
+                        at = at.made
+                    items.append(at.head)
+                    at = at.tail
+            self.made, self.parts = listed(items), ()
+        return self.made
+
+    head = property(lambda self: self.force().head)
+    tail = property(lambda self: self.force().tail)
+
+
+def joined(left: Any, right: Any) -> Any:
+    if left is NIL:
+        return right
+    return left if right is NIL else Joined(left, right)
+
+
+def curried(function: Callable[..., Any], count: int, *given: Any) -> Any:
+    """A function of so many arguments, some of them given, as one that takes the others one at a time."""
+    if len(given) == count:
+        return function(*given)
+    return lambda argument: curried(function, count, *given, argument)
+
+
+NONE = Made("None")
+
+
+def some(value: Any) -> Made:
+    return Made("Some", (value,))
+
+
+def drop(count: int, items: Any) -> Any:
+    while count > 0 and items is not NIL:
+        items, count = items.tail, count - 1
+    return items
+
+
+def slice_index_or(items: Any, index: int, default: Any) -> Any:
+    rest = drop(index, items)
+    return default if rest is NIL else rest.head
+
+
+def slice_get(items: Any, index: int) -> Made:
+    rest = drop(index, items)
+    return NONE if rest is NIL else some(rest.head)
+
+
+def slice_set(items: Any, index: int, value: Any) -> Any:
+    rest = drop(index, items)
+    return items if rest is NIL else listed(itertools.islice(items, index), Pair(value, rest.tail))
+
+
+def find(test: Callable[[Any], bool], items: Any) -> Made:
+    return next((some(item) for item in items if test(item)), NONE)
+
+
+def option_map(function: Callable[[Any], Any], value: Made) -> Made:
+    return NONE if value.tag == "None" else some(function(value.args[0]))
+
+
+def option_and_then(function: Callable[[Any], Made], value: Made) -> Made:
+    return NONE if value.tag == "None" else function(value.args[0])
+
+
+def unwrap_or(value: Made, default: Any) -> Any:
+    return default if value.tag == "None" else value.args[0]
+
+
+def without_plus(text: Any) -> Any:
+    return text.tail if text is not NIL and text.head == 43 else text
+
+
+def digits_value(base: int, text: Any) -> int:
+    value = 0
+    for byte in text:
+        value = value * base + int(chr(byte), 36)
+    return value
+
+
+def slice_cmp(rank: Any, left: Any, right: Any) -> Made:
+    """The first pair that is not equal decides, and else the lengths do."""
+    while left is not NIL and right is not NIL:
+        answer = rank(left.head)(right.head)
+        if answer.tag != "Equal":
+            return Made(answer.tag)
+        left, right = left.tail, right.tail
+    return Made("Equal" if left is right else "Less" if left is NIL else "Greater")
+
+
+def is_unsigned_in(least: int, most: int, text: Any) -> bool:
+    """Whether a text is a number in decimal digits, with at most one `+` in front, in this range."""
+    digits = bytes(without_plus(text)).decode("latin-1")
+    return digits.isascii() and digits.isdigit() and least <= int(digits) <= most
+
+
+def from_bytes(width: int, items: Any) -> int:
+    return int.from_bytes(bytes([*items, *[0] * width][:width]), "big")
+
+
+def to_bytes(width: int, value: int) -> Any:
+    return listed((value % 256 ** width).to_bytes(width, "big"))
+
+
+# Each function of the libraries by name: how many arguments it takes, and what it gives.
+LIBRARY: dict[str, tuple[int, Callable[..., Any]]] = {
+    "length": (1, lambda xs: sum(1 for _ in xs)),
+    "map": (2, lambda f, xs: listed(f(x) for x in xs)),
+    "reverse": (1, lambda xs: listed(reversed(list(xs)))),
+    "take": (2, lambda n, xs: listed(itertools.islice(xs, n))),
+    "drop": (2, drop),
+    "replicate": (2, lambda n, x: listed([x] * n)),
+    "filter": (2, lambda p, xs: listed(x for x in xs if p(x))),
+    "flat_map": (2, lambda f, xs: listed(y for x in xs for y in f(x))),
+    "list_all": (2, lambda p, xs: all(p(x) for x in xs)),
+    "list_any": (2, lambda p, xs: any(p(x) for x in xs)),
+    "count_by": (2, lambda p, xs: sum(1 for x in xs if p(x))),
+    "find": (2, find),
+    "take_while": (2, lambda p, xs: listed(itertools.takewhile(p, xs))),
+    "prefix_len": (2, lambda p, xs: sum(1 for _ in itertools.takewhile(p, xs))),
+    "range_with_len": (2, lambda start, n: listed(range(start, start + n))),
+    "slice_get": (2, slice_get),
+    "slice_index": (2, lambda xs, i: slice_index_or(xs, i, 0)),
+    "slice_index_or": (3, slice_index_or),
+    "get_or": (3, slice_index_or),
+    "slice_set": (3, slice_set),
+    "is_some": (1, lambda o: o.tag == "Some"),
+    "is_none": (1, lambda o: o.tag == "None"),
+    "option_map": (2, option_map),
+    "option_and_then": (2, option_and_then),
+    "option_to_list": (1, lambda o: listed(o.args)),
+    "unwrap_or": (2, unwrap_or),
+    "option_map_or": (3, lambda f, o, d: d if o.tag == "None" else f(o.args[0])),
+    "suffix_len": (2, lambda p, xs: sum(1 for _ in itertools.takewhile(p, reversed(list(xs))))),
+    "before_first": (2, lambda p, xs: listed(itertools.takewhile(lambda x: not p(x), xs))),
+    "after_first": (2, lambda p, xs: drop(sum(1 for _ in itertools.takewhile(lambda x: not p(x), xs)) + 1, xs)),
+    "nat_cmp": (2, lambda a, b: Made("Less" if a < b else "Equal" if a == b else "Greater")),
+    "slice_cmp": (3, slice_cmp),
+    "is_unsigned_in": (3, is_unsigned_in),
+    "IsTrue": (1, lambda b: b),
+    "IsFalse": (1, lambda b: not b),
+    "IsSome": (1, lambda o: o.tag == "Some"),
+    "IsNone": (1, lambda o: o.tag == "None"),
+    "IfSome": (2, lambda o, p: o.tag == "None" or p(o.args[0])),
+    "nat_eq": (2, lambda a, b: a == b),
+    "nat_lt": (2, lambda a, b: a < b),
+    "nat_le": (2, lambda a, b: a <= b),
+    "int_lt": (2, lambda a, b: a < b),
+    "int_le": (2, lambda a, b: a <= b),
+    "int_eq": (2, lambda a, b: a == b),
+    "int_max": (2, max),
+    "int_min": (2, min),
+    "max": (2, max),
+    "min": (2, min),
+    "not": (1, lambda a: not a),
+    "cond": (3, lambda c, a, b: a if c else b),
+    "neg_ℤ": (1, lambda a: -a),
+    "pred": (1, lambda a: max(0, a - 1)),
+    "codes": (1, lambda text: listed(map(ord, text))),
+    "decimal": (1, lambda n: listed(map(ord, str(n)))),
+    "bytes_eq": (2, lambda a, b: a == b),
+    "append_known": (2, lambda o, xs: option_map(lambda c: listed(c, xs), o)),
+    "prepend_known": (2, lambda xs, o: option_map(lambda c: listed(xs, c), o)),
+    "digits_value": (2, digits_value),
+    "without_leading_plus": (1, without_plus),
+    "from_be_bytes": (2, from_bytes),
+    "to_be_bytes": (2, to_bytes),
+    "w16": (0, lambda: 2),
+    "w32": (0, lambda: 4),
+    "vec_items": (1, lambda v: v.items),
+    "fold": (3, lambda f, b, xs: _fold(f, b, xs)),
+    "string_bytes": (1, lambda s: s),
+}
+
+
+def _fold(function: Any, start: Any, items: Any) -> Any:
+    for item in items:
+        start = function(start)(item)
+    return start
+
+
+def power(base: int, exponent: int) -> int:
+    return int(base ** exponent)
+
+
+def less(left: int, right: int) -> int:
+    """A difference of natural numbers, which is never below 0."""
+    return max(0, left - right)
+
+
+def quotient(left: int, right: int) -> int:
+    return left // right if right else 0
+
+
+def remainder(left: int, right: int) -> int:
+    return left % right if right else left
+
+
+def no_clause(name: str) -> Any:
+    raise NoClause(name)

@@ -1,0 +1,514 @@
+"""Turns definitions that compute into Python, by rule.
+
+Each definition becomes one function with a test for each clause, in their order. One whose value is a type says something:
+it becomes a test where a row or a definition asks for it and it is made of equations, orders, `×`, `⊎`, `Unit` and `⊥`.
+Whatever else is not known ends the translation with file and line."""
+from __future__ import annotations
+
+import keyword
+import re
+from typing import Any
+
+import running
+from notation import Block, File, Item, NotRead, Word, is_row, signature_of
+from repository import Repository, Target
+from running import LIBRARY
+from rust import CodeItem
+from terms import FIXITY, Parser, Pattern, Term
+
+OPERATORS = {
+    "+": "({} + {})", "-": "less({}, {})", "*": "({} * {})", "/": "quotient({}, {})", "%": "remainder({}, {})",
+    "^": "power({}, {})", "+ℤ": "({} + {})", "-ℤ": "({} - {})", "*ℤ": "({} * {})", "∷": "Pair({}, {})", "++": "joined({}, {})",
+    "==": "({} == {})", "&&": "({} and {})", "||": "({} or {})", "<": "({} < {})", "≤": "({} <= {})", "≡": "({} == {})",
+    "×": "({} and {})", "⊎": "({} or {})", "≢": "({} != {})",
+}
+# Constructors that are values of Python's own.
+PLAIN = {"zero": "0", "true": "True", "false": "False", "[]": "NIL", "tt": "()", "None": "NONE", "Unit": "True", "⊥": "False"}
+
+
+def safe(name: str) -> str:
+    """A name as Python takes it."""
+    made = "".join(sign if sign.isascii() and (sign.isalnum() or sign == "_") else f"_{ord(sign):x}" for sign in name)
+    return f"{made}_" if keyword.iskeyword(made) else made
+
+
+def local(name: str) -> str:
+    return f"v_{safe(name)}"
+
+
+def label_of(name: str) -> str:
+    return f"[{name}]" if name.isdigit() else f".{safe(name)}"
+
+
+def global_name(target: Target) -> str:
+    module = target.module.removeprefix("Rattle.").replace(".specs.", ".").replace(".proofs.", ".")
+    return safe(f"{module}__{target.name}".replace(".", "_"))
+
+
+def says_only(item: Item) -> bool:
+    """Whether the value of a definition is a type."""
+    behind, unfolded, _ = signature_of(item)
+    depth, last = 0, ""
+    for word in item.words[behind + 1:unfolded]:
+        depth += (word.text in "({[") - (word.text in ")}]") if len(word.text) == 1 else 0
+        if word.text == "→" and depth == 0:
+            last = ""
+        elif not last:
+            last = word.text
+    return last == "Type"
+
+
+class Translator:
+    def __init__(self, repository: Repository):
+        self.repository = repository
+        self.made: dict[Target, str] = {}
+        self.arities: dict[Target, int] = {}
+        self.refused: dict[Target, NotRead] = {}
+        # what says something and is computed all the same, as true or false
+        self.wanted: set[Target] = set()
+
+    # ---- what names are
+
+    def parameters(self, file: File, item: Item) -> list[str]:
+        """The parameters of the sections round a definition that it takes as arguments."""
+        found = []
+        for block in item.blocks:
+            found += block_parameters(block)
+        return found
+
+    def arity(self, target: Target) -> int:
+        if target not in self.arities:
+            file, item = self.found(target)
+            parser = Parser(file.path, item.clauses[0], lambda word: self.repository.is_constructor(file, word))
+            self.arities[target] = len(self.parameters(file, item)) + len(parser.clause(item.name).patterns)
+        return self.arities[target]
+
+    def found(self, target: Target) -> tuple[File, Item]:
+        file = self.repository.known_file(target.module)
+        return file, next(it for it in file.items if it.name == target.name)
+
+    def constructor_arity(self, target: Target, name: str) -> int:
+        """How many arguments a constructor takes."""
+        if target.kind == "code":
+            return variant_size(self.repository.code(target.module)[target.name], name)
+        _, item = self.found(target)
+        return constructor_size(item, name)
+
+    # ---- definitions
+
+    def definition(self, target: Target) -> str:
+        """The Python of one definition, and of those that it needs, made once each."""
+        waiting = [target]
+        while waiting:
+            one = waiting.pop()
+            if one in self.refused:
+                raise self.refused[one]
+            if one in self.made or one.kind != "definition":
+                continue
+            file, item = self.found(one)
+            self.made[one] = ""
+            if item.kind != "definition" or is_row(item) or says_only(item) and one not in self.wanted:
+                continue
+            try:
+                self.made[one] = Body(self, file, item, one).text()
+            except NotRead as it:
+                self.refused[one] = it
+                raise
+            waiting += self.repository.definition(one).names
+        return global_name(target)
+
+    def module(self) -> str:
+        """All that was made, as the text of a Python module."""
+        head = ('"""Made from the definitions of specs/ by tools/definitions/translate.py."""\n'
+                "from running import *  # noqa: F403\n\n\n")
+        return head + "\n\n\n".join(text for text in self.made.values() if text) + "\n"
+
+
+def block_parameters(block: Block) -> list[str]:
+    """The explicit names that a section is given."""
+    words, found, at = block.head, [], 0
+    while at < len(words):
+        if words[at].text == "(":
+            at += 1
+            while words[at].text != ":":
+                found.append(words[at].text)
+                at += 1
+            depth = 1
+            while depth:
+                depth += (words[at].text == "(") - (words[at].text == ")")
+                at += 1
+        else:
+            at += 1
+    return found if block.kind == "module" else []
+
+
+def constructor_size(item: Item, name: str) -> int:
+    """The number of explicit arguments of a constructor of a `data`."""
+    line = item.constructors[name]
+    at = next(k for k, word in enumerate(item.words) if word.line == line and word.parts[-1] == name)
+    while item.words[at].text != ":":
+        at += 1
+        if at == len(item.words):
+            return 0
+    column = next(word.column for word in item.words if word.line == line)
+    depth, count, k = 0, 0, at + 1
+    while k < len(item.words) and (item.words[k].line == line or item.words[k].column > column):
+        text = item.words[k].text
+        if text == "(" and depth == 0 and names_before_colon(item.words, k):
+            count += names_before_colon(item.words, k) - 1
+        if text == "{" and depth == 0:
+            count -= 1
+        depth += (text in "({") - (text in ")}") if len(text) == 1 else 0
+        if text == "→" and depth == 0:
+            count += 1
+        elif text in ("(", "{") and depth == 1 and item.words[k - 1].text in (")", "}") and k > at + 1:
+            # `(x : A) (y : B) →`
+            count += 1
+        k += 1
+    return count
+
+
+def names_before_colon(words: list[Word], at: int) -> int:
+    """How many names `(x y : A)` binds; 0 where the bracket holds something else."""
+    k = at + 1
+    while words[k].kind == "name" and words[k].text not in (":", "→"):
+        k += 1
+    return k - at - 1 if words[k].text == ":" else 0
+
+
+def variant_size(item: CodeItem, name: str) -> int:
+    """The number of fields of a variant of an enum, or of a struct."""
+    text = re.sub(r"//.*", "", item.text)
+    match = re.search(rf"^ *{name}\b *([({{])?", text[text.index("{"):], re.M)
+    if match is None:
+        raise NotRead(f"{item.path}:{item.first}: no variant {name}")
+    if not match[1]:
+        return 0
+    inner = text[text.index("{") + match.end():]
+    depth, count, filled = 1, 0, False
+    for sign in inner:
+        depth += (sign in "({[<") - (sign in ")}]>")
+        if depth == 0:
+            break
+        if sign == "," and depth == 1:
+            count, filled = count + 1, False
+        elif not sign.isspace():
+            filled = True
+    return count + filled
+
+
+class Body:
+    """One definition on its way to Python."""
+
+    def __init__(self, translator: Translator, file: File, item: Item, target: Target):
+        self.translator, self.file, self.item, self.target = translator, file, item, target
+        self.fresh = 0
+
+    def refuse(self, word: Word, why: str) -> NotRead:
+        return NotRead(f"{self.file.path}:{word.line}: {why}: {word.text}")
+
+    def text(self) -> str:
+        item, fixed = self.item, self.translator.parameters(self.file, self.item)
+        lines: list[str] = []
+        arguments: list[str] = []
+        for words in item.clauses:
+            parser = Parser(self.file.path, words, lambda word: self.translator.repository.is_constructor(self.file, word))
+            clause = parser.clause(item.name)
+            arguments = [f"a{k}" for k in range(len(clause.patterns))]
+            tests: list[str] = []
+            bound: dict[str, str] = {name: local(name) for name in fixed}
+            lets: list[tuple[str, str]] = []
+            for argument, pattern in zip(arguments, clause.patterns, strict=True):
+                self.match(pattern, argument, tests, lets, bound)
+            inner = "        " if tests else "    "
+            if tests:
+                lines.append(f"    if {' and '.join(tests)}:")
+            lines += [f"{inner}{name} = {value}" for name, value in lets]
+            body = clause.body
+            while body.kind == "let":
+                parts: Any = body.parts
+                made = self.term(parts[1], bound)
+                lines += [f"{inner}{name} = {it}" for name, it in self.let_parts(parts[0], made, bound)]
+                body = parts[2]
+            lines.append(f"{inner}return {self.term(body, bound)}")
+            if not tests:
+                break
+        else:
+            lines.append(f"    raise NoClause({self.target.name!r})")
+        names = [*(local(name) for name in fixed), *arguments]
+        place = f"    # {self.file.path}:{item.start}"
+        return "\n".join([f"def {global_name(self.target)}({', '.join(names)}):", place, *lines])
+
+    # ---- patterns
+
+    def match(self, pattern: Pattern, value: str, tests: list[str], lets: list[tuple[str, str]], bound: dict[str, str]) -> None:
+        """Adds the tests of a pattern and what it binds."""
+        if pattern.kind == "any":
+            return
+        if pattern.kind == "variable":
+            name = pattern.word.parts[0]
+            bound[name] = local(name)
+            lets.append((local(name), value))
+        elif pattern.kind == "tuple":
+            for k, part in enumerate(pattern.parts):
+                self.match(part, f"{value}[{k}]", tests, lets, bound)
+        elif pattern.kind == "record":
+            for label, part in zip(pattern.labels, pattern.parts, strict=True):
+                self.match(part, f"{value}{label_of(label)}", tests, lets, bound)
+        else:
+            self.match_constructor(pattern, value, tests, lets, bound)
+
+    def match_constructor(self, pattern: Pattern, value: str, tests: list[str], lets: list[tuple[str, str]],
+                          bound: dict[str, str]) -> None:
+        name, parts = pattern.word.parts[-1], pattern.parts
+        known: dict[str, tuple[str, list[str]]] = {
+            "zero": (f"{value} == 0", []), "suc": (f"{value} > 0", [f"({value} - 1)"]),
+            "true": (value, []), "false": (f"not {value}", []), "tt": ("True", []),
+            "[]": (f"{value} is NIL", []), "∷": (f"{value} is not NIL", [f"{value}.head", f"{value}.tail"]),
+            "pos": (f"{value} >= 0", [value]), "negsuc": (f"{value} < 0", [f"(-1 - {value})"]),
+        }
+        own = self.resolved(pattern.word) if name not in known else None
+        if own is None and name in known:
+            test, values = known[name]
+        else:
+            test, values = f"{value}.tag == {name!r}", [f"{value}.args[{k}]" for k in range(len(parts))]
+        tests.append(test)
+        for part, inner in zip(parts, values, strict=True):
+            self.match(part, inner, tests, lets, bound)
+
+    def let_parts(self, pattern: Pattern, value: str, bound: dict[str, str]) -> list[tuple[str, str]]:
+        if pattern.kind == "variable":
+            name = pattern.word.parts[0]
+            bound[name] = local(name)
+            return [(local(name), value)]
+        self.fresh += 1
+        whole = f"t{self.fresh}"
+        lets: list[tuple[str, str]] = []
+        self.match(pattern, whole, [], lets, bound)
+        return [(whole, value), *lets]
+
+    # ---- terms
+
+    def term(self, term: Term, bound: dict[str, str]) -> str:
+        parts: Any = term.parts
+        match term.kind:
+            case "number":
+                return str(int(term.word.text.replace("_", ""), 0))
+            case "text":
+                return term.word.text
+            case "name":
+                return self.applied(term, [], bound)
+            case "apply":
+                arguments: list[Term] = []
+                head: Term = term
+                while head.kind == "apply":
+                    inner: Any = head.parts
+                    arguments.insert(0, inner[1])
+                    head = inner[0]
+                return self.applied(head, arguments, bound)
+            case "operator":
+                return self.operator(term, bound)
+            case "choice":
+                return f"({self.term(parts[1], bound)} if {self.term(parts[0], bound)} else {self.term(parts[2], bound)})"
+            case "tuple":
+                return f"({', '.join(self.term(it, bound) for it in parts)})"
+            case "field":
+                return f"{self.term(parts[0], bound)}{label_of(term.word.text)}"
+            case "record":
+                fields = ", ".join(f"{safe(label)}={self.term(value, bound)}" for label, value in parts[1])
+                return f"updated({self.term(parts[0], bound)}, {fields})" if parts[0] else f"Record({fields})"
+            case "function":
+                return self.function(parts[0], parts[1], bound)
+            case "let":
+                inside = dict(bound)
+                lets = self.let_parts(parts[0], self.term(parts[1], bound), inside)
+                return self.let(lets, self.term(parts[2], inside))
+            case "elim":
+                return self.elim(term, bound)
+        raise self.refuse(term.word, f"a {term.kind}")
+
+    def let(self, lets: list[tuple[str, str]], body: str) -> str:
+        for name, value in reversed(lets):
+            body = f"(lambda {name}: {body})({value})"
+        return body
+
+    def function(self, binders: tuple[Pattern, ...], body: Term, bound: dict[str, str]) -> str:
+        inside = dict(bound)
+        names: list[str] = []
+        lets: list[tuple[str, str]] = []
+        for pattern in binders:
+            self.fresh += 1
+            name = local(pattern.word.parts[0]) if pattern.kind == "variable" else f"t{self.fresh}"
+            names.append(name)
+            if pattern.kind == "variable":
+                inside[pattern.word.parts[0]] = name
+            else:
+                self.match(pattern, name, [], lets, inside)
+        made = self.let(lets, self.term(body, inside))
+        for name in reversed(names):
+            made = f"(lambda {name}: {made})"
+        return made
+
+    def elim(self, term: Term, bound: dict[str, str]) -> str:
+        matched, cases = term.parts
+        self.fresh += 1
+        value = f"m{self.fresh}"
+        made = f"no_clause({self.target.name!r})"
+        for case in reversed(cases):  # type: ignore[call-overload]
+            tests: list[str] = []
+            lets: list[tuple[str, str]] = []
+            inside = dict(bound)
+            self.match(case.patterns[0], value, tests, lets, inside)
+            body = self.let(lets, self.term(case.body, inside))
+            made = f"({body} if {' and '.join(tests) or 'True'} else {made})"
+        function = f"(lambda {value}: {made})"
+        return f"{function}({self.term(matched, bound)})" if matched else function  # type: ignore[arg-type]
+
+    def operator(self, term: Term, bound: dict[str, str]) -> str:
+        left, right = (self.term(it, bound) for it in term.parts)  # type: ignore[arg-type]
+        own = self.translator.repository.resolve(self.file, (term.word.text,), term.word.line)
+        if own and own.kind == "definition":
+            return f"{global_name(own)}({left}, {right})"
+        if term.word.text not in OPERATORS:
+            raise self.refuse(term.word, "an operator that does not compute")
+        return OPERATORS[term.word.text].format(left, right)
+
+    # ---- names
+
+    def resolved(self, word: Word) -> Target | None:
+        return self.translator.repository.resolve(self.file, tuple(word.parts), word.line)
+
+    def applied(self, head: Term, arguments: list[Term], bound: dict[str, str]) -> str:
+        made = [self.term(it, bound) for it in arguments]
+        if head.kind != "name":
+            return self.calls(self.term(head, bound), made)
+        word = head.word
+        first, *rest = word.parts
+        if first in bound:
+            return self.calls(bound[first] + "".join(map(label_of, rest)), made)
+        target, count = self.path(word)
+        fields = "".join(map(label_of, word.parts[count:]))
+        if target and fields and self.is_record(target):
+            # a field as a function
+            return self.calls(f"(lambda it: it{fields})", made)
+        if target is None:
+            name = word.parts[-1]
+            if name in PLAIN:
+                return PLAIN[name]
+            raise self.refuse(word, "a word of the notation that does not compute")
+        value = self.value(target, word.parts[count - 1], word, made if not fields else [])
+        return self.calls(value + fields, made) if fields else value
+
+    def calls(self, function: str, arguments: list[str]) -> str:
+        return function + "".join(f"({it})" for it in arguments)
+
+    def path(self, word: Word) -> tuple[Target | None, int]:
+        """What a path means, and how many of its parts say so; fields stand behind."""
+        repository, parts = self.translator.repository, tuple(word.parts)
+        for count in range(len(parts), 0, -1):
+            try:
+                target = repository.resolve(self.file, parts[:count], word.line)
+            except NotRead:
+                continue
+            if target is None or count == 1:
+                return target, count
+            if self.means(target, parts[count - 1]):
+                return target, count
+        raise self.refuse(word, "what does this name mean")
+
+    def means(self, target: Target, name: str) -> bool:
+        """Whether the last part of a path is the definition, or a constructor or variant of it, and no field."""
+        if target.name == name:
+            return True
+        if target.kind == "definition":
+            _, item = self.translator.found(target)
+            return name in item.constructors
+        return target.kind == "code" and self.translator.repository.code(target.module)[target.name].kind == "enum"
+
+    def is_record(self, target: Target) -> bool:
+        """Whether a name is a type whose values have fields."""
+        if target.kind == "code":
+            return self.translator.repository.code(target.module)[target.name].kind == "struct"
+        return target.kind == "definition" and self.translator.found(target)[1].kind == "record"
+
+    def value(self, target: Target, name: str, word: Word, arguments: list[str]) -> str:
+        """A name applied to what it is given."""
+        if target.kind == "library":
+            return self.library(target, name, word, arguments)
+        if target.kind == "code":
+            if self.translator.repository.code(target.module)[target.name].kind == "const":
+                return str(constant(self.translator.repository, target.module, target.name))
+            return self.constructed(target, name, arguments)
+        if name != target.name:
+            return self.constructed(target, name, arguments)
+        file, item = self.translator.found(target)
+        if item.kind != "definition":
+            raise self.refuse(word, "a type where a value is wanted")
+        if says_only(item) and target not in self.translator.wanted:
+            self.translator.wanted.add(target)
+            self.translator.made.pop(target, None)
+            self.translator.definition(target)
+        if file is self.file:
+            shared = [name for block in item.blocks if block in self.item.blocks for name in block_parameters(block)]
+            arguments = [*map(local, shared), *arguments]
+        return self.call(global_name(target), self.translator.arity(target), arguments)
+
+    def call(self, function: str, count: int, arguments: list[str]) -> str:
+        if len(arguments) < count:
+            return f"curried({', '.join([function, str(count), *arguments])})"
+        return self.calls(f"{function}({', '.join(arguments[:count])})", arguments[count:])
+
+    def constructed(self, target: Target, name: str, arguments: list[str]) -> str:
+        count = self.translator.constructor_arity(target, name)
+        if len(arguments) == count:
+            inner = "".join(f"{it}, " for it in arguments)
+            return f"Made({name!r}, ({inner}))"
+        names = [f"c{k}" for k in range(count)]
+        function = f"(lambda {', '.join(names)}: Made({name!r}, ({''.join(f'{it}, ' for it in names)})))"
+        return f"curried({', '.join([function, str(count), *arguments])})"
+
+    def library(self, target: Target, name: str, word: Word, arguments: list[str]) -> str:
+        if name in PLAIN and not arguments:
+            return PLAIN[name]
+        if name == "suc":
+            return self.call("(lambda n: n + 1)", 1, arguments)
+        if name == "pos":
+            return self.call("(lambda n: n)", 1, arguments)
+        if name == "negsuc":
+            return self.call("(lambda n: -1 - n)", 1, arguments)
+        if name in ("Some", "Ok", "Err", "Less", "Equal", "Greater"):
+            count = 1 if name in ("Some", "Ok", "Err") else 0
+            return self.call(f"(lambda *it: Made({name!r}, it))", count, arguments)
+        plain = name.strip("◌")
+        if "◌" in name and plain in OPERATORS:
+            return self.call(f"(lambda a, b: {OPERATORS[plain].format('a', 'b')})", 2, arguments)
+        if name not in LIBRARY and ".proofs." in target.module:
+            # a proof: nothing reads it
+            return "()"
+        if name not in LIBRARY:
+            raise self.refuse(word, f"a name of {target.module} that is not known to compute")
+        return self.call(f"LIBRARY[{name!r}][1]", LIBRARY[name][0], arguments)
+
+
+def constant(repository: Repository, crate: str, name: str) -> int:
+    """The value of a constant of the code."""
+    item = repository.code(crate)[name]
+    match = re.search(r"=\s*(.*);", item.text.split("\n")[-1])
+    if match is None:
+        raise NotRead(f"{item.path}:{item.first}: a constant of another form")
+    text = re.sub(r"\bas \w+", "", match[1])
+    needed = repository.code_needed(Target("code", crate, name)).names
+    names = {it.name: constant(repository, it.module, it.name) for it in needed if it.kind == "code"}
+    if not re.fullmatch(r"[\w\s+*<>()-]*", text):
+        raise NotRead(f"{item.path}:{item.first}: a constant of another form: {text}")
+    return int(eval(text, {"__builtins__": {}}, dict(names)))
+
+
+def run(text: str) -> dict[str, Any]:
+    """Runs a module's text, and returns what it defines."""
+    space: dict[str, Any] = {name: getattr(running, name) for name in dir(running)}
+    exec(compile(text.replace("from running import *  # noqa: F403\n", ""), "<definitions>", "exec"), space)
+    return space
+
+
+assert set(OPERATORS) - {"≡"} <= set(FIXITY)
