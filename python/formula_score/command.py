@@ -27,7 +27,7 @@ Path = Union[str, "os.PathLike[str]"]
 
 
 class Located(NamedTuple):
-    """Where a tick of the file lies in each deformation that is open where a process starts: docs/POSITIONS.md.
+    """Where a tick of the file lies in each deformation that is open where a `process` starts: docs/POSITIONS.md.
 
     `start` is the tick at which the process starts. `positions` has a position for each of its `levels`, in ticks as
     they are written in the block, the outermost first; it is None where the level `never` does not come there.
@@ -41,7 +41,8 @@ class Located(NamedTuple):
 
 
 class FileEvent(NamedTuple):
-    """An event of a MIDI file: its track from 0, its tick, and its bytes, the status byte always among them."""
+    """An event of a MIDI file: its `track` from 0, its `tick` from the beginning of the file, and its bytes as
+    `message`, the status byte always among them."""
 
     track: int
     tick: int
@@ -49,7 +50,8 @@ class FileEvent(NamedTuple):
 
 
 class Listing(NamedTuple):
-    """The events of a MIDI file, track by track, and what its header says; `division` is the ticks of a quarter."""
+    """The `events` of a MIDI file, track by track; its `format`, how many `tracks` it has, and as `division` the ticks
+    of a quarter note."""
 
     format: int
     tracks: int
@@ -58,7 +60,8 @@ class Listing(NamedTuple):
 
 
 class Large(NamedTuple):
-    """A large score that was played: its processes and events, the tick of End of Track, the bytes of the file."""
+    """A large score that was played: how many `processes` and `events` it has, the tick of its End of Track as
+    `last`, and the `bytes` of the file."""
 
     processes: int
     events: int

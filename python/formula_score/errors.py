@@ -11,7 +11,7 @@ class ScoreError(ValueError):
 
 
 class BarError(ScoreError):
-    """A bar that is longer or shorter than its time signature says."""
+    """A bar that is longer or shorter than its time signature says: `bar` is its number, `why` what is wrong."""
 
     def __init__(self, bar: int, why: str):
         super().__init__(bar, why)
@@ -25,7 +25,7 @@ class BarError(ScoreError):
 
 
 class CommandError(RuntimeError):
-    """A run of the command that ended above 0."""
+    """A run of the command that ended above 0: its exit `status`, its line as `said`, and `why` in more words."""
 
     def __init__(self, status: int, said: str, why: str):
         super().__init__(status, said, why)
@@ -41,7 +41,7 @@ class CommandError(RuntimeError):
 
 
 class Refused(CommandError):
-    """A score text that has a fault."""
+    """A score text that has a fault: its `line` and `column` from 1, a column a byte, and the fault's `number`."""
 
     def __init__(self, said: str, why: str, line: int, column: int, number: int):
         super().__init__(3, said, why)
@@ -53,7 +53,7 @@ class Refused(CommandError):
 
 
 class FileRefused(CommandError):
-    """What is no MIDI file that is read."""
+    """What is no MIDI file that is read: the `byte` of its first fault, from 0, and the fault's `number`."""
 
     def __init__(self, said: str, why: str, byte: int, number: int):
         super().__init__(3, said, why)
@@ -65,7 +65,7 @@ class FileRefused(CommandError):
 
 
 class RecordRefused(CommandError):
-    """What is no record of a run to its end."""
+    """What is no record of a run to its end: the `place`, in bytes or in steps, and the fault's `number`."""
 
     def __init__(self, said: str, why: str, place: int, number: int):
         super().__init__(3, said, why)

@@ -3,19 +3,25 @@
 from __future__ import annotations
 
 from operator import itemgetter
-from typing import NamedTuple, Optional
+from typing import NamedTuple, Optional, Sequence, Union
 
 from .nodes import Block, Message, Music, Note, Par, Phrase, Repeat, Rest, Warp
-from .shapes import Curve
+from .shapes import Curve, Part
 
 DEFAULT_GATE, DEFAULT_VELOCITY, RELEASE_VELOCITY = 90, 64, 64
 LAST_TICK, MOST_WAITING = 2 ** 40, 16
+
+#: A tick and a message, a note-off directly behind the note-ons of its note.
+Made = tuple[int, bytes]
+#: Where a warp begins in the one round it, and its shape.
+Level = tuple[int, Union[Curve, Sequence[Part]]]
 
 _by_tick = itemgetter(0)
 
 
 class Event(NamedTuple):
-    """A channel voice message with its tick; `process` and `number` in it order what falls on one tick."""
+    """A channel voice message: its `tick`, of which a quarter note has as many as the score's division says, and its
+    bytes as `message`; `process` and `number` in it order what falls on one tick."""
 
     tick: int
     process: int
@@ -35,20 +41,16 @@ class _List:
 
 
 class _Process:
-    """Where a process is, in the innermost warp, what is in force there, and what it has played."""
+    """Where a process is, in the innermost warp, and what is in force there."""
 
     def __init__(self, number: int, position: int, channel: int, lists: tuple[tuple[str, _List], ...],
-                 levels: tuple[tuple[int, Curve], ...]):
+                 levels: tuple[Level, ...]):
         self.number, self.position, self.channel = number, position, channel
         self.lists = tuple((kind, _List(each.values)) for kind, each in lists)
-        self.levels = levels  # of each open warp, from the outside, where it begins and its curve
-        self.played: list[Event] = []
-        self.waiting: list[tuple[int, bytes]] = []  # note-offs, those of earlier notes first
+        self.levels = levels
 
     def outside(self, position: int, onset: bool) -> int:
-        for begun, curve in reversed(self.levels):
-            position = begun + curve.outside(position if onset else min(position, LAST_TICK), onset)
-        return position
+        return outside(self.levels, position, onset) if self.levels else position
 
     def entry(self, kind: str, otherwise: int) -> int:
         for named, each in reversed(self.lists):
@@ -56,43 +58,30 @@ class _Process:
                 return each.take()
         return otherwise
 
-    def add(self, tick: int, message: bytes) -> None:
-        self.played.append(Event(tick, self.number, len(self.played), message))
-
-    def release(self, tick: int, room: int) -> None:
-        """Plays the note-offs that are due, then those that wait longest, until no more than `room` wait."""
-        if self.waiting:
-            due = [each for each in self.waiting if each[0] <= tick]
-            if due:
-                due.sort(key=_by_tick)
-                for each in due:
-                    self.add(*each)
-                self.waiting = [each for each in self.waiting if each[0] > tick]
-            while len(self.waiting) > room:
-                self.add(tick, self.waiting.pop(0)[1])
-
 
 class _Player:
     def __init__(self) -> None:
-        self.processes: list[_Process] = []
-        self.messages: dict[tuple[int, int, int], bytes] = {}  # each once, however often it is played
+        self.made: list[list[Made]] = []
+        self.ends: dict[int, int] = {}
+        self.messages: dict[tuple[int, ...], bytes] = {}  # each once, however often it is played
 
     def start(self, position: int, like: Optional[_Process]) -> _Process:
-        number = len(self.processes)
-        process = (_Process(0, position, 0, (), ()) if like is None
-                   else _Process(number, position, like.channel, like.lists, like.levels))
-        self.processes.append(process)
-        return process
+        number = len(self.made)
+        self.made.append([])
+        if like is None:
+            return _Process(0, position, 0, (), ())
+        return _Process(number, position, like.channel, like.lists, like.levels)
 
-    def message(self, status: int, first: int, second: int) -> bytes:
-        found = self.messages.get((status, first, second))
-        if found is None:
-            found = self.messages[status, first, second] = bytes((status, first, second))
-        return found
+    def add(self, now: _Process, tick: int, status: int, *data: int) -> None:
+        key = (status | now.channel, *data)
+        message = self.messages.get(key)
+        if message is None:
+            message = self.messages[key] = bytes(key)
+        self.made[now.number].append((tick, message))
 
     def end(self, now: _Process) -> int:
         """Ends the process where it is, and gives its position."""
-        now.release(now.outside(now.position, True), 0)
+        self.ends[now.number] = now.outside(now.position, True)
         return now.position
 
     def play(self, items: tuple[Music, ...], now: _Process) -> _Process:
@@ -103,7 +92,7 @@ class _Player:
             elif isinstance(item, Rest):
                 now.position += item.ticks
             elif isinstance(item, Message):
-                self.control(item, now)
+                self.message(item, now)
             else:
                 now = self.opened(item, now)
         return now
@@ -130,25 +119,23 @@ class _Player:
 
     def note(self, item: Note, now: _Process) -> None:
         percent, loud = now.entry("artic", DEFAULT_GATE), now.entry("loud", DEFAULT_VELOCITY)
-        begin, end = now.position, now.position + item.ticks * percent // 100
-        now.position += item.ticks
-        if now.levels:
-            begin, end = now.outside(begin, True), now.outside(end, False)
-        now.release(begin, MOST_WAITING - len(item.pitches))
+        length = item.ticks
+        begin = now.outside(now.position, True)
+        end = max(begin, now.outside(now.position + length * percent // 100, False))
         for pitch in item.pitches:
-            now.add(begin, self.message(0x90 | now.channel, pitch, loud))
+            self.add(now, begin, 0x90, pitch, loud)
         for pitch in item.pitches:
-            now.waiting.append((max(begin, end), self.message(0x80 | now.channel, pitch, RELEASE_VELOCITY)))
+            self.add(now, end, 0x80, pitch, RELEASE_VELOCITY)
+        now.position += length
 
-    def control(self, item: Message, now: _Process) -> None:
+    def message(self, item: Message, now: _Process) -> None:
         tick = now.outside(now.position, True)
-        now.release(tick, MOST_WAITING)
         if item.kind == "control":
-            now.add(tick, self.message(0xB0 | now.channel, item.controller, item.value))
+            self.add(now, tick, 0xB0, item.controller, item.value)
         elif item.kind == "program":
-            now.add(tick, bytes((0xC0 | now.channel, item.value)))
+            self.add(now, tick, 0xC0, item.value)
         else:
-            now.add(tick, self.message(0xE0 | now.channel, (item.value + 8192) & 127, (item.value + 8192) >> 7))
+            self.add(now, tick, 0xE0, (item.value + 8192) & 127, (item.value + 8192) >> 7)
 
     def block(self, item: Block, now: _Process) -> _Process:
         channel, lists = now.channel, now.lists
@@ -164,9 +151,51 @@ class _Player:
         return after
 
 
+def outside(levels: Sequence[Level], position: int, onset: bool) -> int:
+    """Where a position of the innermost level lies in the file; `levels` are where each begins, and its shape."""
+    for begun, shape in reversed(levels):
+        curve = shape if isinstance(shape, Curve) else Curve(shape)
+        position = begun + curve.outside(position if onset else min(position, LAST_TICK), onset)
+    return position
+
+
+def come_out(made: Sequence[Made], end: int) -> list[Made]:
+    """What one process plays to its end. Its note-offs wait for their ticks: before each other message comes what is
+    due, before the note-ons of a note the longest waiting where there is no room, and the rest at the end."""
+    out: list[Made] = []
+    waiting: list[Made] = []
+    row = 0  # how many note-ons of this note have still to come
+    for place, each in enumerate(made):
+        kind = each[1][0] >> 4
+        if kind == 8:
+            waiting.append(each)
+            continue
+        if kind == 9 and row == 0:
+            row = next((n for n in range(1, MOST_WAITING) if place + n == len(made) or made[place + n][1][0] >> 4 != 9),
+                       MOST_WAITING)
+        waiting = _release(out, waiting, each[0], MOST_WAITING - row)
+        row -= kind == 9
+        out.append(each)
+    _release(out, waiting, end, 0)
+    return out
+
+
+def _release(out: list[Made], waiting: list[Made], tick: int, room: int) -> list[Made]:
+    """Plays the note-offs that are due, then those that wait longest, until no more than `room` wait."""
+    if waiting:
+        due = [each for each in waiting if each[0] <= tick]
+        if due:
+            out += sorted(due, key=_by_tick)
+            waiting = [each for each in waiting if each[0] > tick]
+        while len(waiting) > room:
+            out.append((tick, waiting.pop(0)[1]))
+    return waiting
+
+
 def events_of(items: tuple[Music, ...]) -> list[Event]:
     """All events of the items, in the order of the file."""
     player = _Player()
     player.end(player.play(items, player.start(0, None)))
     # those of a process stand in the order of their ticks, and what falls on one tick goes by the processes
-    return sorted((event for process in player.processes for event in process.played), key=_by_tick)
+    return sorted((Event(tick, process, number, message) for process, made in enumerate(player.made)
+                   for number, (tick, message) in enumerate(come_out(made, player.ends[process]))), key=_by_tick)

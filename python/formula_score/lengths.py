@@ -6,7 +6,7 @@ import re
 import sys
 from fractions import Fraction
 from numbers import Rational
-from typing import Union
+from typing import SupportsIndex, Union
 
 from .errors import ScoreError
 from .values import MOST_ITEMS, index, shown, whole
@@ -18,7 +18,8 @@ WHOLE_NOTE = 4 * DIVISION
 MAX_LENGTH = 1_000_000
 MIN_DIVISION, MAX_DIVISION = 24, 960
 
-LengthLike = Union[Fraction, str, int]
+#: What a length may be given as: `Fraction(3, 8)`, `"3/8"`, or a whole number of whole notes.
+LengthLike = Union[Fraction, str, SupportsIndex]
 #: Ticks of 480 a quarter note, exactly.
 Exact = Union[int, Fraction]
 
@@ -38,7 +39,7 @@ def _place() -> str:
     return f"{frame.f_code.co_filename}:{frame.f_lineno}"
 
 
-def ticks(number: int, division: int = DIVISION) -> Fraction:
+def ticks(number: SupportsIndex, division: SupportsIndex = DIVISION) -> Fraction:
     """The length of so many ticks, of which a quarter note has 480, or as many as the division says."""
     of = whole("a division", division, MIN_DIVISION, MAX_DIVISION)
     return Fraction(whole("a number of ticks", number, 0, MAX_LENGTH), 4 * of)
@@ -62,7 +63,8 @@ def exact_ticks(length: LengthLike) -> Exact:
     part = part_of(length)
     exact = part * WHOLE_NOTE
     if not 0 <= exact <= MAX_LENGTH:
-        raise ScoreError(f"lengths go from 0 to 1,000,000 ticks, which are 520 whole notes, and {shown(length)} does not")
+        raise ScoreError("lengths go from 0 to 1,000,000 ticks, which are 520 whole notes, and "
+                         f"{shown(length)} does not")
     if exact.denominator == 1:
         return int(exact)
     if all(4 * division % part.denominator for division in range(MIN_DIVISION, MAX_DIVISION + 1)):
@@ -100,7 +102,7 @@ def triplet(length: LengthLike) -> Fraction:
     return part_of(length) * Fraction(2, 3)
 
 
-def euclid(hits: int, steps: int, rotate: int = 0) -> list[bool]:
+def euclid(hits: SupportsIndex, steps: SupportsIndex, rotate: SupportsIndex = 0) -> list[bool]:
     """A Euclidean rhythm: the hits as evenly over the steps as they go, from a hit on: `euclid(3, 8)` is x..x..x."""
     count = whole("a number of steps", steps, 1, MOST_ITEMS)
     struck = whole("a number of hits", hits, 0, count)

@@ -2,7 +2,7 @@
 
 from __future__ import annotations
 
-from typing import Union
+from typing import SupportsIndex, Union
 
 from .pitch import Pitch
 from .values import known, whole
@@ -42,7 +42,7 @@ DRUM_CHANNEL = 9
 DYNAMICS = {"ppp": 16, "pp": 33, "p": 49, "mp": 64, "mf": 80, "f": 96, "ff": 112, "fff": 127}
 
 
-def instrument_number(name: Union[str, int]) -> int:
+def instrument_number(name: Union[str, SupportsIndex]) -> int:
     """The program of an instrument by its name, counted from 0: the flute is 73."""
     if isinstance(name, str):
         return INSTRUMENTS.index(known("instrument", name, INSTRUMENTS))
@@ -54,7 +54,7 @@ def drum(name: str) -> Pitch:
     return DRUMS[known("drum", name, DRUMS)]
 
 
-def velocity(loudness: Union[str, int]) -> int:
+def velocity(loudness: Union[str, SupportsIndex]) -> int:
     """The velocity of a dynamic, `pp` to `ff`, or the number itself, 1 to 127."""
     if isinstance(loudness, str):
         return DYNAMICS[known("dynamic", loudness, DYNAMICS)]

@@ -3,17 +3,17 @@
 from __future__ import annotations
 
 from fractions import Fraction
-from typing import Iterable, Optional, Sequence, Union
+from typing import Iterable, Optional, SupportsIndex, Union
 
 from .errors import BarError, ScoreError
 from .lengths import WHOLE_NOTE, Exact, LengthLike, exact_ticks, written
 from .midi import DRUM_CHANNEL, instrument_number, velocity
 from .nodes import (
-    KEYWORDS, MAX_COUNT, MAX_ENTRIES, MAX_PITCHES, Block, Held, Message, Music, Note, Par, Phrase, Repeat, Rest, Seq,
-    Warp, body_of, first_of_all, music,
+    KEYWORDS, MAX_COUNT, MAX_ENTRIES, MAX_PITCHES, Block, Held, Message, Music, Note, Par, Phrase, Repeat, Rest,
+    Seq, Warp, as_int, body_of, first_of_all, music,
 )
 from .pitch import Pitch, PitchLike
-from .shapes import Change, Curve, Part, Swing, Tempo, shape_of, stretch_of
+from .shapes import Change, Curve, Number, Part, Swing, Tempo, shape_of, stretch_of
 from .values import index, listed, real, shown, truth, whole
 
 __all__ = [
@@ -24,7 +24,7 @@ __all__ = [
 ]
 
 
-def deformed(parts: Sequence[Part], position: int, onset: bool) -> int:
+def deformed(parts: Iterable[Part], position: int, onset: bool) -> int:
     """Where a position inside a warp lies outside: of what begins there (onset), or of a note that ends there."""
     return Curve(parts).outside(position, onset)
 
@@ -42,19 +42,19 @@ def rest(length: LengthLike) -> Rest:
     return Rest(exact_ticks(length))
 
 
-def control(controller: int, value: int) -> Message:
+def control(controller: SupportsIndex, value: SupportsIndex) -> Message:
     """A control change, both 0 to 127."""
-    return Message("control", value, controller)
+    return Message("control", as_int(value), as_int(controller))
 
 
-def instrument(name: Union[str, int]) -> Message:
+def instrument(name: Union[str, SupportsIndex]) -> Message:
     """A program change to an instrument by its name in General MIDI, or by its number from 0."""
     return Message("program", instrument_number(name))
 
 
-def bend(amount: int) -> Message:
+def bend(amount: SupportsIndex) -> Message:
     """A pitch bend, -8192 to 8191; 0 is none."""
-    return Message("bend", amount)
+    return Message("bend", as_int(amount))
 
 
 def seq(*items: Music) -> Seq:
@@ -62,9 +62,9 @@ def seq(*items: Music) -> Seq:
     return Seq(items)
 
 
-def repeat(count: int, *items: Music) -> Repeat:
+def repeat(count: SupportsIndex, *items: Music) -> Repeat:
     """The items so many times, 0 to 1,000,000."""
-    return Repeat(count, items)
+    return Repeat(as_int(count), items)
 
 
 def par(*branches: Music) -> Par:
@@ -72,9 +72,9 @@ def par(*branches: Music) -> Par:
     return Par(tuple((music(branch),) for branch in branches))
 
 
-def channel(number: int, *items: Music) -> Block:
+def channel(number: SupportsIndex, *items: Music) -> Block:
     """The items on a channel, 0 to 15."""
-    return Block("channel", (number,), items)
+    return Block("channel", (as_int(number),), items)
 
 
 def drums(*items: Music) -> Block:
@@ -82,27 +82,27 @@ def drums(*items: Music) -> Block:
     return channel(DRUM_CHANNEL, *items)
 
 
-def dynamics(loudness: Union[str, int], *items: Music) -> Block:
+def dynamics(loudness: Union[str, SupportsIndex], *items: Music) -> Block:
     """The items as loud as `pp`, `mf` .. say, or by a velocity from 1 to 127."""
     return Block("volume", (_velocity(loudness),), items)
 
 
-def accents(velocities: Sequence[Union[str, int]], *items: Music) -> Block:
+def accents(velocities: Iterable[Union[str, SupportsIndex]], *items: Music) -> Block:
     """The items with a velocity for each note or chord in turn, from a list that goes round."""
     return Block("loud", tuple(map(_velocity, listed("a list of velocities", velocities, 1, MAX_ENTRIES))), items)
 
 
-def gate(percent: int, *items: Music) -> Block:
+def gate(percent: SupportsIndex, *items: Music) -> Block:
     """The items with each note sounding for so many percent of its length, 0 to 400; above 100 into the next ones."""
-    return Block("gate", (percent,), items)
+    return Block("gate", (as_int(percent),), items)
 
 
-def articulations(percents: Sequence[int], *items: Music) -> Block:
+def articulations(percents: Iterable[SupportsIndex], *items: Music) -> Block:
     """The items with a gate for each note or chord in turn, from a list that goes round."""
     return Block("artic", tuple(listed("a list of gates", percents, 1, MAX_ENTRIES)), items)  # type: ignore[arg-type]
 
 
-def crescendo(first: Union[str, int], last: Union[str, int], *items: Music) -> Block:
+def crescendo(first: Union[str, SupportsIndex], last: Union[str, SupportsIndex], *items: Music) -> Block:
     """The items from one loudness evenly to another, note by note; a diminuendo too. At most 256 notes."""
     low, rise, body = _velocity(first), _velocity(last) - _velocity(first), body_of(items)
     known: dict[int, int] = {}
@@ -113,19 +113,19 @@ def crescendo(first: Union[str, int], last: Union[str, int], *items: Music) -> B
     return Block("loud", tuple(low + (2 * rise * at + steps) // (2 * steps) for at in range(count)), body)
 
 
-def warp(parts: Sequence[Part], *items: Music) -> Warp:
+def warp(parts: Iterable[Part], *items: Music) -> Warp:
     """The items played through a shape of up to 256 parts, of `flat`, `slope`, `pause` and `breath`."""
     return Warp(shape_of(parts), items)
 
 
-def flat(length: LengthLike, by: int) -> Part:
+def flat(length: LengthLike, by: SupportsIndex) -> Part:
     """A part of one stretch, in thousandths: 2000 is half as fast."""
-    return Part("flat", exact_ticks(length), by, by)
+    return Part("flat", exact_ticks(length), as_int(by), as_int(by))
 
 
-def slope(length: LengthLike, first: int, last: int) -> Part:
+def slope(length: LengthLike, first: SupportsIndex, last: SupportsIndex) -> Part:
     """A part that goes evenly from one stretch to another: upwards a ritardando, downwards an accelerando."""
-    return Part("slope", exact_ticks(length), first, last)
+    return Part("slope", exact_ticks(length), as_int(first), as_int(last))
 
 
 def pause(length: LengthLike) -> Part:
@@ -138,17 +138,17 @@ def breath(length: LengthLike) -> Part:
     return Part("breath", exact_ticks(length))
 
 
-def tempo(beats_a_minute: float, *items: Music) -> Warp:
+def tempo(beats_a_minute: Number, *items: Music) -> Warp:
     """The items at so many quarter notes a minute, in place of 120."""
     return Warp(Tempo(_stretch_of(beats_a_minute)), items)
 
 
-def tempo_change(first: float, last: float, *items: Music) -> Warp:
+def tempo_change(first: Number, last: Number, *items: Music) -> Warp:
     """The items from one tempo evenly to another; together at most 1,000,000 ticks."""
     return Warp(Change(_stretch_of(first), _stretch_of(last)), items)
 
 
-def swing(*items: Music, unit: LengthLike = "1/8", long: float = 2 / 3) -> Warp:
+def swing(*items: Music, unit: LengthLike = "1/8", long: Number = 2 / 3) -> Warp:
     """The items with each pair of units made uneven: the first takes the part `long` of both."""
     return Warp(Swing(exact_ticks(unit), real("the long part of a swing", long)), items)
 
@@ -171,7 +171,7 @@ def melody(pitches: Union[str, Iterable[object]], lengths: Union[str, Iterable[L
     return Seq(tuple(_word(word, exact[at % len(exact)]) for at, word in enumerate(taken)))
 
 
-def hits(beats: Union[str, Iterable[bool]], pitch: PitchLike, length: LengthLike) -> Seq:
+def hits(beats: Union[str, Iterable[object]], pitch: PitchLike, length: LengthLike) -> Seq:
     """A note at each beat that is hit and a rest at the others: `hits("x..x..x.", drum("snare"), "1/8")`.
 
     In a text `x` is a hit and `.` a rest, and blanks and `|` count for nothing; a list has True and False, as
@@ -195,14 +195,14 @@ class Meter:
     `signature` is its text, and `ticks` the ticks of a bar, of which a quarter note has 480.
     """
 
-    def __init__(self, signature: str):
+    def __init__(self, signature: LengthLike):
         #: the ticks of a bar
         self.ticks: Exact = exact_ticks(signature)
         if not self.ticks:
             raise ScoreError(f"the time signature {shown(signature)} has no length")
         self.signature = str(signature)
 
-    def bars(self, *bars: Music, pickup: Optional[LengthLike] = None, first: int = 1) -> Seq:
+    def bars(self, *bars: Music, pickup: Optional[LengthLike] = None, first: SupportsIndex = 1) -> Seq:
         """The bars one after another; a `BarError` names the first that is too long or too short.
 
         With a pickup, a bar of that length stands before the first one. `first` is the first one's number.
@@ -226,7 +226,9 @@ def _word(word: object, exact: Exact) -> Music:
     if word is None:
         return Rest(exact)
     if isinstance(word, str):
-        return Rest(exact) if word == "r" else Note(tuple(map(Pitch, word.rstrip("~").split("+"))), exact, word.endswith("~"))
+        if word == "r":
+            return Rest(exact)
+        return Note(tuple(map(Pitch, word.rstrip("~").split("+"))), exact, word.endswith("~"))
     if index(word) is not None:
         return Note((Pitch(word),), exact)  # type: ignore[arg-type]
     return Note(tuple(map(Pitch, listed("a chord", word, 1, MAX_PITCHES))), exact)  # type: ignore[arg-type]

@@ -10,7 +10,7 @@ from __future__ import annotations
 import re
 from dataclasses import dataclass, replace
 from fractions import Fraction
-from typing import Iterable, Iterator, NamedTuple, NoReturn, Optional, Sequence
+from typing import Iterable, Iterator, NamedTuple, NoReturn, Optional, Sequence, SupportsIndex, cast
 
 from .errors import ScoreError
 from .lengths import MAX_LENGTH, WHOLE_NOTE, Exact, scaled
@@ -66,7 +66,7 @@ class Music:
                              "480 a quarter note: the `end` of a score with a division that holds it is its length")
         return self.exact
 
-    def transpose(self, semitones: int) -> "Music":
+    def transpose(self, semitones: SupportsIndex) -> "Music":
         """The same with each pitch so many semitones higher; drums stay as they are."""
         index_of(semitones)
         return self
@@ -85,10 +85,15 @@ class Music:
     def __radd__(self, other: object) -> "Seq":
         refuse(other)
 
-    def __mul__(self, count: int) -> "Repeat":
-        return Repeat(count, (self,))
+    def __mul__(self, count: SupportsIndex) -> "Repeat":
+        return Repeat(as_int(count), (self,))
 
     __rmul__ = __mul__
+
+
+def as_int(number: SupportsIndex) -> int:
+    """The number as it is, for a field that reads it."""
+    return cast(int, number)
 
 
 def refuse(value: object) -> NoReturn:
@@ -117,7 +122,7 @@ def music(value: object) -> Music:
     return value
 
 
-def index_of(semitones: int) -> int:
+def index_of(semitones: SupportsIndex) -> int:
     """How far something is transposed."""
     return whole("a number of semitones", semitones, -127, 127)
 
@@ -172,7 +177,7 @@ class Note(Timed):
         self._keep(pitches=pitches, length=length_in_range("a note", self.length),
                    tied=truth("whether a note is tied", self.tied))
 
-    def transpose(self, semitones: int) -> "Note":
+    def transpose(self, semitones: SupportsIndex) -> "Note":
         by = index_of(semitones)
         return replace(self, pitches=tuple(pitch + by for pitch in self.pitches))
 
@@ -240,7 +245,7 @@ class Held(Music):
     def _with(self, items: Iterable[Music]) -> "Held":
         return replace(self, body=tuple(items))
 
-    def transpose(self, semitones: int) -> "Held":
+    def transpose(self, semitones: SupportsIndex) -> "Held":
         return self._with(item.transpose(semitones) for item in self.body)
 
     def scaled(self, by: Fraction, known_phrases: dict[int, "Phrase"]) -> "Held":
@@ -272,7 +277,8 @@ class Repeat(Held):
     def __post_init__(self) -> None:
         count = whole("a count", first_of_all("a count", self.count), 0, MAX_COUNT)
         self._hold(self.body)
-        self._keep(count=count, bar_ticks=count * self.bar_ticks, exact=None if self.exact is None else count * self.exact)
+        self._keep(count=count, bar_ticks=count * self.bar_ticks,
+                   exact=None if self.exact is None else count * self.exact)
 
     def __repr__(self) -> str:
         return f"repeat({self.count}, {_several(self.body)})"
@@ -293,7 +299,7 @@ class Par(Music):
                    bar_ticks=max(added(item.bar_ticks for item in branch) or 0 for branch in branches),
                    fine=first_fine(every))
 
-    def transpose(self, semitones: int) -> "Par":
+    def transpose(self, semitones: SupportsIndex) -> "Par":
         return Par(tuple(tuple(item.transpose(semitones) for item in branch) for branch in self.branches))
 
     def scaled(self, by: Fraction, known_phrases: dict[int, "Phrase"]) -> "Par":
@@ -329,7 +335,7 @@ class Block(Held):
         self._keep(values=values, _adds=Nesting(0, int(most > 1), 1, 1))
         self._hold(self.body)
 
-    def transpose(self, semitones: int) -> "Block":
+    def transpose(self, semitones: SupportsIndex) -> "Block":
         if self.word == "channel" and self.values == (DRUM_CHANNEL,):
             return self
         return replace(self, body=tuple(item.transpose(semitones) for item in self.body))
@@ -403,7 +409,7 @@ class Phrase(Held):
         # its text stands elsewhere, where braces begin anew
         self._keep(nesting=self.nesting._replace(braces=0))
 
-    def transpose(self, semitones: int) -> "Phrase":
+    def transpose(self, semitones: SupportsIndex) -> "Phrase":
         by = index_of(semitones)
         if by == 0:
             return self
@@ -468,7 +474,8 @@ def as_seq(item: Music) -> Seq:
 def joined(left: Seq, right: Seq) -> Seq:
     """Both as one, without a look at all they hold: `+` in a loop adds one item at a time."""
     whole_seq = object.__new__(Seq)
-    whole_seq._keep(body=left.body + right.body, nesting=Nesting(*(max(each) for each in zip(left.nesting, right.nesting))),
+    whole_seq._keep(body=left.body + right.body,
+                    nesting=Nesting(*(max(each) for each in zip(left.nesting, right.nesting))),
                     exact=added((left.exact, right.exact)), bar_ticks=added((left.bar_ticks, right.bar_ticks)),
                     fine=right.fine if left.fine is None else left.fine)
     return whole_seq
@@ -509,7 +516,7 @@ def _length(length: Exact) -> str:
 
 
 def _several(items: Iterable[object]) -> str:
-    """Some of the items, and how many more there are."""
+    """Some of the items, and how many more there are; a long one as `repeat(..)`."""
     every = list(items)
-    told = ", ".join(map(shown, every[:4]))
-    return told + (f", .. {len(every) - 4} more" if len(every) > 4 else "")
+    told = [text if len(text) <= 60 else f"{text.partition('(')[0]}(..)" for text in map(repr, every[:4])]
+    return ", ".join(told) + (f", .. {len(every) - 4} more" if len(every) > 4 else "")

@@ -3,7 +3,7 @@
 from __future__ import annotations
 
 import re
-from typing import Iterator, Union
+from typing import Iterator, SupportsIndex, Union
 
 from .errors import ScoreError
 from .values import known, shown, text, whole
@@ -26,7 +26,8 @@ CHORDS = {
     "9": (0, 4, 7, 10, 14), "maj9": (0, 4, 7, 11, 14), "m9": (0, 3, 7, 10, 14),
 }
 
-PitchLike = Union["Pitch", str, int]
+#: What a pitch may be given as: a `Pitch`, a name such as `"fs4"`, or a key from 0 to 127.
+PitchLike = Union["Pitch", str, SupportsIndex]
 
 
 class Pitch(int):
@@ -39,12 +40,12 @@ class Pitch(int):
     def __new__(cls, of: PitchLike) -> "Pitch":
         return super().__new__(cls, whole("a key", _key_of(of) if isinstance(of, str) else of, 0, 127))
 
-    def __add__(self, semitones: int) -> "Pitch":
+    def __add__(self, semitones: SupportsIndex) -> "Pitch":
         return Pitch(int(self) + _semitones(semitones))
 
     __radd__ = __add__
 
-    def __sub__(self, semitones: int) -> "Pitch":
+    def __sub__(self, semitones: SupportsIndex) -> "Pitch":
         return Pitch(int(self) - _semitones(semitones))
 
     def above(self, other: PitchLike) -> int:
@@ -59,7 +60,7 @@ class Pitch(int):
         return f"Pitch({str(self)!r})" if self >= 12 else f"Pitch({int(self)})"
 
 
-def _semitones(number: int) -> int:
+def _semitones(number: SupportsIndex) -> int:
     return whole("a number of semitones", number, -127, 127)
 
 
@@ -83,7 +84,7 @@ class Scale:
         #: a key of `MODES`
         self.mode = known("mode", mode, MODES)
 
-    def __getitem__(self, degree: int) -> Pitch:
+    def __getitem__(self, degree: SupportsIndex) -> Pitch:
         steps = MODES[self.mode]
         octave, step = divmod(_degree(degree), len(steps))
         return self.tonic + (12 * octave + steps[step])
@@ -99,7 +100,7 @@ class Scale:
     def __contains__(self, pitch: object) -> bool:
         return (int(Pitch(pitch)) - int(self.tonic)) % 12 in MODES[self.mode]  # type: ignore[arg-type]
 
-    def triad(self, degree: int) -> tuple[Pitch, ...]:
+    def triad(self, degree: SupportsIndex) -> tuple[Pitch, ...]:
         """The chord of three notes on a degree of the scale."""
         return self[degree], self[_degree(degree) + 2], self[_degree(degree) + 4]
 
@@ -107,7 +108,7 @@ class Scale:
         return f"Scale({str(self.tonic)!r}, {self.mode!r})"
 
 
-def chord(name: str, octave: int = 4, inversion: int = 0) -> tuple[Pitch, ...]:
+def chord(name: str, octave: SupportsIndex = 4, inversion: SupportsIndex = 0) -> tuple[Pitch, ...]:
     """The pitches of a chord by its name, as `chord("Am7", 3)`: a letter `A` to `G`, `#`, `b` or nothing, a kind."""
     found = re.fullmatch(r"([A-G])([#b]?)(.*)", text("the name of a chord", name))
     if not found or found.group(3) not in CHORDS:
@@ -120,5 +121,5 @@ def chord(name: str, octave: int = 4, inversion: int = 0) -> tuple[Pitch, ...]:
     return tuple(pitches[turned:] + [pitch + 12 for pitch in pitches[:turned]])
 
 
-def _degree(degree: int) -> int:
+def _degree(degree: SupportsIndex) -> int:
     return whole("a degree", degree, -128, 128)

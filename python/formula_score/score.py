@@ -6,7 +6,7 @@ import os
 from concurrent.futures import ThreadPoolExecutor
 from fractions import Fraction
 from functools import lru_cache
-from typing import Iterable, NamedTuple, Optional, Union
+from typing import Iterable, NamedTuple, Optional, SupportsIndex, Union
 
 from . import command
 from .errors import ScoreError
@@ -37,10 +37,11 @@ class Score:
     `text` is the text, and `end` the ticks up to the End of Track, of which a quarter note has as many as `division`
     says: 480, and in a score of version 2 what is chosen, 24 to 960. `body` is the music with lengths in these ticks,
     `seed` what the draws of a score depend on, and `version` 1 or 2: 2 writes running status and may have 16,384
-    processes in place of 4,096.
+    processes in place of 4,096. `event_count`, `process_count` and `step_count` are what docs/LANGUAGE.md limits.
     """
 
-    def __init__(self, *items: Music, seed: int = 0, version: int = 1, division: int = DIVISION):
+    def __init__(self, *items: Music, seed: SupportsIndex = 0, version: SupportsIndex = 1,
+                 division: SupportsIndex = DIVISION):
         #: 0 to 999,999,999
         self.seed = whole("a seed", seed, 0, 999_999_999)
         #: 1 or 2
@@ -71,9 +72,8 @@ class Score:
         return self.text
 
     def __repr__(self) -> str:
-        lines = self.text.count("\n")
-        return (f"<Score of {self.end:,} ticks, {self.event_count:,} events, {self.process_count:,} processes, "
-                f"{lines:,} lines of text>")
+        return (f"<Score of {self.end:,} ticks, {self.event_count:,} events in {self.process_count:,} "
+                f"process{'es' if self.process_count > 1 else ''}, with a text of {len(self.text):,} bytes>")
 
     def events(self) -> list[Event]:
         """All events with their ticks, in the order of the file. It takes memory for all of them."""

@@ -5,11 +5,14 @@ from __future__ import annotations
 from bisect import bisect_right
 from dataclasses import dataclass, replace
 from fractions import Fraction
-from typing import Iterable, Optional, Sequence
+from typing import Iterable, Optional, SupportsFloat, SupportsIndex, Union
 
 from .errors import ScoreError
 from .lengths import MAX_LENGTH, WHOLE_NOTE, Exact, scaled, written
 from .values import known, listed, real, shown, whole
+
+#: A number that need not be a whole one.
+Number = Union[SupportsFloat, SupportsIndex]
 
 MOST_PARTS = 256
 KINDS = ("flat", "slope", "pause", "breath")
@@ -50,12 +53,12 @@ class Part:
         return f"{self.kind} {written(self.ticks, whole_note)}{by}"
 
 
-def stretch_in_range(stretch: int) -> int:
+def stretch_in_range(stretch: SupportsIndex) -> int:
     """The stretch, which is a whole number of thousandths."""
     return whole("a stretch, in thousandths,", stretch, 1, 1_000_000)
 
 
-def stretch_of(beats_a_minute: float) -> int:
+def stretch_of(beats_a_minute: Number) -> int:
     """The stretch that makes 120 quarter notes a minute so many, rounded to thousandths."""
     beats = real("a tempo, in quarter notes a minute,", beats_a_minute)
     if not 0.12 <= beats <= 240_000:
@@ -187,9 +190,10 @@ class Curve:
         if at == len(self._stretched):
             return self._onsets_there[at] + inside
         length, first, last = self._stretched[at]
-        return self._onsets_there[at] + (2 * length * first * inside + (last - first) * inside * inside) // (2000 * length)
+        stretched = 2 * length * first * inside + (last - first) * inside * inside
+        return self._onsets_there[at] + stretched // (2000 * length)
 
 
-def shape_of(parts: Sequence[Part]) -> Fixed:
+def shape_of(parts: Iterable[Part]) -> Fixed:
     """The shape of these parts."""
     return Fixed(tuple(listed("a shape", parts, 1, MOST_PARTS)))  # type: ignore[arg-type]

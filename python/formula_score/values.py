@@ -101,9 +101,14 @@ def listed(what: str, values: object, low: int, high: int = MOST_ITEMS) -> list[
 
 
 def near(name: str, names: Iterable[str]) -> str:
-    """What may have been meant, as the end of a message: those that hold the name, else those of near spelling."""
-    every = list(names)
-    found = [each for each in every if name and name in each] or difflib.get_close_matches(name, every, 3, 0.5)
+    """What may have been meant, as the end of a message: those that hold the name, else those with a word that begins
+    like it, else those of near spelling."""
+    every, letters = list(names), "".join(filter(str.isalnum, name.lower()))
+    if not letters:
+        return ""
+    found = ([each for each in every if letters in "".join(filter(str.isalnum, each))]
+             or [each for each in every if any(word.startswith(letters[:3]) for word in each.split())]
+             or difflib.get_close_matches(name.lower(), every, 3, 0.5))
     return f"; is it {' or '.join(found[:6])}?" if found else ""
 
 
@@ -111,6 +116,6 @@ def known(what: str, name: object, names: Iterable[str]) -> str:
     """The name, which has to be one of these."""
     every = list(names)
     if not isinstance(name, str) or name not in every:
-        told = near(name.lower(), every) if isinstance(name, str) and len(name) < _SHOWN else ""
+        told = near(name, every) if isinstance(name, str) and len(name) < _SHOWN else ""
         raise ScoreError(f"there is no {what} {shown(name)}{told or '; there are ' + ', '.join(every)}")
     return name

@@ -2,20 +2,22 @@
 
 from __future__ import annotations
 
+import importlib
 import os
 import pathlib
 import subprocess
 import sys
 import tempfile
 import unittest
-from typing import Optional
+from typing import Any, Optional
 
 from formula_score import Score
 
 TOP = pathlib.Path(__file__).resolve().parents[2]
 sys.path.insert(0, str(TOP / "tools" / "score_model"))
 
-import score_model  # type: ignore[import-not-found]  # noqa: E402
+#: The player in tools/ that reads texts, and is no part of the library.
+score_model: Any = importlib.import_module("score_model")
 
 _BUILT = TOP / "crates" / "fm_main" / "out" / "fm_main"
 PROGRAM: Optional[str] = os.environ.get("FORMULA") or (str(_BUILT) if _BUILT.exists() else None)

@@ -7,7 +7,7 @@ import pathlib
 import re
 import tempfile
 import unittest
-from typing import Any
+from typing import Any, Callable
 
 import formula_score
 from formula_score import (
@@ -21,7 +21,8 @@ from .program import PROGRAM, TOP, foretold, needs_program
 EXAMPLES = TOP / "examples"
 ONE = Score(note("c4", "1/4"))
 #: README's first score.
-ONE_FILE = bytes.fromhex("4D546864 00000006 0000 0001 01E0 4D54726B 00000014 00FF510307A120 00903C40 8330803C40 30FF2F00")
+ONE_FILE = bytes.fromhex("4D546864 00000006 0000 0001 01E0 4D54726B 00000014"
+                         "00FF510307A120 00903C40 8330803C40 30FF2F00")
 
 
 def digits(name: str) -> bytes:
@@ -32,7 +33,8 @@ def digits(name: str) -> bytes:
 class Options(unittest.TestCase):
     def test_they_have_names_and_types_and_are_told_by_help(self) -> None:
         names = ["workers", "lead", "room", "rounds", "parts", "from_", "to", "record"]
-        for call in (play, render, large, Score.play, Score.render):
+        calls: tuple[Callable[..., object], ...] = (play, render, large, Score.play, Score.render)
+        for call in calls:
             options = [option for option in inspect.signature(call).parameters.values()
                        if option.kind is inspect.Parameter.KEYWORD_ONLY]
             self.assertEqual([option.name for option in options], names, call)
@@ -45,8 +47,8 @@ class Options(unittest.TestCase):
         self.assertEqual(words_of(parts=True), ["--parts"])
         self.assertEqual(words_of(from_=0, to=1920), ["--from", "0", "--to", "1920"])
         wrong: Any
-        for wrong in (dict(workers=17), dict(workers=1.0), dict(workers=True), dict(room=0), dict(lead="5"), dict(to=-1),
-                      dict(parts="yes"), dict(parts=True, record=True), dict(from_=0, parts=True)):
+        for wrong in (dict(workers=17), dict(workers=1.0), dict(workers=True), dict(room=0), dict(lead="5"),
+                      dict(to=-1), dict(parts="yes"), dict(parts=True, record=True), dict(from_=0, parts=True)):
             self.assertRaises(ScoreError, words_of, **wrong)
         unknown: Any = dict(worker=1)
         self.assertRaises(TypeError, ONE.play, "out.mid", **unknown)
@@ -72,7 +74,8 @@ class Calls(unittest.TestCase):
         text = (EXAMPLES / "positions" / "two_levels.score").read_bytes()
         self.assertEqual(locate(text, 201, 1, PROGRAM), Located(1, 2, 220, (51, 42), None))
         double, half = flat(ticks(1000), 2000), flat(ticks(1000), 500)
-        score = Score(rest(ticks(100)), warp([double], rest(ticks(30)), warp([half], rest(ticks(60)), par(note("e4", 0)))))
+        inner = warp([half], rest(ticks(60)), par(note("e4", 0)))
+        score = Score(rest(ticks(100)), warp([double], rest(ticks(30)), inner))
         self.assertEqual(score.locate(201, 1, PROGRAM), Located(1, 2, 220, (51, 42), None))
         self.assertEqual(score.locate(201, program=PROGRAM), Located(0, 0, 0, (), None))
         rush = Score(rest("1/4"), warp([flat(ticks(1_000_000), 1)], par(note("c4", "1/4"))))

@@ -6,6 +6,7 @@ import shutil
 import subprocess
 import tempfile
 import unittest
+from typing import Iterator
 
 TOP = os.path.dirname(os.path.dirname(os.path.dirname(os.path.abspath(__file__))))
 VIM = os.path.join(TOP, "editors", "vim")
@@ -14,7 +15,7 @@ GRAMMAR = os.path.join(TOP, "editors", "vscode", "syntaxes", "formula.tmLanguage
 FOLDERS = [os.path.join(TOP, "examples", name) for name in ("scores", "tutorial", "long")]
 
 
-def scopes(patterns, line):
+def scopes(patterns: list[tuple[str, "re.Pattern[str]"]], line: str) -> Iterator[tuple[str, str]]:
     """Each token of a line with its scope: the leftmost match, of several there the first pattern's."""
     at = 0
     while at < len(line):
@@ -28,11 +29,11 @@ def scopes(patterns, line):
 
 
 class Editors(unittest.TestCase):
-    def setUp(self):
+    def setUp(self) -> None:
         with open(GRAMMAR, encoding="utf-8") as file:
             self.patterns = [(one["name"], re.compile(one["match"])) for one in json.load(file)["patterns"]]
 
-    def test_each_example_has_scopes_for_all_it_holds(self):
+    def test_each_example_has_scopes_for_all_it_holds(self) -> None:
         tried = 0
         for folder in FOLDERS:
             for name in sorted(os.listdir(folder)) if os.path.isdir(folder) else []:
@@ -45,7 +46,7 @@ class Editors(unittest.TestCase):
                             self.assertFalse(scope.startswith("invalid"), f"{name}:{number}: {token}")
         self.assertGreater(tried, 20)
 
-    def test_words_have_the_scopes_of_their_kind(self):
+    def test_words_have_the_scopes_of_their_kind(self) -> None:
         line = "formula 2; division 96; phrase division { note cs4, bb3 1/4; } # division 96"
         self.assertEqual(
             [scope for scope, _ in scopes(self.patterns, line)],

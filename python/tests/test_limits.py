@@ -8,7 +8,8 @@ import unittest
 from typing import Callable
 
 from formula_score import (
-    Music, Score, ScoreError, accents, channel, dynamics, note, par, pause, phrase, repeat, rest, seq, tempo, ticks, warp,
+    Music, Score, ScoreError, accents, channel, dynamics, note, par, pause, phrase, repeat, rest, seq, tempo, ticks,
+    warp,
 )
 from formula_score.music import body_of
 from formula_score.score import text_of

@@ -4,34 +4,38 @@ The library's events are compared with those of tools/score_model, a player that
 is made of them with the one that the built program writes.
 """
 
+from __future__ import annotations
+
 import random
 import unittest
 from fractions import Fraction
+from typing import Any, Callable, Sequence, Union
 
 from formula_score import (
-    DRUMS, INSTRUMENTS, Pitch, Scale, Score, accents, articulations, bend, breath, channel, chord, control, crescendo,
-    drum, drums, dynamics, euclid, flat, gate, hits, instrument, melody, note, par, pause, phrase, repeat, rest,
-    seq, slope, swing, tempo, tempo_change, ticks, warp,
+    DRUMS, INSTRUMENTS, Event, Music, Part, Pitch, Scale, Score, accents, articulations, bend, breath, channel,
+    chord, control, crescendo, drum, drums, dynamics, euclid, flat, gate, hits, instrument, melody, note, par,
+    pause, phrase, repeat, rest, seq, slope, swing, tempo, tempo_change, ticks, warp,
 )
 
-from .program import needs_program, run
-
-import score_model
+from .program import needs_program, run, score_model
 
 SCORES = 500
+Loudness = Union[str, int]
+LOUDNESSES: list[Loudness] = ["pp", "ff", 1, 127]
+ACCENTS: list[Loudness] = ["f", "p", 17]
 LENGTHS = [Fraction(a, b) for a, b in ((1, 4), (1, 8), (1, 16), (1, 12), (3, 8), (1, 2), (0, 1))] + [ticks(7)]
 
 
 class Maker:
     """Random music; names of phrases are new each time."""
 
-    def __init__(self, seed):
+    def __init__(self, seed: int):
         self.random, self.names = random.Random(seed), 0
 
-    def length(self):
+    def length(self) -> Fraction:
         return self.random.choice(LENGTHS)
 
-    def pitches(self):
+    def pitches(self) -> Any:
         r = self.random
         return r.choice([
             Pitch(r.randrange(12, 116)), Scale("d4", "dorian")[r.randrange(-9, 9)],
@@ -39,9 +43,9 @@ class Maker:
             chord(r.choice(["Am7", "C", "F#dim", "Bbmaj9"]), r.randrange(2, 6)),
         ])
 
-    def line(self):
+    def line(self) -> Music:
         r = self.random
-        return r.choice([
+        choices: list[Callable[[], Music]] = [
             lambda: note(self.pitches(), self.length()),
             lambda: seq(note("g4", "1/4", tied=True), note("g4", self.length())),
             lambda: rest(self.length()),
@@ -50,30 +54,32 @@ class Maker:
             lambda: control(r.randrange(128), r.randrange(128)),
             lambda: instrument(r.choice(INSTRUMENTS)),
             lambda: bend(r.randrange(-8192, 8192)),
-        ])()
+        ]
+        return r.choice(choices)()
 
-    def part(self):
+    def part(self) -> Part:
         r = self.random
-        return r.choice([
+        choices: list[Callable[[], Part]] = [
             lambda: flat(r.choice(LENGTHS[:6]), r.randrange(1, 3000)),
             lambda: slope(r.choice(LENGTHS[:6]), r.randrange(1, 3000), r.randrange(1, 3000)),
             lambda: pause(self.length()), lambda: breath(self.length()),
-        ])()
+        ]
+        return r.choice(choices)()
 
-    def name(self):
+    def name(self) -> str:
         self.names += 1
         return f"phrase_{self.names}"
 
-    def music(self, depth):
+    def music(self, depth: int) -> Music:
         r = self.random
         if depth == 0 or r.random() < 0.3:
             return self.line()
         inner = [self.music(depth - 1) for _ in range(r.randrange(1, 4))]
-        return r.choice([
+        choices: list[Callable[[], Music]] = [
             lambda: seq(*inner), lambda: repeat(r.randrange(4), *inner), lambda: par(*inner),
             lambda: channel(r.randrange(16), *inner), lambda: drums(*inner),
-            lambda: dynamics(r.choice(["pp", "ff", 1, 127]), *inner), lambda: gate(r.randrange(401), *inner),
-            lambda: accents(["f", "p", 17][:r.randrange(1, 4)], *inner),
+            lambda: dynamics(r.choice(LOUDNESSES), *inner), lambda: gate(r.randrange(401), *inner),
+            lambda: accents(ACCENTS[:r.randrange(1, 4)], *inner),
             lambda: articulations([r.randrange(401) for _ in range(r.randrange(1, 5))], *inner),
             lambda: warp([self.part() for _ in range(r.randrange(1, 5))], *inner),
             lambda: tempo(r.randrange(30, 300), *inner),
@@ -82,13 +88,14 @@ class Maker:
             lambda: crescendo("pp", "ff", melody("c4 d4 e4 f4", "1/8"), repeat(2, self.line(), note("a4", "1/8"))),
             lambda: seq(*[phrase(self.name(), *inner)] * 2),
             lambda: phrase(self.name(), *inner).transpose(1) if depth == 1 else seq(*inner),
-        ])()
+        ]
+        return r.choice(choices)()
 
-    def score(self):
+    def score(self) -> Score:
         return Score(*(self.music(4) for _ in range(self.random.randrange(1, 4))), seed=self.random.randrange(10**9))
 
 
-def made(seed):
+def made(seed: int) -> Score:
     """The random score of a seed; where it is out of a range, as a transposed drum may be, that of the next part."""
     maker = Maker(seed)
     while True:
@@ -98,13 +105,13 @@ def made(seed):
             continue
 
 
-def quantity(number):
+def quantity(number: int) -> bytes:
     """A variable-length quantity of the MIDI file standard."""
     low = bytes([number & 127])
     return low if number < 128 else bytes(128 | byte & 127 for byte in quantity(number >> 7)) + low
 
 
-def file_of(events, end):
+def file_of(events: Sequence[Event], end: int) -> bytes:
     """The Standard MIDI File of events, as docs/MIDI_FILE.md says; distances are below 2^28 here."""
     track, last = bytes.fromhex("00FF510307A120"), 0
     for event in events:
@@ -115,7 +122,7 @@ def file_of(events, end):
 
 
 class RandomScores(unittest.TestCase):
-    def test_the_ticks_are_those_of_a_player_that_reads_the_text(self):
+    def test_the_ticks_are_those_of_a_player_that_reads_the_text(self) -> None:
         for seed in range(SCORES):
             score = made(seed)
             events, end = score_model.played(score.text.encode())
@@ -123,7 +130,7 @@ class RandomScores(unittest.TestCase):
             self.assertEqual(score.end, end, seed)
 
     @needs_program
-    def test_the_built_program_plays_them_as_foretold(self):
+    def test_the_built_program_plays_them_as_foretold(self) -> None:
         for seed in range(SCORES):
             score = made(seed)
             status, said, file = run(score.text)

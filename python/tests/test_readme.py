@@ -7,16 +7,18 @@ import pathlib
 import re
 import tempfile
 import unittest
+from typing import Iterator
 
 from formula_score import CommandError, Refused, note, play, Score
 
 from .program import PROGRAM, TOP, needs_program, run
 
 
-def examples():
+def examples() -> Iterator[tuple[str, list[str]]]:
     """What each example prints, and the scores that it makes."""
     for text in re.findall(r"^```python\n(.*?)^```", (TOP / "python" / "README.md").read_text(), re.M | re.S):
-        printed, names, home = io.StringIO(), {}, os.getcwd()
+        printed, home = io.StringIO(), os.getcwd()
+        names: dict[str, object] = {}
         with tempfile.TemporaryDirectory() as folder:
             os.chdir(folder)
             try:
@@ -29,22 +31,22 @@ def examples():
 
 
 class Readme(unittest.TestCase):
-    def test_the_examples_run(self):
+    def test_the_examples_run(self) -> None:
         (printed, saved), (_, walk) = examples()
         self.assertEqual(printed, "4800\nEvent(tick=0, process=1, number=0, message=b'\\xc0I')\n")
         self.assertEqual((len(saved), len(walk)), (1, 1))
 
     @needs_program
-    def test_they_are_played(self):
+    def test_they_are_played(self) -> None:
         for _, saved in examples():
             self.assertEqual(run(saved[0])[:2], (0, ""))
 
-    def test_a_program_that_is_not_there_is_told(self):
+    def test_a_program_that_is_not_there_is_told(self) -> None:
         with self.assertRaisesRegex(CommandError, "/none/formula cannot be run: No such file"):
             play("formula 1;", "out.mid", "/none/formula")
 
     @needs_program
-    def test_play_writes_the_file_or_says_why_not(self):
+    def test_play_writes_the_file_or_says_why_not(self) -> None:
         with tempfile.TemporaryDirectory() as folder:
             out = pathlib.Path(folder, "out.mid")
             Score(note("c4", "1/4")).play(out, PROGRAM, workers=0)

@@ -6,15 +6,13 @@ import unittest
 from fractions import Fraction
 
 from formula_score import (
-    Meter, Score, ScoreError, breath, flat, melody, note, par, repeat, rest, seq, slope, swing, tempo, tempo_change, ticks,
-    warp,
+    Meter, Score, ScoreError, breath, flat, melody, note, par, repeat, rest, seq, slope, swing, tempo, tempo_change,
+    ticks, warp,
 )
 from formula_score.score import text_of
 
-from .program import foretold, needs_program, run
+from .program import foretold, needs_program, run, score_model
 from .test_random import Maker
-
-import score_model
 
 SCORES = 60
 DIVISIONS = (24, 96, 480, 840, 960)
@@ -46,9 +44,11 @@ def divided(seed: int, division: int) -> Score:
 class Versions(unittest.TestCase):
     def test_a_text(self) -> None:
         score = Score(melody("c4 e4 g4", [Fraction(1, 256), "1/8", ticks(5, 960)]), seed=7, version=2, division=960)
-        self.assertEqual(score.text, "formula 2;\ndivision 960;\nseed 7;\nnote c4 ticks 15; note e4 1/8; note g4 ticks 5;\n")
+        self.assertEqual(score.text, "formula 2;\ndivision 960;\nseed 7;\n"
+                                     "note c4 ticks 15; note e4 1/8; note g4 ticks 5;\n")
         self.assertEqual((score.end, [event.tick for event in score.events()]), (500, [0, 13, 15, 447, 495, 499]))
-        self.assertEqual(Score(note("c4", "1/7"), version=2, division=84).text, "formula 2;\ndivision 84;\nnote c4 1/7;\n")
+        self.assertEqual(Score(note("c4", "1/7"), version=2, division=84).text,
+                         "formula 2;\ndivision 84;\nnote c4 1/7;\n")
         self.assertEqual(Score(note("c4", "1/4"), version=2).text, "formula 2;\nnote c4 1/4;\n")
 
     def test_time_is_deformed_in_ticks_of_the_division(self) -> None:
