@@ -251,6 +251,9 @@ PermitRootLogin prohibit-password
                                  lambda: len(self.at_work("sleep 300.75")) == 1)
         self.assertEqual(ended, (130, "", "batch: interrupted: 0 of 3 scores are done; run it again for the rest\n"))
         self.until(lambda: not self.at_work("sleep 300.75"))
+        # nor is anything left there
+        there = pathlib.Path(tempfile.gettempdir())
+        self.until(lambda: not any("300.75" in path.read_text("latin-1") for path in there.glob("tmp.*/.program")))
 
     def test_a_machine_that_is_not_there_is_told(self) -> None:
         scores(self.folder, 2)
