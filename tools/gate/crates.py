@@ -1,9 +1,9 @@
 """Which crates stand on which, as crates.txt says, and what is proved one after another."""
 
 
-def read_names(path):
+def read_names(path: str) -> dict[str, list[str]]:
     """Returns for each crate all that its line names, none where there is no such file."""
-    uses = {}
+    uses: dict[str, list[str]] = {}
     try:
         with open(path, encoding="utf-8", errors="replace") as it:
             lines = it.readlines()
