@@ -55,16 +55,17 @@ class Editors(unittest.TestCase):
              "constant.other.pitch", "constant.numeric", "keyword.operator", "constant.numeric", "punctuation",
              "punctuation", "comment.line.number-sign"])
 
-    def test_vs_code_finds_the_place_in_the_line_of_a_refusal(self):
+    def test_vs_code_finds_the_place_in_the_line_of_a_refusal(self) -> None:
         with open(os.path.join(TOP, "editors", "vscode", "package.json"), encoding="utf-8") as file:
             pattern = json.load(file)["contributes"]["problemMatchers"][0]["pattern"]
         shown = REFUSED.replace("formula: score refused", "/a b/tune.score")
         match = re.match(pattern["regexp"], shown)
+        assert match is not None
         self.assertEqual([match[pattern[it]] for it in ("file", "line", "column", "message")],
                          ["/a b/tune.score", "2", "12", "fault 3"])
 
     @unittest.skipUnless(shutil.which("vim"), "vim is not installed")
-    def test_vim_jumps_to_the_place_of_a_refusal(self):
+    def test_vim_jumps_to_the_place_of_a_refusal(self) -> None:
         with tempfile.TemporaryDirectory() as folder:
             score, place = os.path.join(folder, "a tune.score"), os.path.join(folder, "place")
             command = os.path.join(folder, "refuses")
