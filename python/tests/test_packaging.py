@@ -55,7 +55,7 @@ class Package(unittest.TestCase):
                                   cwd=folder, env={"PYTHONPATH": f"{folder}/installed"}, stdout=subprocess.PIPE,
                                   text=True, check=True).stdout
         self.assertEqual((about["Version"], said), (formula_score.__version__, f"{formula_score.__version__}\n"))
-        self.assertEqual(about["License"], "No licence is granted yet")
+        self.assertEqual(about["License"], "No licence has been granted yet")
         self.assertIn("Topic :: Multimedia :: Sound/Audio :: MIDI", about.get_all("Classifier", []))
         self.assertIn("formula_score/py.typed", names)
         self.assertTrue(str(about.get_payload()).lstrip().startswith("# formula_score"))
