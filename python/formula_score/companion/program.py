@@ -1,0 +1,89 @@
+"""The program `scripts/score`, installed as `formula-score`: a verb, and what it is to work on."""
+
+from __future__ import annotations
+
+import argparse
+import importlib
+import sys
+from typing import NamedTuple, NoReturn, Optional, Sequence
+
+from .. import __version__
+from .playing import Failed
+
+VERSION = f"formula-score {__version__}"
+
+OK, FOUND, MISUSED = 0, 1, 2
+
+ABOUT = """\
+A companion of formula, the music performance compiler. It is outside the proof: what it counts, cuts, filters and
+draws is tested only. What it tells of ticks are answers of the proved program, which FORMULA names, else `formula`
+in PATH, else the one that scripts/formula builds."""
+
+STATUSES = """\
+status: 0 all is well; 1 something was found, or refused; 2 the words are no use of the verb, or a file cannot be
+read; where a verb plays (excerpt, listen, roll), the status of formula."""
+
+
+class Verb(NamedTuple):
+    """A module of this package that has `arguments(parser)` and `run(options) -> int`, and what it is for."""
+
+    module: str
+    about: str
+
+
+#: The verbs, in the order in which they are told.
+VERBS: dict[str, Verb] = {}
+
+
+class Parser(argparse.ArgumentParser):
+    """A parser whose complaint names what helps."""
+
+    def error(self, message: str) -> NoReturn:
+        self.exit(MISUSED, f"{self.prog}: {message}\ntry: {self.prog} --help\n")
+
+
+def _usage(name: str) -> str:
+    width = max(map(len, VERBS), default=0)
+    verbs = "\n".join(f"  {verb:<{width}}  {VERBS[verb].about}" for verb in VERBS)
+    return (f"usage: {name} VERB ..\n       {name} VERB --help\n       {name} --version\n\n{ABOUT}\n\nverbs:\n{verbs}\n\n"
+            f"{STATUSES}\n")
+
+
+def main(words: Optional[Sequence[str]] = None, name: str = "formula-score") -> int:
+    """Runs a verb on the words behind the program's name, and gives its status."""
+    given = list(sys.argv[1:] if words is None else words)
+    if given[:1] in (["--help"], ["-h"]):
+        print(_usage(name), end="")
+        return OK
+    if given[:1] == ["--version"]:
+        print(VERSION)
+        return OK
+    if not given or given[0] not in VERBS:
+        said = f"there is no verb {given[0]!r}" if given else "a verb is missing"
+        print(f"{name}: {said}; there are {', '.join(VERBS)}\ntry: {name} --help", file=sys.stderr)
+        return MISUSED
+    verb = VERBS[given[0]]
+    module = importlib.import_module(f".{verb.module}", __package__)
+    parser = Parser(prog=f"{name} {given[0]}", description=f"{verb.about[0].upper()}{verb.about[1:]}.",
+                    epilog=STATUSES, formatter_class=argparse.RawDescriptionHelpFormatter)
+    parser.add_argument("--version", action="version", version=VERSION)
+    module.arguments(parser)
+    try:
+        status: int = module.run(parser.parse_args(given[1:]))
+    except SystemExit as ended:
+        return int(ended.code or 0)
+    except Failed as failed:
+        if failed.said:
+            print(failed.said)
+        print(failed.why, file=sys.stderr)
+        return failed.status
+    except BrokenPipeError:
+        sys.stderr.close()
+        return FOUND
+    except KeyboardInterrupt:
+        return 130
+    return status
+
+
+if __name__ == "__main__":
+    sys.exit(main())
