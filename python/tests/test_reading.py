@@ -1,0 +1,146 @@
+"""The reading that the companion's verbs share, against the program: each event and its tick, and what is located.
+
+100 random scores; SCORES names another number. Where it is named the longest example is read, too.
+"""
+
+import os
+import pathlib
+import unittest
+from fractions import Fraction
+
+from .program import TOP, needs_program
+from .random_texts import Texts
+
+from formula_score.companion.playing import Failed, listing_of, located
+from formula_score.companion.reading import read
+from formula_score.companion.walk import Place, Played, Walk, parts_of, tick_of
+from formula_score.expected import outside
+
+SCORES = int(os.environ.get("SCORES", "100"))
+LAST = 2 ** 40
+
+
+def examples():
+    """The scores of all folders of examples."""
+    left_out = () if "SCORES" in os.environ else ("longest_rests",)
+    return [path for path in sorted(pathlib.Path(TOP, "examples").glob("*/*.score"))
+            if path.parent.name != "refused" and path.stem not in left_out]
+
+
+def positions(levels, tick):
+    """By the reading: the least position of each level that lies at what was found in the level above, or later."""
+    found = []
+    for level in parts_of(levels):
+        if outside([level], LAST, True) < tick:
+            return None
+        low, high = 0, LAST
+        while low < high:
+            middle = (low + high) // 2
+            low, high = (low, middle) if outside([level], middle, True) >= tick else (middle + 1, high)
+        found.append(low)
+        tick = low
+    return found
+
+
+@needs_program
+class Agreement(unittest.TestCase):
+    def agrees(self, text, name):
+        walk = Played(read(text))
+        walk.run()
+        listing = listing_of(text)
+        self.assertEqual([(event.tick, event.message) for event in walk.events()],
+                         [(event.tick, event.message) for event in listing.events if event.message[0] < 0xF0], name)
+        last = len(walk.begun) - 1
+        self.assertEqual(walk.tick_of_end(last), listing.end, name)
+        process = max(range(len(walk.begun)), key=lambda each: len(walk.begun[each].levels))
+        begun = walk.begun[process]
+        tick = (tick_of(begun.levels, begun.position) + listing.end) // 2
+        self.assertEqual(located(text, tick, process), positions(begun.levels, tick), (name, tick, process))
+        known = walk.reading.length(walk.reading.statements)
+        if known is not None:
+            self.assertEqual(known, walk.ended[last].written, name)
+
+    def test_every_example(self):
+        for path in examples():
+            self.agrees(path.read_bytes(), path.name)
+
+    def test_random_scores(self):
+        tried = seed = 0
+        while tried < SCORES:
+            text = Texts(seed).score()
+            seed += 1
+            try:
+                self.agrees(text.encode(), f"{seed}: {text}")
+                tried += 1
+            except Failed as refused:
+                self.assertEqual(refused.status, 3, refused.why)
+        self.assertLess(seed, 2 * SCORES)
+
+
+class Trees(unittest.TestCase):
+    TEXT = b"""formula 2; division 96; seed 7;  # begin
+# alone
+shape rit = flat 1/1 by 1000, pause ticks 5, slope 1/2 by 1000 to 2000;
+phrase tune { note c4, key (60 + r1 * 2) 1/4; rest ticks (pick(9)) max 8; }
+repeat 2 {
+  rhythm [1/4, 1/8] { play es4; skip; skip; }
+} warp rit { do tune; }
+"""
+
+    def test_places_and_comments(self):
+        reading = read(self.TEXT)
+        self.assertEqual((reading.version, reading.division, reading.seed, reading.whole), (2, 96, 7, 384))
+        self.assertEqual([(each.word, each.first.line, each.first.column, each.last.line, each.last.column)
+                          for each in reading.every_statement()],
+                         [("note", 4, 15, 4, 45), ("rest", 4, 47, 4, 73), ("repeat", 5, 1, 7, 1),
+                          ("rhythm", 6, 3, 6, 45), ("play", 6, 23, 6, 31), ("skip", 6, 33, 6, 37),
+                          ("skip", 6, 39, 6, 43), ("warp", 7, 3, 7, 23), ("do", 7, 14, 7, 21)])
+        self.assertEqual([(each.text, each.line, each.column, each.alone) for each in reading.comments],
+                         [("begin", 1, 34, False), ("alone", 2, 1, True)])
+
+    def test_lengths_that_are_known_without_playing(self):
+        reading = read(self.TEXT)
+        repeat, warp = reading.statements
+        self.assertEqual(reading.length((repeat,)), 2 * (96 + 48 + 96))
+        self.assertIsNone(reading.length((warp,)))
+        self.assertEqual(reading.fraction(reading.shapes["rit"].length), Fraction(3, 2))
+        self.assertEqual(reading.length(reading.phrases["tune"].block.statements[:1]), 96)
+
+    def test_a_list_that_goes_round_in_a_loop_is_counted_by_its_rounds(self):
+        reading = read(b"formula 1; phrase unused { rhythm [1/4, 1/8, 1/16] {"
+                       b"repeat 1000000 { repeat 1000000 { play c4; skip; } } } }")
+        # 2,000,000,000,000 entries: 666,666,666,666 times the three, and then two more
+        self.assertEqual(reading.length(reading.phrases["unused"].block.statements),
+                         666_666_666_666 * (480 + 240 + 120) + 480 + 240)
+
+    def test_operators_group_as_the_language_says(self):
+        class Values(Walk):
+            def statement(self, happening):
+                if happening.statement.word == "control":
+                    seen.append(happening.values[0])
+
+        seen = []
+        Values(read(b"formula 1; control 1 (8 - 2 - 1); control 1 (2 + 3 * 4 % 5); control 1 (-7 / 2 + 10);"
+                    b"control 1 (-7 % 4); control 1 (1 / 0); control 1 (less(1, 2) + same(3, 3) + min(4, 5));"
+                    b"control 1 (-(2 + 3) + 6);")).run()
+        self.assertEqual(seen, [5, 4, 6, 1, 0, 6, 1])
+
+    def test_places_of_what_is_played(self):
+        class Blocks(Walk):
+            def closed(self, place: Place, end: int) -> None:
+                seen.append((place.kind, place.number, place.process, place.begin, end))
+
+        seen = []
+        walk = Blocks(read(b"formula 1; shape half = flat 1/1 by 500; phrase p { rest 1/4; } do p;"
+                           b"par { branch { warp half { do p; } } branch { repeat 2 { rest 1/2; } } } rest 1/1;"))
+        walk.run()
+        self.assertEqual(seen, [("phrase", 0, 0, 0, 480), ("phrase", 0, 1, 480, 960), ("block", 0, 1, 480, 960),
+                                ("branch", 0, 1, 480, 960), ("round", 0, 2, 480, 1440), ("round", 1, 2, 1440, 2400),
+                                ("branch", 1, 2, 480, 2400), ("score", 0, 0, 0, 4320)])
+        self.assertEqual([(each.written, each.position) for each in walk.begun],
+                         [(0, 0), (480, 480), (480, 480), (2400, 2400)])
+        self.assertEqual([walk.ended[n].written for n in range(4)], [480, 960, 2400, 4320])
+
+
+if __name__ == "__main__":
+    unittest.main()
