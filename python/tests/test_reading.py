@@ -1,6 +1,6 @@
 """The reading that the companion's verbs share, against the program: each event and its tick, and what is located.
 
-100 random scores; SCORES names another number. Where it is named the longest example is read, too.
+100 random scores; SCORES names another number. Where it is named the long examples are read, too.
 """
 
 import os
@@ -22,9 +22,9 @@ LAST = 2 ** 40
 
 def examples():
     """The scores of all folders of examples."""
-    left_out = () if "SCORES" in os.environ else ("longest_rests",)
+    left_out = ("refused",) if "SCORES" in os.environ else ("refused", "long")
     return [path for path in sorted(pathlib.Path(TOP, "examples").glob("*/*.score"))
-            if path.parent.name != "refused" and path.stem not in left_out]
+            if path.parent.name not in left_out]
 
 
 def positions(levels, tick):

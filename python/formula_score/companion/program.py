@@ -32,7 +32,9 @@ class Verb(NamedTuple):
 
 
 #: The verbs, in the order in which they are told.
-VERBS: dict[str, Verb] = {}
+VERBS: dict[str, Verb] = {
+    "bars": Verb("bars", "count the bars of a score, check the comments that count them, tell the tick of a bar"),
+}
 
 
 class Parser(argparse.ArgumentParser):
@@ -45,8 +47,8 @@ class Parser(argparse.ArgumentParser):
 def _usage(name: str) -> str:
     width = max(map(len, VERBS), default=0)
     verbs = "\n".join(f"  {verb:<{width}}  {VERBS[verb].about}" for verb in VERBS)
-    return (f"usage: {name} VERB ..\n       {name} VERB --help\n       {name} --version\n\n{ABOUT}\n\nverbs:\n{verbs}\n\n"
-            f"{STATUSES}\n")
+    return (f"usage: {name} VERB ..\n       {name} VERB --help\n       {name} --version\n\n{ABOUT}\n\n"
+            f"verbs:\n{verbs}\n\n{STATUSES}\n")
 
 
 def main(words: Optional[Sequence[str]] = None, name: str = "formula-score") -> int:

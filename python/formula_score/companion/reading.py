@@ -6,6 +6,7 @@ The text has to be one that the program accepts: nothing is judged here. Lengths
 from __future__ import annotations
 
 import re
+from bisect import bisect_right
 from dataclasses import dataclass
 from fractions import Fraction
 from functools import cached_property
@@ -27,7 +28,7 @@ class Unread(ValueError):
 
 
 class Token(NamedTuple):
-    """A word, number or symbol, with its place: line and column from 1, a column a byte; its byte of the text from 0."""
+    """A word, number or symbol, with its place: line and column from 1, a column a byte; and its byte, from 0."""
 
     text: str
     line: int
@@ -46,7 +47,7 @@ class Comment(NamedTuple):
 
 @dataclass(frozen=True)
 class Expression:
-    """A number (`number`), a register or index (`r`, `n` with its number), an operator or a function with its operands.
+    """A number, a register or index with its number, an operator or a function with its operands.
 
     `of` is `number`, `r`, `n`, `negative`, `+ - * / %`, `pick`, `min`, `max`, `less` or `same`.
     """
@@ -72,8 +73,9 @@ Length = Union[int, Computed]
 
 @dataclass(frozen=True)
 class Block:
-    """Statements between braces, with both braces."""
+    """Statements between braces; `head` is the word `branch` or `phrase` before them, else the first brace."""
 
+    head: Token
     opened: Token
     closed: Token
     statements: tuple["Statement", ...]
@@ -164,6 +166,16 @@ class Reading:
         blocks = [phrase.block.statements for phrase in self.phrases.values()] + [self.statements]
         found = [each for statements in blocks for each in _with_inner(statements)]
         return iter(sorted(found, key=lambda each: each.first.start))
+
+    def comments_above(self) -> dict[int, list[Comment]]:
+        """The comments on lines of their own between a token and the one before it, by the byte of the token."""
+        found: dict[int, list[Comment]] = {}
+        lines = [token.line for token in self.tokens]
+        for comment in self.comments:
+            if comment.alone:
+                token = self.tokens[min(bisect_right(lines, comment.line), len(lines) - 1)]
+                found.setdefault(token.start, []).append(comment)
+        return found
 
     def length(self, statements: tuple[Statement, ...]) -> Optional[int]:
         """The ticks of these statements as they are written, where they are known without playing."""
@@ -312,18 +324,19 @@ class _Reader:
 
     # ---- statements
 
-    def block(self) -> Block:
+    def block(self, head: Optional[Token] = None) -> Block:
         opened = self.expect("{")
         statements = []
         while self.here.text != "}":
             statements.append(self.statement())
-        return Block(opened, self.step(), tuple(statements))
+        return Block(head or opened, opened, self.step(), tuple(statements))
 
     def branches(self) -> tuple[Block, ...]:
         self.expect("{")
         found = []
-        while self.has("branch"):
-            found.append(self.block())
+        while self.here.text == "branch":
+            found.append(self.block(self.step()))
+        self.at += 1
         return tuple(found)
 
     def statement(self) -> Statement:
@@ -332,7 +345,7 @@ class _Reader:
         if made is None:
             raise Unread(f"{first.line}:{first.column}: no statement begins here")
         fields = made()
-        last = self.tokens[self.at - 1] if fields.get("blocks") and first.text != "par" else self.step()
+        last = self.tokens[self.at - 1] if fields.get("blocks") else self.expect(";")
         return Statement(first.text, first, last, **fields)
 
     def pitched(self) -> dict[str, object]:
@@ -426,9 +439,9 @@ class _Reader:
                 self.expect("=")
                 self.shapes[name.text] = Shape(name, self.several(self.part))
                 self.expect(";")
-            elif self.has("phrase"):
-                name = self.step()
-                self.phrases[name.text] = Phrase(name, self.block())
+            elif self.here.text == "phrase":
+                head, name = self.step(), self.step()
+                self.phrases[name.text] = Phrase(name, self.block(head))
             else:
                 statements.append(self.statement())
         return Reading(text, version, self.division, seed, self.shapes, self.phrases, tuple(statements),

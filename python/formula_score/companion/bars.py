@@ -1,0 +1,219 @@
+"""The verb `bars`: how many bars phrases, branches and sections have, whether comments count right, bars and ticks."""
+
+from __future__ import annotations
+
+import argparse
+from typing import Iterator
+
+from . import marks, meter as meters
+from .marks import Finding
+from .meter import Meter
+from .playing import judge
+from .reading import Phrase, Reading, Statement, read
+from .structure import Section, Span, Structure, sections
+from .ticks import agreed, happening_at, position_at, spots_at, ticks_of
+from .walk import Happening, Place, Played, Process
+
+_SHOWN = 6
+
+
+def arguments(parser: argparse.ArgumentParser) -> None:
+    """What the verb takes."""
+    parser.add_argument("score", metavar="SCORE")
+    meters.arguments(parser)
+    asked = parser.add_mutually_exclusive_group()
+    asked.add_argument("--tick", type=int, metavar="BAR", help="tell the tick of the file at which a bar begins; the "
+                       "tick behind the last bar where BAR is one more")
+    asked.add_argument("--bar", type=int, metavar="TICK", help="tell the bar and beat of a tick of the file, as written "
+                       "and as played, and the line of the score; the rounds of loops count")
+    parser.description = f"{parser.description}\n\n" + __doc__.split("\n")[0] + """
+
+Lengths are counted as they are written, as if no `warp` stood there. Told as wrong are: a phrase or branch that is no
+whole number of bars, branches of one `par` that are not equally long, and a comment `# bar 12` or `# bars 9 to 12`
+that stands elsewhere. A comment behind statements speaks of its line, one on a line of its own of what follows. In a
+phrase, loop or branch the numbers may also count from its beginning. A section is what stands between two comments on
+lines of their own."""
+
+
+def run(options: argparse.Namespace) -> int:
+    """Tells what is asked; 1 where something is off."""
+    text = judge(options.score)
+    reading = read(text)
+    meter = Meter(options.meter, options.upbeat, reading.whole)
+    if options.tick is not None:
+        return _tell_tick(agreed(text), meter, options.tick)
+    if options.bar is not None:
+        return _tell_bar(agreed(text), meter, options.bar)
+    named = sections(reading, lambda comment: marks.bars_of(comment) is None)
+    wanted = [each for mark in marks.marks(reading) for each in (mark.first, mark.last)]
+    structure = Structure(reading, wanted + [each for section in named for each in (section.first, section.last)])
+    structure.run()
+    print(f"meter {meter}" + (f", upbeat {options.upbeat}" if meter.upbeat else ""))
+    for line in _table(reading, structure, meter, named):
+        print(line)
+    found = sorted([*_lengths(structure, meter), *marks.findings(reading, structure, meter)])
+    for finding in found:
+        print(f"{options.score}:{finding.line}:{finding.column}: {finding.what}")
+    return 1 if found else 0
+
+
+# ---- the table
+
+def _bars(span: Span, meter: Meter) -> str:
+    """From which bar to which something is played."""
+    if span.begin == span.end:
+        return f"at {meter.tell(span.begin)}"
+    first, last = meter.at(span.begin), meter.at(span.end - 1)
+    whole = meter.start(first.bar) == span.begin and meter.start(last.bar + 1) == span.end
+    if whole:
+        return f"bar {first.bar}" if first.bar == last.bar else f"bars {first.bar} to {last.bar}"
+    return f"{meter.tell(span.begin)} to {meter.tell(span.end)}"
+
+
+def _times(spans: list[Span], meter: Meter) -> str:
+    told = ", ".join(meter.tell(span.begin) for span in spans[:_SHOWN]) + (", .." if len(spans) > _SHOWN else "")
+    return _bars(spans[0], meter) if len(spans) == 1 else f"{len(spans)} times: {told}"
+
+
+def _rows(reading: Reading, structure: Structure, meter: Meter,
+          named: list[Section]) -> Iterator[tuple[int, str, str, str]]:
+    for name, phrase in reading.phrases.items():
+        spans = structure.phrases.get(name, [])
+        lasts = sorted({meter.lasts(span.begin, span.end) for span in spans})
+        if not spans:
+            known = reading.length(phrase.block.statements)
+            lasts = [meter.lasts(meter.upbeat, meter.upbeat + known)] if known is not None else ["?"]
+        yield phrase.name.line, f"phrase {name}", " or ".join(lasts), _times(spans, meter) if spans else "never played"
+    for par, played in structure.pars.values():
+        for at, block in enumerate(par.blocks):
+            spans = [branches[at] for branches in played]
+            lasts = sorted({meter.lasts(span.begin, span.end) for span in spans})
+            yield block.head.line, f"branch {at + 1}", " or ".join(lasts), _times(spans, meter)
+    for section in named:
+        begins, ends = structure.spans[section.first.first.start], structure.spans[section.last.first.start]
+        spans = [Span(begin.begin, end.end, begin.place) for begin, end in zip(begins, ends)]
+        if spans:
+            lasts = sorted({meter.lasts(span.begin, span.end) for span in spans})
+            yield section.line, f"section {section.name}", " or ".join(lasts), _times(spans, meter)
+
+
+def _table(reading: Reading, structure: Structure, meter: Meter, named: list[Section]) -> Iterator[str]:
+    rows = sorted(_rows(reading, structure, meter, named))
+    whole = Span(0, structure.end, structure.place)
+    told = [(f"line {line}", *row) for line, *row in rows]
+    told.append(("", "the piece", meter.lasts(0, structure.end), _bars(whole, meter)))
+    widths = [min(60, max(len(row[at]) for row in told)) for at in range(3)]
+    for row in told:
+        yield "  ".join(f"{cell:<{width}}" for cell, width in zip(row, [*widths, 0])).rstrip()
+
+
+# ---- what is off in the lengths
+
+def _amount(span: Span, meter: Meter) -> str:
+    """By how much something is no whole number of bars; '' where it is one."""
+    if not meter.only:
+        begin, end = meter.at(span.begin), meter.at(span.end)
+        if meter.start(begin.bar) != span.begin:
+            return f"{meter.length(span.begin - meter.start(begin.bar))} behind a bar line at its beginning"
+        left, bar = span.end - meter.start(end.bar), meter.start(end.bar + 1) - meter.start(end.bar)
+    else:
+        left, bar = meter.bars(span.begin, span.end)[1], meter.only
+    if not left:
+        return ""
+    return f"{meter.length(left)} too long" if 2 * left < bar else f"{meter.length(bar - left)} too short"
+
+
+def _lengths(structure: Structure, meter: Meter) -> Iterator[Finding]:
+    for name, spans in structure.phrases.items():
+        token = structure.reading.phrases[name].name
+        amounts = {_amount(span, meter): span for span in spans}
+        if "" not in amounts:
+            for amount, span in amounts.items():
+                yield Finding(token.line, token.column, f"phrase {name} is no whole number of bars: it has "
+                              f"{meter.lasts(span.begin, span.end)}, {amount}")
+    for par, played in structure.pars.values():
+        yield from _branches(par, played, meter)
+
+
+def _branches(par: Statement, played: list[list[Span]], meter: Meter) -> Iterator[Finding]:
+    for at, block in enumerate(par.blocks):
+        amounts = {_amount(branches[at], meter): branches[at] for branches in played}
+        for amount, span in amounts.items() if "" not in amounts else ():
+            yield Finding(block.head.line, block.head.column, f"branch {at + 1} is no whole number of bars: it has "
+                          f"{meter.lasts(span.begin, span.end)}, {amount}")
+    for branches in played:
+        lengths = [span.end - span.begin for span in branches]
+        if len(set(lengths)) > 1:
+            told = ", ".join(f"branch {at + 1} (line {par.blocks[at].head.line}) {meter.lasts(span.begin, span.end)}"
+                             for at, span in enumerate(branches))
+            yield Finding(par.first.line, par.first.column, "branches are not equally long, by up to "
+                          f"{meter.length(max(lengths) - min(lengths))}: {told}")
+            return
+
+
+# ---- bars and ticks
+
+def _name(walk: Played, process: int) -> str:
+    """A process, as a musician finds it in the text."""
+    return f"process {process} ({_where(walk.begun[process])})"
+
+
+def _where(begun: Process) -> str:
+    place = begun.place
+    if place.kind == "branch" and isinstance(place.node, Statement):
+        return f"branch {place.number + 1}, line {place.node.blocks[place.number].head.line}"
+    return "behind a `par`" if begun.written or begun.levels or place.kind != "score" else "outside all branches"
+
+
+def _tell_tick(walk: Played, meter: Meter, bar: int) -> int:
+    last = walk.ended[len(walk.begun) - 1].written
+    if not (0 if meter.upbeat else 1) <= bar or meter.start(bar) > last:
+        print(f"there is no bar {bar}: the piece has {meter.lasts(0, last)}, {_bars(Span(0, last, walk.place), meter)}")
+        return 1
+    for tick, processes in ticks_by_process(walk, meter.start(bar)).items():
+        only = "" if len(walk.begun) == 1 else " in " + ", ".join(_name(walk, each) for each in processes)
+        print(f"bar {bar}: tick {tick}{only}")
+    return 0
+
+
+def ticks_by_process(walk: Played, written: int) -> dict[int, list[int]]:
+    """The ticks of the file at a position as written, each with the processes in which it lies there."""
+    spots = spots_at(walk, written)
+    found: dict[int, list[int]] = {}
+    for spot, tick in zip(spots, ticks_of(walk.reading, spots)):
+        found.setdefault(tick, []).append(spot.process)
+    return dict(sorted(found.items()))
+
+
+def _tell_bar(walk: Played, meter: Meter, tick: int) -> int:
+    end = walk.tick_of_end(len(walk.begun) - 1)
+    playing = happening_at(walk, tick)
+    if not playing:
+        print(f"nothing is played at tick {tick}: the piece ends at tick {end}")
+        return 1
+    found: dict[int, list[tuple[Happening, str]]] = {}
+    for each in playing:
+        position = position_at(walk.reading, each.levels, tick)
+        written = each.end if position is None else each.begin + position - each.position
+        place = f"line {each.statement.line}, column {each.statement.first.column}{_ring(each.place, written, meter)}"
+        found.setdefault(written, []).append((each, place))
+    for written, several in found.items():
+        print(f"tick {tick}: written in {meter.tell(written)}; played in {meter.tell(tick)} of the file, which has 120 "
+              "quarter notes a minute throughout")
+        for each, place in several:
+            print(f"  {place}" + (f", in {_name(walk, each.process)}" if len(walk.begun) > 1 else ""))
+    return 0
+
+
+def _ring(place: Place, written: int, meter: Meter) -> str:
+    """Where in the phrase or loop round it."""
+    said, seen = [], place
+    while True:
+        inside = meter.tell(written - seen.begin + meter.upbeat)
+        if seen.kind == "phrase" and isinstance(seen.node, Phrase):
+            said.append(f"{inside} of phrase {seen.node.name.text}")
+        if seen.kind == "round" and isinstance(seen.node, Statement):
+            said.append(f"{inside} of round {seen.number + 1} of the loop at line {seen.node.line}")
+        if seen.outer is None:
+            return "".join(f"; {each}" for each in said)
+        seen = seen.outer

@@ -1,0 +1,90 @@
+"""How long the phrases, branches and sections of a score are, and where they are played."""
+
+from __future__ import annotations
+
+from typing import Callable, Iterable, NamedTuple, Optional, Union
+
+from .reading import Block, Comment, Phrase, Reading, Statement
+from .walk import Happening, Place, Walk
+
+
+class Sequence(NamedTuple):
+    """Statements one after another: of the score, for which the others are None, or of a block and who has it."""
+
+    owner: Union[Statement, Phrase, None]
+    block: Optional[Block]
+    statements: tuple[Statement, ...]
+
+
+def sequences(reading: Reading) -> list[Sequence]:
+    """All of them, an outer one before those in it."""
+    found = [Sequence(None, None, reading.statements)]
+    found += [Sequence(phrase, phrase.block, phrase.block.statements) for phrase in reading.phrases.values()]
+    for sequence in found:  # it grows meanwhile
+        found += [Sequence(each, block, block.statements) for each in sequence.statements for block in each.blocks]
+    return found
+
+
+class Span(NamedTuple):
+    """From where to where something is played, as written, and in which place."""
+
+    begin: int
+    end: int
+    place: Place
+
+
+class Section(NamedTuple):
+    """What stands between two comments on lines of their own, or behind the last one of a block."""
+
+    name: str
+    line: int
+    first: Statement
+    last: Statement
+
+
+def sections(reading: Reading, may_name: Callable[[Comment], bool]) -> list[Section]:
+    """The sections of the score, but for those inside phrases; not each comment names one."""
+    above = {byte: named for byte, comments in reading.comments_above().items()
+             for named in [list(filter(may_name, comments))] if named}
+    found = []
+    for sequence in sequences(reading):
+        if isinstance(sequence.owner, Phrase):
+            continue
+        heads = [(at, above[each.first.start][0]) for at, each in enumerate(sequence.statements)
+                 if each.first.start in above]
+        for (at, comment), behind in zip(heads, [*(at for at, _ in heads[1:]), len(sequence.statements)]):
+            found.append(Section(comment.text, comment.line, sequence.statements[at], sequence.statements[behind - 1]))
+    return found
+
+
+class Structure(Walk):
+    """Keeps where phrases, branches and some statements are played."""
+
+    def __init__(self, reading: Reading, wanted: Iterable[Statement]):
+        super().__init__(reading)
+        self.phrases: dict[str, list[Span]] = {}
+        self.pars: dict[int, tuple[Statement, list[list[Span]]]] = {}  # by the byte where a `par` begins
+        self.spans: dict[int, list[Span]] = {each.first.start: [] for each in wanted}
+        self._open: list[Span] = []
+
+    def statement(self, happening: Happening) -> None:
+        spans = self.spans.get(happening.statement.first.start)
+        if spans is not None:
+            spans.append(Span(happening.begin, happening.end, happening.place))
+        if happening.statement.word == "par":
+            count = len(happening.statement.blocks)
+            _, played = self.pars.setdefault(happening.statement.first.start, (happening.statement, []))
+            played.append(self._open[-count:])
+            del self._open[-count:]
+
+    def closed(self, place: Place, end: int) -> None:
+        span = Span(place.begin, end, place)
+        if place.kind == "branch":
+            self._open.append(span)
+        elif isinstance(place.node, Phrase):
+            self.phrases.setdefault(place.node.name.text, []).append(span)
+
+    @property
+    def end(self) -> int:
+        """Where the score ends, as written."""
+        return self.ended[len(self.begun) - 1].written

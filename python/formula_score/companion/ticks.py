@@ -1,0 +1,115 @@
+"""From positions as written to ticks of the file, and back: the program is asked, with a small score made for it.
+
+That score has the same shapes, and in them a rest and a control change for each position that is asked for. So the
+deformations are those of the program. Which levels a position lies in comes from the walk, which is compared with
+what the program plays before anything is told.
+"""
+
+from __future__ import annotations
+
+from typing import Optional, Sequence
+
+from ..shapes import Part
+from .playing import Failed, listing_of, located
+from .reading import Reading, read
+from .walk import Happening, Level, Played, tick_of
+
+_AT_ONCE = 2000
+_LONGEST = 1_000_000
+
+
+class Spot:
+    """A position in the innermost of some levels, in a process."""
+
+    def __init__(self, process: int, levels: tuple[Level, ...], position: int):
+        self.process, self.levels, self.position = process, levels, position
+
+
+def agreed(text: bytes) -> Played:
+    """The walk over a text, which plays each event at the tick at which the program does."""
+    walk = Played(read(text))
+    walk.run()
+    listing = listing_of(text)
+    heard = [(event.tick, event.message) for event in listing.events if event.message[0] < 0xF0]
+    expected = [(event.tick, event.message) for event in walk.events()]
+    last = walk.tick_of_end(len(walk.begun) - 1)
+    if heard != expected or listing.end != last:
+        differs = next((at for at, (one, other) in enumerate(zip(heard, expected)) if one != other),
+                       min(len(heard), len(expected)))
+        raise Failed(1, f"this companion reads the score otherwise than the program plays it, from event {differs} on: "
+                        "this is a fault of the companion, and nothing is told")
+    return walk
+
+
+def _part(part: Part) -> str:
+    by = {"flat": f" by {part.first}", "slope": f" by {part.first} to {part.last}"}.get(part.kind, "")
+    return f"{part.kind} ticks {part.ticks}{by}"
+
+
+def _rest(ticks: int) -> str:
+    thousands, left = divmod(ticks, _LONGEST)
+    loops = []
+    while thousands:
+        loops.append(f"repeat {min(thousands, _LONGEST)} {{ rest ticks {_LONGEST}; }}")
+        thousands -= min(thousands, _LONGEST)
+    return " ".join([*loops, f"rest ticks {left};" if left else ""]).strip()
+
+
+def _head(reading: Reading, levels: Sequence[Level]) -> str:
+    division = f" division {reading.division};" if reading.version == 2 else ""
+    shapes = {level.shape.name.text: level.shape for level in levels}
+    lines = [f"shape {name} = {', '.join(map(_part, shape.parts))};" for name, shape in shapes.items()]
+    return "\n".join([f"formula {reading.version};{division}", *lines, ""])
+
+
+def _within(levels: Sequence[Level], inside: str) -> str:
+    """A text inside the levels, each where it begins."""
+    for level in reversed(levels):
+        inside = f"{_rest(level.begin)} warp {level.shape.name.text} {{ {inside} }}"
+    return inside
+
+
+def ticks_of(reading: Reading, spots: Sequence[Spot]) -> list[int]:
+    """The tick of the file at which what begins at each of these is played, as the program says."""
+    found: list[int] = []
+    for first in range(0, len(spots), _AT_ONCE):
+        some = spots[first:first + _AT_ONCE]
+        branches = [f"branch {{ {_within(spot.levels, f'{_rest(spot.position)} control {at // 128} {at % 128};')} }}"
+                    for at, spot in enumerate(some)]
+        text = _head(reading, [level for spot in some for level in spot.levels]) + f"par {{ {' '.join(branches)} }}\n"
+        heard = {event.message[1] * 128 + event.message[2]: event.tick for event in listing_of(text.encode()).events
+                 if event.message[0] == 0xB0}
+        found += [heard[at] for at in range(len(some))]
+    return found
+
+
+def position_at(reading: Reading, levels: Sequence[Level], tick: int) -> Optional[int]:
+    """The first position of the innermost level at a tick of the file, or behind it; None where there is none."""
+    if not levels:
+        return tick
+    text = _head(reading, levels) + _within(levels, "par { branch { } }") + "\n"
+    found = located(text.encode(), tick, 1)
+    return found[-1] if found else None
+
+
+def spots_at(walk: Played, written: int) -> list[Spot]:
+    """Where a position as written lies, in each process that plays there: of the first statement that takes time."""
+    found: dict[int, Spot] = {}
+    for each in walk.happenings:
+        if each.begin <= written < each.end and each.process not in found:
+            found[each.process] = Spot(each.process, each.levels, each.position + written - each.begin)
+    last = walk.ended[len(walk.begun) - 1]
+    if not found and written == last.written:
+        found[len(walk.begun) - 1] = Spot(len(walk.begun) - 1, last.levels, last.position)
+    return [found[process] for process in sorted(found)]
+
+
+def happening_at(walk: Played, tick: int) -> list[Happening]:
+    """What takes time at a tick of the file, in each process that plays there."""
+    found: dict[int, Happening] = {}
+    for each in walk.happenings:
+        if each.begin < each.end and each.process not in found:
+            length = each.end - each.begin
+            if tick_of(each.levels, each.position) <= tick < tick_of(each.levels, each.position + length):
+                found[each.process] = each
+    return [found[process] for process in sorted(found)]
