@@ -153,8 +153,8 @@ def _branches(par: Statement, played: list[list[Span]], meter: Meter) -> Iterato
 
 # ---- bars and ticks
 
-def _name(walk: Played, process: int) -> str:
-    """A process, as a musician finds it in the text."""
+def process_name(walk: Played, process: int) -> str:
+    """A process by its number, and where a musician finds it in the text."""
     return f"process {process} ({_where(walk.begun[process])})"
 
 
@@ -171,7 +171,7 @@ def _tell_tick(walk: Played, meter: Meter, bar: int) -> int:
         print(f"there is no bar {bar}: the piece has {meter.lasts(0, last)}, {_bars(Span(0, last, walk.place), meter)}")
         return 1
     for tick, processes in ticks_by_process(walk, meter.start(bar)).items():
-        only = "" if len(walk.begun) == 1 else " in " + ", ".join(_name(walk, each) for each in processes)
+        only = "" if len(walk.begun) == 1 else " in " + ", ".join(process_name(walk, each) for each in processes)
         print(f"bar {bar}: tick {tick}{only}")
     return 0
 
@@ -201,7 +201,7 @@ def _tell_bar(walk: Played, meter: Meter, tick: int) -> int:
         print(f"tick {tick}: written in {meter.tell(written)}; played in {meter.tell(tick)} of the file, which has 120 "
               "quarter notes a minute throughout")
         for each, place in several:
-            print(f"  {place}" + (f", in {_name(walk, each.process)}" if len(walk.begun) > 1 else ""))
+            print(f"  {place}" + (f", in {process_name(walk, each.process)}" if len(walk.begun) > 1 else ""))
     return 0
 
 

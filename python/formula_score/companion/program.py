@@ -34,6 +34,7 @@ class Verb(NamedTuple):
 #: The verbs, in the order in which they are told.
 VERBS: dict[str, Verb] = {
     "bars": Verb("bars", "count the bars of a score, check the comments that count them, tell the tick of a bar"),
+    "excerpt": Verb("excerpt", "write some bars of a score as a MIDI file, its channels in tracks, or one channel"),
 }
 
 
