@@ -75,7 +75,7 @@ class Lengths(unittest.TestCase):
         self.assertEqual(bars(text.replace("7/4", "4/4"), "--upbeat", "1/4")[0], 0)
 
     def test_sections_are_named_by_comments(self):
-        _, said = bars("# About the piece.\nformula 1;\n# Verse\nnote c4 2/1;\n# Chorus\n# loud\nnote c4 1/1; rest 1/1;\n")
+        _, said = bars("# A piece.\nformula 1;\n# Verse\nnote c4 2/1;\n# Chorus\n# loud\nnote c4 1/1; rest 1/1;\n")
         self.assertEqual([" ".join(line.split()) for line in said[1:]],
                          ["line 3 section Verse 2 bars bars 1 to 2", "line 5 section Chorus 2 bars bars 3 to 4",
                           "the piece 4 bars bars 1 to 4"])
@@ -153,8 +153,10 @@ class Ticks(unittest.TestCase):
                                               "bar 2: tick 3840 in process 2 (branch 2, line 5)"]))
         _, said = bars(text, "--bar", "2880")
         self.assertEqual([line.split(";")[0] for line in said],
-                         ["tick 2880: written in bar 2, beat 3", "  line 4, column 22, in process 1 (branch 1, line 4)",
-                          "tick 2880: written in bar 1, beat 4", "  line 5, column 24, in process 2 (branch 2, line 5)"])
+                         ["tick 2880: written in bar 2, beat 3",
+                          "  line 4, column 22, in process 1 (branch 1, line 4)",
+                          "tick 2880: written in bar 1, beat 4",
+                          "  line 5, column 24, in process 2 (branch 2, line 5)"])
 
     def test_inside_the_levels_that_a_process_opens_itself(self):
         text = ("formula 2; division 96;\nshape twice = flat ticks 1000 by 500;\n"

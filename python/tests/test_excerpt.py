@@ -68,8 +68,9 @@ class Excerpts(unittest.TestCase):
         self.assertEqual(self.out.read_bytes(), self.of_the_program(source, "--from", "1920").read_bytes())
 
     def test_what_cannot_be_cut(self):
-        for words, status in ((["--bars", "17"], 1), (["--bars", "0"], 1), (["--bars", "9-20"], 1), (["--bars", "9-3"], 2),
-                              (["--bars", "x"], 2), (["--channel", "16"], 2), (["--meter", "3/7", "--bars", "1"], 2)):
+        for words, status in ((["--bars", "17"], 1), (["--bars", "0"], 1), (["--bars", "9-20"], 1),
+                              (["--bars", "9-3"], 2), (["--bars", "x"], 2), (["--channel", "16"], 2),
+                              (["--meter", "3/7", "--bars", "1"], 2)):
             self.assertEqual(score("excerpt", SCORE, self.out, *words).status, status, words)
         self.assertFalse(self.out.exists())
         refused = score("excerpt", TOP / "examples" / "refused" / "bad_byte.score", self.out, "--bars", "1")

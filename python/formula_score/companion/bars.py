@@ -22,8 +22,8 @@ def arguments(parser: argparse.ArgumentParser) -> None:
     parser.add_argument("score", metavar="SCORE")
     meters.arguments(parser)
     asked = parser.add_mutually_exclusive_group()
-    asked.add_argument("--tick", type=int, metavar="BAR", help="tell the tick of the file at which a bar begins; the "
-                       "tick behind the last bar where BAR is one more")
+    asked.add_argument("--tick", type=int, metavar="BAR", help="tell the tick of the file at which a bar begins; for "
+                       "the bar behind the last one that of the end")
     asked.add_argument("--bar", type=int, metavar="TICK", help="tell the bar and beat of a tick of the file, as written "
                        "and as played, and the line of the score; the rounds of loops count")
     parser.description = f"{parser.description}\n\n" + __doc__.split("\n")[0] + """

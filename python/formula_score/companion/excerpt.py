@@ -93,7 +93,8 @@ def window_of(options: argparse.Namespace, text: bytes) -> list[str]:
     walk = agreed(text)
     last = walk.ended[len(walk.begun) - 1].written
     first, behind = options.bars.first, None if options.bars.last is None else options.bars.last + 1
-    if first < (0 if meter.upbeat else 1) or meter.start(first) >= last or behind and meter.start(behind - 1) >= last:
+    is_there = [meter.start(bar) < last for bar in (first, first if behind is None else behind - 1)]
+    if first < (0 if meter.upbeat else 1) or not all(is_there):
         there = meter.at(max(0, last - 1)).bar
         raise Failed(1, f"the piece ends in bar {there}: it has {meter.lasts(0, last)}" if last else "the piece is empty")
     begin = _ticks(walk, meter, first)

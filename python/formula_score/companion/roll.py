@@ -1,0 +1,187 @@
+"""The verb `roll`: a piano roll of a score, a MIDI file or a listing; and one that follows a score as it is written."""
+
+from __future__ import annotations
+
+import argparse
+import html
+import os
+import re
+import sys
+import tempfile
+import time
+from bisect import bisect_left
+from typing import Callable, Iterator, Optional
+
+from . import meter as meters
+from .drawing import Rule, bars, drawn, piece_of, quarters
+from .meter import Meter
+from .midi_file import save
+from .playing import Failed, Listing, listed, listing_of_file, needs, run as play, text_of
+from .reading import Reading, read
+from .ticks import Spot, ticks_of
+from .walk import Played
+
+_LOOK = 0.2  # seconds between two looks at a score that is followed
+
+_PAGE = """<!doctype html>
+<html lang="en"><head><meta charset="utf-8"><title>{title}</title>
+<style>
+body {{ margin: 0; font-family: sans-serif; background: #ffffff; color: #202020 }}
+main {{ display: flex; align-items: flex-start; gap: 1em; padding: 1em }}
+figure {{ margin: 0; overflow-x: auto; flex: 1 1 auto }}
+.stale svg {{ opacity: 0.4 }}
+aside {{ flex: 0 0 30em; max-width: 30em }}
+pre {{ overflow-x: auto; border-left: 4px solid #b34d00; padding: 0.5em 1em; background: #fff4ec; color: #202020 }}
+@media (prefers-color-scheme: dark) {{ body {{ background: #0d1117; color: #e6edf3 }} }}
+</style></head>
+<body><main><figure class="{state}">{picture}</figure><aside><h1>{title}</h1>{words}</aside></main>
+<script>
+const figure = document.querySelector("figure");
+figure.scrollLeft = sessionStorage.getItem("left") || 0;
+setTimeout(() => {{ sessionStorage.setItem("left", figure.scrollLeft); location.reload() }}, 1000);
+</script>
+</body></html>
+"""
+
+
+def arguments(parser: argparse.ArgumentParser) -> None:
+    """What the verb takes."""
+    parser.add_argument("file", metavar="FILE", help="a score, a MIDI file, or the listing of one")
+    parser.add_argument("out", metavar="OUT", help="the picture, SVG; with --follow a page, HTML")
+    meters.arguments(parser, None)
+    parser.add_argument("--follow", action="store_true", help="FILE is a score: play and draw it again whenever it is "
+                        "saved, until this is interrupted. OUT is a page that a browser shows; it renews itself, and "
+                        "has the last picture, and beside it why the text is refused, if it is")
+    parser.description = f"""{parser.description}
+
+With --meter the lines are bars and beats. Of a score they are its own bars, through all deformations, at ticks of
+which the program is asked; of a file they are counted over its ticks. Without --meter there is a line at each quarter
+note of the file, a strong one at every fourth. The picture is the companion's, outside the proof."""
+
+
+def run(options: argparse.Namespace) -> int:
+    """Draws OUT."""
+    if not options.follow:
+        data = text_of(options.file)
+        save(options.out, _picture(_listing(options.file, data), _reading(data), options).encode())
+        return 0
+    if options.out.lower().endswith(".svg"):
+        raise Failed(2, "with --follow OUT is a page: give it a name as roll.html")
+    text_of(options.file)
+    try:
+        follow(options, lambda: False)
+    except KeyboardInterrupt:
+        print()
+    return 0
+
+
+def _is_score(data: bytes) -> bool:
+    return data[:4] != b"MThd" and not data.startswith(b"format ")
+
+
+def _listing(path: str, data: bytes) -> Listing:
+    """The listing of a file, of what a score plays, or of one that is given."""
+    if data.startswith(b"format "):
+        try:
+            return listed(data.decode("ascii"))
+        except (ValueError, IndexError):
+            raise Failed(1, f"{path!r} is no listing of a MIDI file") from None
+    if data[:4] == b"MThd" or data[:4] == b"RIFF":
+        return listing_of_file(path, 1)
+    with tempfile.TemporaryDirectory() as folder:
+        target = os.path.join(folder, "out.mid")
+        needs(play(path, target))
+        return listing_of_file(target)
+
+
+def _reading(data: bytes) -> Optional[Reading]:
+    return read(data) if _is_score(data) else None
+
+
+def _picture(listing: Listing, reading: Optional[Reading], options: argparse.Namespace) -> str:
+    if listing.division == 0:
+        raise Failed(1, "with a division of 0 there are no quarter notes to draw")
+    if not options.meter:
+        return "\n".join(drawn(piece_of(listing, quarters(listing), "quarter"))) + "\n"
+    meter = Meter(options.meter, options.upbeat, 4 * listing.division)
+    rules = bars(meter, listing.end) if reading is None else _score_bars(reading, meter)
+    return "\n".join(drawn(piece_of(listing, rules, "bar"))) + "\n"
+
+
+def _score_bars(reading: Reading, meter: Meter) -> list[Rule]:
+    """The bars of a score at the ticks at which they are played, of the first process that plays there."""
+    walk = Played(reading)
+    walk.run()
+    last = walk.ended[len(walk.begun) - 1]
+    written = bars(meter, last.written)
+    spots = _spots(walk, [rule.tick for rule in written])
+    known = [(rule, spot) for rule, spot in zip(written, spots) if spot is not None]
+    ticks = ticks_of(reading, [spot for _, spot in known])
+    return [Rule(tick, rule.label) for tick, (rule, _) in zip(ticks, known)]
+
+
+def _spots(walk: Played, written: list[int]) -> list[Optional[Spot]]:
+    """Where positions as written lie, in one pass over what takes time; behind the end there is none."""
+    found: dict[int, Spot] = {}
+    last = walk.ended[len(walk.begun) - 1]
+    wanted = sorted(set(written))
+    for each in walk.happenings:
+        for position in _between(wanted, each.begin, each.end):
+            found.setdefault(position, Spot(each.process, each.levels, each.position + position - each.begin))
+    found.setdefault(last.written, Spot(len(walk.begun) - 1, last.levels, last.position))
+    return [found.get(position) for position in written]
+
+
+def _between(rising: list[int], first: int, behind: int) -> list[int]:
+    return rising[bisect_left(rising, first):bisect_left(rising, behind)]
+
+
+# ---- following
+
+def follow(options: argparse.Namespace, is_over: Callable[[], bool]) -> None:
+    """Plays and draws a score whenever its text has changed, until it is over."""
+    seen: Optional[bytes] = None
+    picture = ""
+    for data in _texts(options.file, is_over):
+        if data == seen:
+            continue
+        seen = data
+        now = time.strftime("%H:%M:%S")
+        try:
+            listing = _listing(options.file, data)
+            picture = _picture(listing, read(data), options)
+            words, state = f"<p>{now}: played, to tick {listing.end}.</p>", "fresh"
+            print(f"{now} played, to tick {listing.end}", flush=True)
+        except Failed as failed:
+            before = "The picture is of the text before." if picture else ""
+            words, state = f"<p>{now}: refused. {before}</p>{_paragraphs(failed.why)}", "stale"
+            print(f"{now} {failed.said or 'not played'}", flush=True)
+            print(failed.why, file=sys.stderr, flush=True)
+        title = html.escape(os.path.basename(options.file))
+        _replace(options.out, _PAGE.format(title=title, state=state, picture=picture, words=words).encode())
+
+
+def _paragraphs(why: str) -> str:
+    """An explanation: the line of the score and the caret under it as they are, the rest as paragraphs."""
+    lines = why.split("\n")
+    is_shown = [bool(re.match(r" *[0-9]* \| ", line)) for line in lines]
+    shown = html.escape("\n".join(line for line, shows in zip(lines, is_shown) if shows))
+    words = [f"<p>{html.escape(line)}</p>" for line, shows in zip(lines, is_shown) if not shows]
+    return "".join([*words[:1], f"<pre>{shown}</pre>" if shown else "", *words[1:]])
+
+
+def _texts(path: str, is_over: Callable[[], bool]) -> Iterator[bytes]:
+    """The text of a file again and again; an editor may take it away for a moment."""
+    while not is_over():
+        try:
+            with open(path, "rb") as file:
+                yield file.read()
+        except OSError:
+            pass
+        time.sleep(_LOOK)
+
+
+def _replace(path: str, data: bytes) -> None:
+    """Writes a file at one go, so that nobody reads half of it."""
+    save(path + ".new", data)
+    os.replace(path + ".new", path)
