@@ -1,4 +1,4 @@
-"""The verb `bars`: how many bars phrases, branches and sections have, whether comments count right, bars and ticks."""
+"""The verb `bars`: how many bars phrases, branches and sections have, whether comments count right; bars and ticks."""
 
 from __future__ import annotations
 
@@ -24,8 +24,8 @@ def arguments(parser: argparse.ArgumentParser) -> None:
     asked = parser.add_mutually_exclusive_group()
     asked.add_argument("--tick", type=int, metavar="BAR", help="tell the tick of the file at which a bar begins; for "
                        "the bar behind the last one that of the end")
-    asked.add_argument("--bar", type=int, metavar="TICK", help="tell the bar and beat of a tick of the file, as written "
-                       "and as played, and the line of the score; the rounds of loops count")
+    asked.add_argument("--bar", type=int, metavar="TICK", help="tell the bar and beat of a tick, as written and as "
+                       "played, and the line of the score; the rounds of loops count")
     parser.description = f"{parser.description}\n\n" + __doc__.split("\n")[0] + """
 
 Lengths are counted as they are written, as if no `warp` stood there. Told as wrong are: a phrase or branch that is no

@@ -95,8 +95,8 @@ def window_of(options: argparse.Namespace, text: bytes) -> list[str]:
     first, behind = options.bars.first, None if options.bars.last is None else options.bars.last + 1
     is_there = [meter.start(bar) < last for bar in (first, first if behind is None else behind - 1)]
     if first < (0 if meter.upbeat else 1) or not all(is_there):
-        there = meter.at(max(0, last - 1)).bar
-        raise Failed(1, f"the piece ends in bar {there}: it has {meter.lasts(0, last)}" if last else "the piece is empty")
+        there = f"the piece ends in bar {meter.at(last - 1).bar}: it has {meter.lasts(0, last)}" if last else ""
+        raise Failed(1, there or "the piece is empty")
     begin = _ticks(walk, meter, first)
     words = ["--from", str(min(begin))]
     end = _ticks(walk, meter, behind) if behind and meter.start(behind) < last else []

@@ -38,6 +38,7 @@ VERBS: dict[str, Verb] = {
     "show": Verb("show", "print the events of a MIDI file for a person, with names, bars and beats"),
     "roll": Verb("roll", "draw a score or a MIDI file as a piano roll, once or whenever the score is saved"),
     "listen": Verb("listen", "play a score, or some bars of it, through fluidsynth or timidity"),
+    "lint": Verb("lint", "say what is accepted in a score, and hardly meant"),
 }
 
 

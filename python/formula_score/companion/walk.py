@@ -79,8 +79,9 @@ class _Now:
         self.drawn = (seed + number) % _WORD
 
 
-class _Entries:
-    """An open list of `rhythm`, `artic` or `loud`, or a `gate` or `volume`, and how many entries it has given."""
+class Entries:
+    """An open list of `rhythm`, `artic` or `loud`, or a `gate` or `volume` as one of a single entry; and how many
+    entries it has given."""
 
     def __init__(self, kind: str, entries: tuple[int, ...], statement: Statement, given: int = 0):
         self.kind, self.entries, self.statement, self.given = kind, entries, statement, given
@@ -110,7 +111,7 @@ class Walk:
         self.ended: dict[int, Process] = {}
         self.levels: tuple[Level, ...] = ()
         self.rounds: list[int] = []     # of each open loop, the outermost first, its round
-        self.lists: list[_Entries] = []
+        self.open_lists: list[Entries] = []
         self.channel = 0
         self.place = Place("score", None, 0, 0, 0, None)
 
@@ -122,8 +123,11 @@ class Walk:
     def closed(self, place: Place, end: int) -> None:
         """A block was played; it ends there, as written."""
 
-    def emptied(self, entries: _Entries, process: int) -> None:
+    def emptied(self, entries: Entries, process: int) -> None:
         """A list is left, or begins anew since its process ends: it gave so many entries in this process."""
+
+    def process_ended(self, number: int) -> None:
+        """A process came to its end: before a `par`, at the end of a branch, or at the end of the score."""
 
     # ---- the walk
 
@@ -139,12 +143,13 @@ class Walk:
     def _start(self, position: int, written: int) -> None:
         self.now = _Now(len(self.begun), position, written, self.reading.seed)
         self.begun.append(self._here())
-        self.lists = [_Entries(each.kind, each.entries, each.statement) for each in self.lists]
+        self.open_lists = [Entries(each.kind, each.entries, each.statement) for each in self.open_lists]
 
     def _end(self) -> None:
         self.ended[self.now.number] = self._here()
-        for each in self.lists:
+        for each in self.open_lists:
             self.emptied(each, self.now.number)
+        self.process_ended(self.now.number)
 
     def _here(self) -> Process:
         return Process(self.now.written, self.now.position, self.levels, self.place)
@@ -199,7 +204,7 @@ class Walk:
         return _within(self._value(length.value), 0, length.most) if isinstance(length, Computed) else length
 
     def _entry(self, kind: str, otherwise: int) -> int:
-        return next((each.next() for each in reversed(self.lists) if each.kind == kind), otherwise)
+        return next((each.next() for each in reversed(self.open_lists) if each.kind == kind), otherwise)
 
     # ---- statements
 
@@ -270,9 +275,9 @@ class Walk:
         self.channel = before.channel
 
     def _listed(self, of: Statement, kind: str, entries: tuple[int, ...]) -> None:
-        self.lists.append(_Entries(kind, entries, of))
+        self.open_lists.append(Entries(kind, entries, of))
         self._inside("block", of, of.blocks[0])
-        self.emptied(self.lists.pop(), self.now.number)
+        self.emptied(self.open_lists.pop(), self.now.number)
 
     def on_volume(self, of: Statement, before: Happening) -> None:
         self._listed(of, "loud", (of.number,))
