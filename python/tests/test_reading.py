@@ -77,6 +77,17 @@ class Agreement(unittest.TestCase):
         self.assertLess(seed, 2 * SCORES)
 
 
+class Apart(unittest.TestCase):
+    def test_the_reading_shares_no_line_with_the_model(self):
+        def lines(path):
+            return {line.strip() for line in path.read_text().splitlines() if len(line.strip()) > 12} - {
+                'if __name__ == "__main__":'}
+
+        model = lines(TOP / "tools" / "score_model" / "score_model.py")
+        for path in sorted((TOP / "python" / "formula_score" / "companion").glob("*.py")):
+            self.assertEqual(lines(path) & model, set(), path.name)
+
+
 class Trees(unittest.TestCase):
     TEXT = b"""formula 2; division 96; seed 7;  # begin
 # alone

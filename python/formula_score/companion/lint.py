@@ -116,8 +116,8 @@ class Looks(Walk):
                 if shared:
                     lines = " and ".join(str(par.blocks[each].head.line) for each in (before, at))
                     self.find("channel", par, f"branches {before + 1} and {at + 1} (lines {lines}) both play on "
-                              f"channel {shared[0]}: where notes of one key overlap there, many players end both at the first "
-                              "note-off")
+                              f"channel {shared[0]}: where notes of one key overlap there, many players end both at "
+                              "the first note-off")
                     return
 
     # ---- lists and levels

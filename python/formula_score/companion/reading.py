@@ -310,17 +310,17 @@ class _Reader:
     def operand(self) -> Expression:
         if self.here.text == "(":
             return self.in_parentheses()
-        word = self.step().text
-        if word == "-":
+        name = self.step().text
+        if name == "-":
             return Expression("negative", 0, (self.operand(),))
-        if word.isdigit():
-            return Expression("number", int(word))
-        if word[1:].isdigit():
-            return Expression(word[0], int(word[1:]))
+        if name.isdigit():
+            return Expression("number", int(name))
+        if name[1:].isdigit():
+            return Expression(name[0], int(name[1:]))
         self.expect("(")
         operands = self.several(self.expression)
         self.expect(")")
-        return Expression(word, 0, operands)
+        return Expression(name, 0, operands)
 
     # ---- statements
 
@@ -465,20 +465,20 @@ class _Lengths:
         return total
 
     def one(self, statement: Statement) -> Optional[int]:
-        word, inner = statement.word, [block.statements for block in statement.blocks]
-        if word in ("note", "rest"):
+        says, inner = statement.word, [block.statements for block in statement.blocks]
+        if says in ("note", "rest"):
             return statement.length if isinstance(statement.length, int) else None
-        if word in ("play", "skip"):
+        if says in ("play", "skip"):
             return self.entry()
-        if word == "do":
+        if says == "do":
             return self.of(self.reading.phrases[statement.name].block.statements)
-        if word == "par":
+        if says == "par":
             return self.longest(inner)
-        if word == "if":
+        if says == "if":
             return self.either(inner if len(inner) == 2 else [*inner, ()])
-        if word == "repeat":
+        if says == "repeat":
             return self.rounds(statement, inner[0])
-        if word == "rhythm":
+        if says == "rhythm":
             self.rhythms.append((statement.entries, [0]))
             ticks = self.of(inner[0])
             self.rhythms.pop()

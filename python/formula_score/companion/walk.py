@@ -112,8 +112,7 @@ class Walk:
         self.levels: tuple[Level, ...] = ()
         self.rounds: list[int] = []     # of each open loop, the outermost first, its round
         self.open_lists: list[Entries] = []
-        self.channel = 0
-        self.place = Place("score", None, 0, 0, 0, None)
+        self.channel, self.place = 0, Place("score", None, 0, 0, 0, None)
 
     # ---- what a walk of a verb keeps
 
@@ -328,19 +327,19 @@ def tick_of(levels: tuple[Level, ...], position: int) -> int:
 
 def _messages(happening: Happening) -> list[Made]:
     """The messages of a statement with their ticks, the note-offs of a note behind its note-ons."""
-    word, channel, values = happening.statement.word, happening.channel, happening.values
-    if word in ("rest", "skip"):
+    says, channel, values = happening.statement.word, happening.channel, happening.values
+    if says in ("rest", "skip"):
         return []
     levels = parts_of(happening.levels)
     tick = outside(levels, happening.position, True)
-    if word in ("note", "play"):
+    if says in ("note", "play"):
         sounds = (happening.end - happening.begin) * happening.percent // 100
         off = max(tick, outside(levels, happening.position + sounds, False))
         return [(tick, bytes([0x90 | channel, key, happening.velocity])) for key in values] + [
             (off, bytes([0x80 | channel, key, RELEASE_VELOCITY])) for key in values]
-    if word == "control":
+    if says == "control":
         return [(tick, bytes([0xB0 | channel, happening.statement.number, *values]))]
-    if word == "program":
+    if says == "program":
         return [(tick, bytes([0xC0 | channel, *values]))]
     bend = values[0] + 8192
     return [(tick, bytes([0xE0 | channel, bend % 128, bend // 128]))]
