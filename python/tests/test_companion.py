@@ -1,8 +1,11 @@
-"""The companion's words: its verbs, their help, and the statuses of a bad use."""
+"""The companion's words: its verbs, their help, the statuses of a bad use, and what the pages show of it."""
 
+import os
+import re
 import unittest
 
 from .companion import score
+from .program import TOP, needs_program
 
 from formula_score.companion.program import VERBS
 
@@ -26,6 +29,21 @@ class Words(unittest.TestCase):
             answer = score(*words)
             self.assertEqual((answer.status, answer.said), (2, ""), words)
             self.assertIn("--help", answer.complaint, words)
+
+    @needs_program
+    def test_the_pages_show_what_it_says(self):
+        home, count = os.getcwd(), 0
+        os.chdir(TOP)
+        try:
+            for page in ("TUTORIAL", "POSITIONS"):
+                for block in re.findall(r"^```\n(\$ scripts/score .*?)^```", (TOP / "docs" / f"{page}.md").read_text(),
+                                        re.M | re.S):
+                    for command, said in re.findall(r"^\$ scripts/score (.*)\n((?:[^$].*\n)*)", block, re.M):
+                        self.assertEqual(score(*command.split()).said, said, command)
+                        count += 1
+        finally:
+            os.chdir(home)
+        self.assertEqual(count, 3)
 
 
 if __name__ == "__main__":

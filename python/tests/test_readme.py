@@ -32,14 +32,16 @@ def examples() -> Iterator[tuple[str, list[str]]]:
 
 class Readme(unittest.TestCase):
     def test_the_examples_run(self) -> None:
-        (printed, saved), (_, walk) = examples()
+        (printed, saved), (_, walk), (played, _) = examples()
         self.assertEqual(printed, "4800\nEvent(tick=0, process=1, number=0, message=b'\\xc0I')\n")
         self.assertEqual((len(saved), len(walk)), (1, 1))
+        self.assertEqual(played, "note 0 480 phrase\nrest 480 720 round\nnote 720 1200 phrase\nrest 1200 1440 round\n")
 
     @needs_program
     def test_they_are_played(self) -> None:
         for _, saved in examples():
-            self.assertEqual(run(saved[0])[:2], (0, ""))
+            for score in saved:
+                self.assertEqual(run(score)[:2], (0, ""))
 
     def test_a_program_that_is_not_there_is_told(self) -> None:
         with self.assertRaisesRegex(CommandError, "/none/formula cannot be run: No such file"):
