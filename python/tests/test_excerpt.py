@@ -73,6 +73,9 @@ class Excerpts(unittest.TestCase):
                               (["--meter", "3/7", "--bars", "1"], 2)):
             self.assertEqual(score("excerpt", SCORE, self.out, *words).status, status, words)
         self.assertFalse(self.out.exists())
+        self.out.write_bytes(SCORE.read_bytes())
+        self.assertEqual(score("excerpt", self.out, self.out, "--bars", "1").status, 2)
+        self.assertEqual(self.out.read_bytes(), SCORE.read_bytes())
         refused = score("excerpt", TOP / "examples" / "refused" / "bad_byte.score", self.out, "--bars", "1")
         self.assertEqual((refused.status, refused.said), (3, "formula: score refused: 3:1 fault 1\n"))
         self.assertEqual(score("excerpt", SCORE, self.folder / "none" / "out.mid", "--bars", "1").status, 4)

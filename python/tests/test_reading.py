@@ -13,6 +13,7 @@ from .random_texts import Texts
 
 from formula_score.companion.playing import Failed, listing_of, located
 from formula_score.companion.reading import read
+from formula_score.companion.ticks import Spot, ticks_of
 from formula_score.companion.walk import Place, Played, Walk, parts_of, tick_of
 from formula_score.expected import outside
 
@@ -44,7 +45,8 @@ def positions(levels, tick):
 
 @needs_program
 class Agreement(unittest.TestCase):
-    def agrees(self, text, name):
+    def agrees(self, text, name, wholly=True):
+        """The events of a text; wholly, also what is located, and ticks that are asked for."""
         walk = Played(read(text))
         walk.run()
         listing = listing_of(text)
@@ -52,13 +54,18 @@ class Agreement(unittest.TestCase):
                          [(event.tick, event.message) for event in listing.events if event.message[0] < 0xF0], name)
         last = len(walk.begun) - 1
         self.assertEqual(walk.tick_of_end(last), listing.end, name)
+        known = walk.reading.length(walk.reading.statements)
+        if known is not None:
+            self.assertEqual(known, walk.ended[last].written, name)
+        if not wholly:
+            return
         process = max(range(len(walk.begun)), key=lambda each: len(walk.begun[each].levels))
         begun = walk.begun[process]
         tick = (tick_of(begun.levels, begun.position) + listing.end) // 2
         self.assertEqual(located(text, tick, process), positions(begun.levels, tick), (name, tick, process))
-        known = walk.reading.length(walk.reading.statements)
-        if known is not None:
-            self.assertEqual(known, walk.ended[last].written, name)
+        some = walk.happenings[::1 + len(walk.happenings) // 40]
+        spots = [Spot(each.process, each.levels, each.position) for each in some]
+        self.assertEqual(ticks_of(walk.reading, spots), [tick_of(each.levels, each.position) for each in some], name)
 
     def test_every_example(self):
         for path in examples():
@@ -70,7 +77,7 @@ class Agreement(unittest.TestCase):
             text = Texts(seed).score()
             seed += 1
             try:
-                self.agrees(text.encode(), f"{seed}: {text}")
+                self.agrees(text.encode(), f"{seed}: {text}", "SCORES" in os.environ or tried % 4 == 0)
                 tried += 1
             except Failed as refused:
                 self.assertEqual(refused.status, 3, refused.why)

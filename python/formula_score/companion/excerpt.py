@@ -12,7 +12,7 @@ from . import meter as meters
 from .bars import process_name, ticks_by_process
 from .meter import Meter
 from .midi_file import TEMPO, Timed, file_of, save
-from .playing import Failed, judge, listing_of_file, needs, run as play
+from .playing import Failed, judge, listing_of_file, must_differ, needs, run as play
 from .reading import read
 from .ticks import agreed
 from .walk import Played
@@ -59,6 +59,7 @@ of their own, a bar has several ticks: all are told, and the excerpt goes from t
 
 def run(options: argparse.Namespace) -> int:
     """Writes OUT, and tells its ticks."""
+    must_differ(options.score, options.out)
     window = window_of(options, judge(options.score, None))
     if options.channel is None and not (options.parts and window):
         needs(play(options.score, options.out, *window, *(["--parts"] if options.parts else [])))

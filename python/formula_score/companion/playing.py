@@ -132,6 +132,12 @@ def located(text: bytes, tick: int, process: int) -> Optional[list[int]]:
     return None if "never" in words else list(map(int, words[words.index("positions") + 1:]))
 
 
+def must_differ(source: str, target: str) -> None:
+    """Refuses to write a file over what it is made of."""
+    if os.path.exists(source) and os.path.exists(target) and os.path.samefile(source, target):
+        raise Failed(2, f"{target!r} is the file that is read: give another name to what is written")
+
+
 def judge(path: str, refused: Optional[int] = 1) -> bytes:
     """The text of a score that the program accepts; nothing is played."""
     text = text_of(path)

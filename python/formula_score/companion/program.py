@@ -4,6 +4,8 @@ from __future__ import annotations
 
 import argparse
 import importlib
+import io
+import os
 import sys
 from typing import NamedTuple, NoReturn, Optional, Sequence
 
@@ -59,6 +61,9 @@ def _usage(name: str) -> str:
 def main(words: Optional[Sequence[str]] = None, name: str = "formula-score") -> int:
     """Runs a verb on the words behind the program's name, and gives its status."""
     given = list(sys.argv[1:] if words is None else words)
+    for stream in (sys.stdout, sys.stderr):
+        if isinstance(stream, io.TextIOWrapper):
+            stream.reconfigure(errors="backslashreplace")
     if given[:1] in (["--help"], ["-h"]):
         print(_usage(name), end="")
         return OK
@@ -77,6 +82,7 @@ def main(words: Optional[Sequence[str]] = None, name: str = "formula-score") -> 
     module.arguments(parser)
     try:
         status: int = module.run(parser.parse_args(given[1:]))
+        sys.stdout.flush()
     except SystemExit as ended:
         return int(ended.code or 0)
     except Failed as failed:
@@ -84,8 +90,8 @@ def main(words: Optional[Sequence[str]] = None, name: str = "formula-score") -> 
             print(failed.said)
         print(failed.why, file=sys.stderr)
         return failed.status
-    except BrokenPipeError:
-        sys.stderr.close()
+    except BrokenPipeError:  # who reads wants no more; what is left is for nobody
+        os.dup2(os.open(os.devnull, os.O_WRONLY), sys.stdout.fileno())
         return FOUND
     except KeyboardInterrupt:
         return 130

@@ -16,7 +16,7 @@ from . import meter as meters
 from .drawing import Rule, bars, drawn, piece_of, quarters
 from .meter import Meter
 from .midi_file import save
-from .playing import Failed, Listing, listed, listing_of_file, needs, run as play, text_of
+from .playing import Failed, Listing, listed, listing_of_file, must_differ, needs, run as play, text_of
 from .reading import Reading, read
 from .ticks import Spot, ticks_of
 from .walk import Played
@@ -61,6 +61,7 @@ note of the file, a strong one at every fourth. The picture is the companion's, 
 
 def run(options: argparse.Namespace) -> int:
     """Draws OUT."""
+    must_differ(options.file, options.out)
     if not options.follow:
         data = text_of(options.file)
         save(options.out, _picture(_listing(options.file, data), _reading(data), options).encode())
