@@ -97,7 +97,8 @@ class Comments(unittest.TestCase):
     def test_right_ones(self):
         self.assertEqual(self.lines(f"{self.BAR}  # bar 1", f"{self.BAR}  # bar 2, softly", "# bars 3 to 4",
                                     "note c4 1/2;", "note c4 3/2;", "# bar 5", "note c4 1/2; note d4 1/2; # not bar 7",
-                                    f"{self.BAR} {self.BAR} # bars 6-7"), [])
+                                    f"{self.BAR} {self.BAR} # Bars 6-7: loud", f"{self.BAR} {self.BAR} # bars 8 and 9",
+                                    f"{self.BAR} # bars 3, 10 and 12", "note c4 1/1; # as in bar 4"), [])
 
     def test_a_bar_on_two_lines(self):
         self.assertEqual(self.lines("note c4 1/2;  # bar 1", "note c4 1/2;", "note c4 1/2;", "note c4 1/2;  # bar 2",

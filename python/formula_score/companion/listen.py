@@ -38,7 +38,7 @@ def player(font: Optional[str]) -> Optional[list[str]]:
     """The words of a synthesizer to which a MIDI file is added; None where there is none."""
     found = [font] if font else [path for pattern in FONTS for path in sorted(glob.glob(pattern))]
     if shutil.which("fluidsynth") and found:
-        return ["fluidsynth", "-i", "-q", found[0]]
+        return ["fluidsynth", "-n", "-i", "-q", found[0]]
     if shutil.which("timidity"):
         return ["timidity", "-id"]
     return None

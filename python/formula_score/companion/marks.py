@@ -16,7 +16,7 @@ from .reading import Comment, Phrase, Reading, Statement
 from .structure import Sequence, Span, Structure, sequences
 from .walk import Place
 
-_BARS = re.compile(r"bars?\s+([0-9]{1,6})(?:\s*(?:to|and|-|–)\s*([0-9]{1,6}))?(?![0-9/])")
+_BARS = re.compile(r"bars?\s+([0-9]{1,6})(?:\s*(to|-|–|and|,)\s*([0-9]{1,6}))?(?![0-9/])", re.IGNORECASE)
 
 
 class Finding(NamedTuple):
@@ -63,13 +63,14 @@ class _Sought(NamedTuple):
 
 
 def bars_of(comment: Comment) -> Optional[tuple[int, int]]:
-    """The bars that a comment counts, if it does."""
+    """The bars that a comment counts, if it does: a range, no list of bars such as 5 and 13."""
     found = _BARS.match(comment.text)
     if not found:
         return None
     first = int(found.group(1))
-    last = int(found.group(2) or first)
-    return (first, last) if last >= first else None
+    last = int(found.group(3) or first)
+    is_list = found.group(2) in ("and", ",") and last != first + 1
+    return None if last < first or is_list else (first, last)
 
 
 class _Lines:

@@ -7,15 +7,17 @@ what the program plays before anything is told.
 
 from __future__ import annotations
 
-from typing import Optional, Sequence
+from typing import Iterator, Optional, Sequence
 
 from ..shapes import Part
 from .playing import Failed, listing_of, located
 from .reading import Reading, read
 from .walk import Happening, Level, Played, tick_of
 
-_AT_ONCE = 2000
-_LONGEST = 1_000_000
+_ROWS = 1000             # in one score: each is a process
+_MARKS = 8000            # in one score: each has a control change of its own
+_STEPS = 8_000_000       # half of the steps that a score may have
+_LONGEST = 1_000_000     # the ticks of the longest rest
 
 
 class Spot:
@@ -71,16 +73,47 @@ def _within(levels: Sequence[Level], inside: str) -> str:
 
 def ticks_of(reading: Reading, spots: Sequence[Spot]) -> list[int]:
     """The tick of the file at which what begins at each of these is played, as the program says."""
-    found: list[int] = []
-    for first in range(0, len(spots), _AT_ONCE):
-        some = spots[first:first + _AT_ONCE]
-        branches = [f"branch {{ {_within(spot.levels, f'{_rest(spot.position)} control {at // 128} {at % 128};')} }}"
-                    for at, spot in enumerate(some)]
-        text = _head(reading, [level for spot in some for level in spot.levels]) + f"par {{ {' '.join(branches)} }}\n"
-        heard = {event.message[1] * 128 + event.message[2]: event.tick for event in listing_of(text.encode()).events
+    found: dict[int, int] = {}
+    for share in _shares(spots):
+        asked = [at for row in share for at in row]
+        number = {at: each for each, at in enumerate(asked)}
+        branches = [f"branch {{ {_within(spots[row[0]].levels, _marks(spots, row, number))} }}" for row in share]
+        head = _head(reading, [level for row in share for level in spots[row[0]].levels])
+        heard = {event.message[1] * 128 + event.message[2]: event.tick
+                 for event in listing_of(f"{head}par {{ {' '.join(branches)} }}\n".encode()).events
                  if event.message[0] == 0xB0}
-        found += [heard[at] for at in range(len(some))]
-    return found
+        found.update((at, heard[number[at]]) for at in asked)
+    return [found[at] for at in range(len(spots))]
+
+
+def _marks(spots: Sequence[Spot], row: Sequence[int], number: dict[int, int]) -> str:
+    """A control change at each position of a row, which rises, with its number."""
+    reached, words = 0, []
+    for at in row:
+        words += [_rest(spots[at].position - reached), f"control {number[at] // 128} {number[at] % 128};"]
+        reached = spots[at].position
+    return " ".join(words)
+
+
+def _shares(spots: Sequence[Spot]) -> Iterator[list[list[int]]]:
+    """The spots by their places in rows: those of a row lie in the same levels, and rise. As many rows at a time as one
+    score has room for."""
+    rows: dict[tuple[tuple[int, str], ...], list[int]] = {}
+    for at, spot in enumerate(spots):
+        rows.setdefault(tuple((level.begin, level.shape.name.text) for level in spot.levels), []).append(at)
+    share: list[list[int]] = []
+    steps = marks = 0
+    for row in rows.values():
+        row.sort(key=lambda at: spots[at].position)
+        for some in (row[first:first + _MARKS] for first in range(0, len(row), _MARKS)):
+            last = spots[some[-1]]
+            own = (last.position + sum(level.begin for level in last.levels)) // _LONGEST * 2
+            if share and (len(share) == _ROWS or steps + own > _STEPS or marks + len(some) > _MARKS):
+                yield share
+                share, steps, marks = [], 0, 0
+            share, steps, marks = [*share, some], steps + own, marks + len(some)
+    if share:
+        yield share
 
 
 def position_at(reading: Reading, levels: Sequence[Level], tick: int) -> Optional[int]:

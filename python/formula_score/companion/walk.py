@@ -61,6 +61,10 @@ class Happening(NamedTuple):
     percent: int = 0
 
 
+#: What a happening has behind its channel: values, and of a note velocity and percent.
+_Sent = Union[tuple[tuple[int, ...]], tuple[tuple[int, ...], int, int]]
+
+
 class Process(NamedTuple):
     """Where a process begins or ends: as written, and in the innermost of the levels."""
 
@@ -154,11 +158,11 @@ class Walk:
         return Process(self.now.written, self.now.position, self.levels, self.place)
 
     def _go(self, statement: Statement) -> None:
-        now = self.now
-        before = Happening(statement, now.number, self.place, now.written, now.written, self.levels, now.position,
-                           self.channel)
-        after: Optional[Happening] = getattr(self, f"on_{statement.word}")(statement, before)
-        self.statement((after or before)._replace(end=self.now.written))
+        now, place, levels, channel = self.now, self.place, self.levels, self.channel
+        begin, position = now.written, now.position
+        sent: Optional[_Sent] = getattr(self, f"on_{statement.word}")(statement)
+        self.statement(Happening(statement, now.number, place, begin, self.now.written, levels, position, channel,
+                                 *(sent or ())))
 
     def _inside(self, kind: str, node: Union[Statement, Phrase], block: Block, number: int = 0) -> None:
         outer = self.place
@@ -207,38 +211,37 @@ class Walk:
 
     # ---- statements
 
-    def on_note(self, of: Statement, before: Happening) -> Happening:
+    def on_note(self, of: Statement) -> _Sent:
         keys = tuple(self._amount(pitch, 0, 127) for pitch in of.pitches)
         length = self._length(of.length)
-        made = before._replace(values=keys, velocity=self._entry("loud", DEFAULT_VELOCITY),
-                               percent=self._entry("artic", DEFAULT_GATE))
+        sent = keys, self._entry("loud", DEFAULT_VELOCITY), self._entry("artic", DEFAULT_GATE)
         self._pass(length)
-        return made
+        return sent
 
     on_play = on_note
 
-    def on_rest(self, of: Statement, before: Happening) -> None:
+    def on_rest(self, of: Statement) -> None:
         self._pass(self._length(of.length))
 
     on_skip = on_rest
 
-    def on_control(self, of: Statement, before: Happening) -> Happening:
-        return before._replace(values=(self._amount(of.amount, 0, 127),))
+    def on_control(self, of: Statement) -> _Sent:
+        return ((self._amount(of.amount, 0, 127),),)
 
     on_program = on_control
 
-    def on_bend(self, of: Statement, before: Happening) -> Happening:
-        return before._replace(values=(self._amount(of.amount, -8192, 8191),))
+    def on_bend(self, of: Statement) -> _Sent:
+        return ((self._amount(of.amount, -8192, 8191),),)
 
-    def on_set(self, of: Statement, before: Happening) -> None:
+    def on_set(self, of: Statement) -> None:
         self.now.registers[of.number] = self._amount(of.amount, -_LIMIT, _LIMIT)
 
-    def on_if(self, of: Statement, before: Happening) -> None:
+    def on_if(self, of: Statement) -> None:
         holds = self._amount(of.amount, -_LIMIT, _LIMIT) > 0
         for block in of.blocks[:1] if holds else of.blocks[1:]:
             self._inside("block", of, block)
 
-    def on_repeat(self, of: Statement, before: Happening) -> None:
+    def on_repeat(self, of: Statement) -> None:
         count = self._length(of.length)
         self.rounds.append(0)
         for number in range(count):
@@ -246,11 +249,11 @@ class Walk:
             self._inside("round", of, of.blocks[0], number)
         self.rounds.pop()
 
-    def on_do(self, of: Statement, before: Happening) -> None:
+    def on_do(self, of: Statement) -> None:
         phrase = self.reading.phrases[of.name]
         self._inside("phrase", phrase, phrase.block)
 
-    def on_par(self, of: Statement, before: Happening) -> None:
+    def on_par(self, of: Statement) -> None:
         forked = self.now
         self._end()
         position, written = forked.position, forked.written
@@ -261,30 +264,30 @@ class Walk:
             position, written = max(position, self.now.position), max(written, self.now.written)
         self._start(position, written)
 
-    def on_warp(self, of: Statement, before: Happening) -> None:
+    def on_warp(self, of: Statement) -> None:
         shape, round_it = self.reading.shapes[of.name], self.levels
         level = Level(self.now.position, self.now.written, shape)
         self.levels, self.now.position = (*round_it, level), 0
         self._inside("block", of, of.blocks[0])
         self.levels, self.now.position = round_it, level.begin + shape.curve.outside(self.now.position, True)
 
-    def on_channel(self, of: Statement, before: Happening) -> None:
-        self.channel = of.number
+    def on_channel(self, of: Statement) -> None:
+        outer, self.channel = self.channel, of.number
         self._inside("block", of, of.blocks[0])
-        self.channel = before.channel
+        self.channel = outer
 
     def _listed(self, of: Statement, kind: str, entries: tuple[int, ...]) -> None:
         self.open_lists.append(Entries(kind, entries, of))
         self._inside("block", of, of.blocks[0])
         self.emptied(self.open_lists.pop(), self.now.number)
 
-    def on_volume(self, of: Statement, before: Happening) -> None:
+    def on_volume(self, of: Statement) -> None:
         self._listed(of, "loud", (of.number,))
 
-    def on_gate(self, of: Statement, before: Happening) -> None:
+    def on_gate(self, of: Statement) -> None:
         self._listed(of, "artic", (of.number,))
 
-    def on_rhythm(self, of: Statement, before: Happening) -> None:
+    def on_rhythm(self, of: Statement) -> None:
         self._listed(of, of.word, of.entries)
 
     on_artic = on_loud = on_rhythm
