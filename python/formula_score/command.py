@@ -14,7 +14,7 @@ import re
 import shutil
 import subprocess
 import tempfile
-from typing import NamedTuple, Optional, Sequence, Union
+from typing import Iterable, NamedTuple, Optional, Sequence, Union
 
 from .errors import CommandError, FileRefused, RecordRefused, Refused, ScoreError
 from .explain import (
@@ -121,11 +121,20 @@ def listing(source: Union[Path, bytes], program: Optional[str] = None) -> Listin
         name, path = _stored(source, folder, "in.mid"), os.path.join(folder, "out")
         _run(program, ["--list"], name, path)
         with open(path, encoding="ascii") as file:
-            head = re.fullmatch(r"format (\d+) tracks (\d+) division (\d+)\n", file.readline())
-            events = [FileEvent(int(track), int(tick), bytes.fromhex(message))
-                      for track, tick, message in (line.split(" ", 2) for line in file)]
+            try:
+                return listing_of(file)
+            except ValueError:
+                raise CommandError(0, "", "the program wrote something else than a listing") from None
+
+
+def listing_of(lines: Iterable[str]) -> Listing:
+    """The events that the lines of a listing tell, as the command writes them; a `ValueError` for other lines."""
+    rows = iter(lines)
+    head = re.fullmatch(r"format (\d+) tracks (\d+) division (\d+)\n?", next(rows, ""))
     if head is None:
-        raise CommandError(0, "", "the program wrote something else than a listing")
+        raise ValueError("the first line has no format, tracks and division")
+    events = [FileEvent(int(track), int(tick), bytes.fromhex(message))
+              for track, tick, message in (line.split(" ", 2) for line in rows)]
     form, tracks, division = map(int, head.groups())
     return Listing(form, tracks, division, events)
 
@@ -194,22 +203,26 @@ def _environment() -> dict[str, str]:
 def _run(program: Optional[str], options: Sequence[str], source: str, target: str,
          text: Optional[bytes] = None) -> str:
     """Runs the command, and gives its line; raises what its status says."""
+    status, said = answer(program, [*options, "--", source, target])
+    if status == 0:
+        return said
+    if status == 3:
+        _refuse(said, source, text, "--audit" in options)
+    raise CommandError(status, said, explanation(status, said, [*options, "--", source, target]))
+
+
+def answer(program: Optional[str], words: Sequence[str]) -> tuple[int, str]:
+    """Runs the command on these words, and gives its status and its line."""
     command = find_program(program)
     if command is None:
         raise CommandError(127, "", "there is no program: name it, or let FORMULA name it, or put formula into PATH")
-    words = [*options, "--", source, target]
     try:
         run = subprocess.run([command, *words], stdin=subprocess.DEVNULL, stdout=subprocess.PIPE,
                              stderr=subprocess.DEVNULL, check=False, env=_environment())
     except (OSError, ValueError) as error:  # a name that no file has is the one or the other
         reason = error.strerror if isinstance(error, OSError) else str(error)
         raise CommandError(127, "", f"{command} cannot be run: {reason}") from error
-    said = run.stdout.decode("utf-8", "replace").strip()
-    if run.returncode == 0:
-        return said
-    if run.returncode == 3:
-        _refuse(said, source, text, "--audit" in options)
-    raise CommandError(run.returncode, said, explanation(run.returncode, said, words))
+    return run.returncode, run.stdout.decode("utf-8", "replace").strip()
 
 
 def _refuse(said: str, source: str, text: Optional[bytes], is_record: bool) -> None:

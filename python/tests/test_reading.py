@@ -40,7 +40,7 @@ def positions(levels, tick):
             low, high = (low, middle) if outside([level], middle, True) >= tick else (middle + 1, high)
         found.append(low)
         tick = low
-    return found
+    return tuple(found)
 
 
 @needs_program

@@ -6,10 +6,15 @@ import os
 import pathlib
 import subprocess
 import tempfile
-from typing import NamedTuple, Optional, Sequence
+from typing import Iterable, NamedTuple, Optional, Sequence
 
-from ..command import find_program
+from .. import command
+from ..command import FileEvent as Event
+from ..errors import CommandError
 from ..explain import explanation
+
+__all__ = ["Event", "Failed", "Listing", "Run", "judge", "listed", "listing_of", "listing_of_file", "located",
+           "must_differ", "needs", "program", "run", "text_of"]
 
 _TOP = pathlib.Path(__file__).resolve().parents[3]
 
@@ -30,21 +35,10 @@ class Run(NamedTuple):
     why: str
 
 
-class Event(NamedTuple):
-    """An event of a listing: its track, its tick and its bytes."""
+class Listing(command.Listing):
+    """The events of a file."""
 
-    track: int
-    tick: int
-    message: bytes
-
-
-class Listing(NamedTuple):
-    """What `--list` says of a file."""
-
-    format: int
-    tracks: int
-    division: int
-    events: tuple[Event, ...]
+    __slots__ = ()
 
     @property
     def end(self) -> int:
@@ -54,7 +48,7 @@ class Listing(NamedTuple):
 
 def program() -> str:
     """The proved program; built on first use, where this package stands in the repository."""
-    found = find_program()
+    found = command.find_program()
     if found is None and (_TOP / "scripts" / "formula").exists():
         built = subprocess.run([_TOP / "scripts" / "formula", "--program"], stdout=subprocess.PIPE, check=False)
         found = built.stdout.decode().strip() if built.returncode == 0 else None
@@ -67,12 +61,10 @@ def run(source: str, target: str, *options: str) -> Run:
     """Runs the program on two files; nobody is told anything."""
     words = [*options, "--", source, target]
     try:
-        done = subprocess.run([program(), *words], stdin=subprocess.DEVNULL, stdout=subprocess.PIPE,
-                              stderr=subprocess.DEVNULL, check=False)
-    except OSError as error:
-        raise Failed(1, f"{program()} cannot be run: {error.strerror}") from error
-    said = done.stdout.decode("utf-8", "replace").strip()
-    return Run(done.returncode, said, explanation(done.returncode, said, words) if done.returncode else "")
+        status, said = command.answer(program(), words)
+    except CommandError as error:
+        raise Failed(1, error.why) from error
+    return Run(status, said, explanation(status, said, words) if status else "")
 
 
 def needs(made: Run, refused: Optional[int] = None) -> Run:
@@ -91,15 +83,9 @@ def text_of(path: str) -> bytes:
         raise Failed(2, f"{path!r} cannot be read: {error.strerror}") from error
 
 
-def listed(text: str) -> Listing:
-    """What a listing says."""
-    head, *lines = text.splitlines()
-    words = head.split()
-    events = []
-    for line in lines:
-        track, tick, message = line.split(" ", 2)
-        events.append(Event(int(track), int(tick), bytes.fromhex(message)))
-    return Listing(int(words[1]), int(words[3]), int(words[5]), tuple(events))
+def listed(lines: Iterable[str]) -> Listing:
+    """What the lines of a listing say; a `ValueError` where they are none."""
+    return Listing(*command.listing_of(lines))
 
 
 def listing_of_file(path: str, refused: Optional[int] = None) -> Listing:
@@ -108,7 +94,7 @@ def listing_of_file(path: str, refused: Optional[int] = None) -> Listing:
         out = os.path.join(folder, "out.listing")
         needs(run(path, out, "--list"), refused)
         with open(out, encoding="ascii") as file:
-            return listed(file.read())
+            return listed(file)
 
 
 def listing_of(text: bytes, options: Sequence[str] = ()) -> Listing:
@@ -121,15 +107,12 @@ def listing_of(text: bytes, options: Sequence[str] = ()) -> Listing:
         return listing_of_file(target)
 
 
-def located(text: bytes, tick: int, process: int) -> Optional[list[int]]:
-    """What `--locate` says of a tick: its position in each level open where the process starts; None for never."""
-    with tempfile.TemporaryDirectory() as folder:
-        source = os.path.join(folder, "in.score")
-        with open(source, "wb") as file:
-            file.write(text)
-        words = needs(run(source, os.path.join(folder, "none"), "--locate", str(tick), "--process",
-                          str(process))).said.split()
-    return None if "never" in words else list(map(int, words[words.index("positions") + 1:]))
+def located(text: bytes, tick: int, process: int) -> Optional[tuple[int, ...]]:
+    """The positions of a tick in the levels that are open where a process starts; None where there is none."""
+    try:
+        return command.locate(text, tick, process, program()).positions
+    except CommandError as error:
+        raise Failed(error.status, error.why, error.said) from error
 
 
 def must_differ(source: str, target: str) -> None:

@@ -84,8 +84,8 @@ def _listing(path: str, data: bytes) -> Listing:
     """The listing of a file, of what a score plays, or of one that is given."""
     if data.startswith(b"format "):
         try:
-            return listed(data.decode("ascii"))
-        except (ValueError, IndexError):
+            return listed(data.decode("ascii").splitlines())
+        except ValueError:
             raise Failed(1, f"{path!r} is no listing of a MIDI file") from None
     if data[:4] == b"MThd" or data[:4] == b"RIFF":
         return listing_of_file(path, 1)
