@@ -152,6 +152,8 @@ class Ticks(unittest.TestCase):
         status, said = bars(text, "--tick", "2")
         self.assertEqual((status, said), (0, ["bar 2: tick 1920 in process 1 (branch 1, line 4)",
                                               "bar 2: tick 3840 in process 2 (branch 2, line 5)"]))
+        self.assertEqual(bars(text, "--tick", "2", "--process", "2")[1], said[1:])
+        self.assertEqual(bars(text, "--tick", "2", "--process", "3")[0], 1)
         _, said = bars(text, "--bar", "2880")
         self.assertEqual([line.split(";")[0] for line in said],
                          ["tick 2880: written in bar 2, beat 3",

@@ -66,6 +66,8 @@ class Excerpts(unittest.TestCase):
         self.assertEqual(self.made(source, "--bars", "2"), "bar 2 begins at tick 1920 in process 1 (branch 1, line 4)\n"
                          "bar 2 begins at tick 3840 in process 2 (branch 2, line 5)\nbar 2: ticks 1920 to 7680\n")
         self.assertEqual(self.out.read_bytes(), self.of_the_program(source, "--from", "1920").read_bytes())
+        self.assertEqual(self.made(source, "--bars", "1", "--process", "2"), "bar 1: ticks 0 to 3840\n")
+        self.assertEqual(self.out.read_bytes(), self.of_the_program(source, "--to", "3840").read_bytes())
 
     def test_what_cannot_be_cut(self):
         for words, status in ((["--bars", "17"], 1), (["--bars", "0"], 1), (["--bars", "9-20"], 1),

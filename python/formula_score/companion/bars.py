@@ -3,7 +3,7 @@
 from __future__ import annotations
 
 import argparse
-from typing import Iterator
+from typing import Iterator, Optional
 
 from . import marks, meter as meters
 from .marks import Finding
@@ -17,10 +17,17 @@ from .walk import Happening, Place, Played, Process
 _SHOWN = 6
 
 
+def process_argument(parser: argparse.ArgumentParser) -> None:
+    """The option --process."""
+    parser.add_argument("--process", type=int, metavar="P", help="the bars of this process, as the program numbers "
+                        "them, where branches have warps of their own; else those of all")
+
+
 def arguments(parser: argparse.ArgumentParser) -> None:
     """What the verb takes."""
     parser.add_argument("score", metavar="SCORE")
     meters.arguments(parser)
+    process_argument(parser)
     asked = parser.add_mutually_exclusive_group()
     asked.add_argument("--tick", type=int, metavar="BAR", help="tell the tick of the file at which a bar begins; for "
                        "the bar behind the last one that of the end")
@@ -41,9 +48,9 @@ def run(options: argparse.Namespace) -> int:
     reading = read(text)
     meter = Meter(options.meter, options.upbeat, reading.whole)
     if options.tick is not None:
-        return _tell_tick(agreed(text), meter, options.tick)
+        return _tell_tick(agreed(text), meter, options.tick, options.process)
     if options.bar is not None:
-        return _tell_bar(agreed(text), meter, options.bar)
+        return _tell_bar(agreed(text), meter, options.bar, options.process)
     named = sections(reading, lambda comment: marks.bars_of(comment) is None)
     wanted = [each for mark in marks.marks(reading) for each in (mark.first, mark.last)]
     structure = Structure(reading, wanted + [each for section in named for each in (section.first, section.last)])
@@ -165,31 +172,35 @@ def _where(begun: Process) -> str:
     return "behind a `par`" if begun.written or begun.levels or place.kind != "score" else "outside all branches"
 
 
-def _tell_tick(walk: Played, meter: Meter, bar: int) -> int:
+def _tell_tick(walk: Played, meter: Meter, bar: int, process: Optional[int]) -> int:
     last = walk.ended[len(walk.begun) - 1].written
     if not (0 if meter.upbeat else 1) <= bar or meter.start(bar) > last:
         print(f"there is no bar {bar}: the piece has {meter.lasts(0, last)}, {_bars(Span(0, last, walk.place), meter)}")
         return 1
-    for tick, processes in ticks_by_process(walk, meter.start(bar)).items():
+    found = ticks_by_process(walk, meter.start(bar), process)
+    for tick, processes in found.items():
         only = "" if len(walk.begun) == 1 else " in " + ", ".join(process_name(walk, each) for each in processes)
         print(f"bar {bar}: tick {tick}{only}")
-    return 0
+    if not found:
+        print(f"{'no' if process is None else 'no such'} process plays where bar {bar} begins")
+    return 0 if found else 1
 
 
-def ticks_by_process(walk: Played, written: int) -> dict[int, list[int]]:
-    """The ticks of the file at a position as written, each with the processes in which it lies there."""
-    spots = spots_at(walk, written)
+def ticks_by_process(walk: Played, written: int, only: Optional[int]) -> dict[int, list[int]]:
+    """The ticks of the file at a position as written, each with the processes in which it lies there; or of one."""
+    spots = [spot for spot in spots_at(walk, written) if only in (None, spot.process)]
     found: dict[int, list[int]] = {}
     for spot, tick in zip(spots, ticks_of(walk.reading, spots)):
         found.setdefault(tick, []).append(spot.process)
     return dict(sorted(found.items()))
 
 
-def _tell_bar(walk: Played, meter: Meter, tick: int) -> int:
+def _tell_bar(walk: Played, meter: Meter, tick: int, process: Optional[int]) -> int:
     end = walk.tick_of_end(len(walk.begun) - 1)
-    playing = happening_at(walk, tick)
+    playing = [each for each in happening_at(walk, tick) if process in (None, each.process)]
     if not playing:
-        print(f"nothing is played at tick {tick}: the piece ends at tick {end}")
+        where = "" if process is None else f" in process {process}"
+        print(f"nothing is played at tick {tick}{where}: the piece ends at tick {end}")
         return 1
     found: dict[int, list[tuple[Happening, str]]] = {}
     for each in playing:

@@ -9,7 +9,7 @@ import tempfile
 from typing import NamedTuple, Optional
 
 from . import meter as meters
-from .bars import process_name, ticks_by_process
+from .bars import process_argument, process_name, ticks_by_process
 from .meter import Meter
 from .midi_file import TEMPO, Timed, file_of, save
 from .playing import Failed, judge, listing_of_file, must_differ, needs, run as play
@@ -45,6 +45,7 @@ def arguments(parser: argparse.ArgumentParser) -> None:
     parser.add_argument("out", metavar="OUT")
     parser.add_argument("--bars", type=bars_of, metavar="9-12", help="these bars alone; `9` is one, `9-` all from 9 on")
     meters.arguments(parser)
+    process_argument(parser)
     parser.add_argument("--parts", action="store_true", help="a file of format 1, with a track for each channel; "
                         + OUTSIDE)
     parser.add_argument("--channel", type=int, choices=range(16), metavar="N", help="one channel alone, 0 to 15; "
@@ -53,8 +54,9 @@ def arguments(parser: argparse.ArgumentParser) -> None:
 
 Bars are counted as they are written. Their ticks are asked of the program, and it makes the excerpt, with its --from
 and --to: with the programs, controllers and bends that hold at its beginning. Where the branches of a `par` have warps
-of their own, a bar has several ticks: all are told, and the excerpt goes from the first to the last of them. With
---parts and --channel, {OUTSIDE}; the file says so in its first text."""
+of their own, a bar has several ticks: all are told, and the excerpt goes from the first to the last of them, if it is
+not to be that of one --process. With --parts and --channel, {OUTSIDE};
+the file says so in its first text."""
 
 
 def run(options: argparse.Namespace) -> int:
@@ -98,9 +100,9 @@ def window_of(options: argparse.Namespace, text: bytes) -> list[str]:
     if first < (0 if meter.upbeat else 1) or not all(is_there):
         there = f"the piece ends in bar {meter.at(last - 1).bar}: it has {meter.lasts(0, last)}" if last else ""
         raise Failed(1, there or "the piece is empty")
-    begin = _ticks(walk, meter, first)
+    begin = _ticks(walk, meter, first, options.process)
     words = ["--from", str(min(begin))]
-    end = _ticks(walk, meter, behind) if behind and meter.start(behind) < last else []
+    end = _ticks(walk, meter, behind, options.process) if behind and meter.start(behind) < last else []
     if end:
         words += ["--to", str(max(end))]
     upto = max(end) if end else walk.tick_of_end(len(walk.begun) - 1)
@@ -109,12 +111,12 @@ def window_of(options: argparse.Namespace, text: bytes) -> list[str]:
     return words
 
 
-def _ticks(walk: Played, meter: Meter, bar: int) -> list[int]:
+def _ticks(walk: Played, meter: Meter, bar: int, process: Optional[int]) -> list[int]:
     """The ticks at which a bar begins; where they are several, they are told."""
-    found = ticks_by_process(walk, meter.start(bar))
+    found = ticks_by_process(walk, meter.start(bar), process)
     if len(found) > 1:
         for tick, processes in found.items():
             print(f"bar {bar} begins at tick {tick} in {', '.join(process_name(walk, each) for each in processes)}")
     if not found:
-        raise Failed(1, f"no process plays where bar {bar} begins")
+        raise Failed(1, f"no {'such ' if process is not None else ''}process plays where bar {bar} begins")
     return list(found)

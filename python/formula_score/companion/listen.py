@@ -11,6 +11,7 @@ import tempfile
 from typing import Optional
 
 from . import meter as meters
+from .bars import process_argument
 from .excerpt import bars_of, window_of
 from .playing import Failed, judge, needs, run as play
 
@@ -27,6 +28,7 @@ def arguments(parser: argparse.ArgumentParser) -> None:
     parser.add_argument("score", metavar="SCORE")
     parser.add_argument("--bars", type=bars_of, metavar="9-12", help="these bars alone, as `excerpt` cuts them")
     meters.arguments(parser)
+    process_argument(parser)
     parser.add_argument("--font", metavar="FILE.sf2", help="the sound font for fluidsynth")
     parser.description = f"""{parser.description}
 
