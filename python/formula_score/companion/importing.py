@@ -1,0 +1,85 @@
+"""The verb `import`: a score from a MIDI file, played and compared with it."""
+
+from __future__ import annotations
+
+import argparse
+import os
+import tempfile
+
+from ..importer.compare import compared
+from ..importer.parts import Piece, piece_of
+from ..importer.scaling import Scaled, scaled
+from ..importer.score import fitting_text
+from .playing import Failed, Listing, listing_of_file, needs, run as play
+
+MOST_BYTES = 1_048_576
+
+
+def arguments(parser: argparse.ArgumentParser) -> None:
+    """What the verb takes."""
+    parser.add_argument("file", metavar="FILE.mid")
+    parser.add_argument("score", metavar="SCORE", help="the score that is written; an older one is replaced")
+    parser.add_argument("--scale", action="store_true", help="for a file with more than 960 or less than 24 ticks a "
+                        "quarter note, where no exact score can be: the nearest ticks of 960 or 24")
+    parser.description = f"{parser.description}\n\n" + __doc__.split("\n")[0] + """
+
+Each track and channel is a branch, or some where notes begin together and end apart. What comes again is a phrase
+or a loop, and lists say velocities and articulations where that is shorter. The score is then played by the program,
+and each note, control change, program change and bend compared with the file's: status 1 where one differs.
+
+What a score has no word for is left out, told and counted: tempo, texts, pressure, system exclusive messages. A
+note-off is sent with velocity 64; one that ends no note is left out; a note that never ends is ended with the file.
+Notes of length 0 stay. A score plays 120 quarter notes a minute; its first lines tell how to have the file's tempo."""
+
+
+def run(options: argparse.Namespace) -> int:
+    """Writes the score, and tells how it compares."""
+    listing = listing_of_file(options.file, refused=1)
+    fit = scaled(listing, options.scale)
+    for line in fit.told:
+        print(line)
+    if fit.listing is None:
+        return 1
+    piece = piece_of(fit.listing)
+    text, voices = fitting_text(piece, os.path.basename(options.file), MOST_BYTES)
+    if len(text) > MOST_BYTES:
+        raise Failed(1, f"{options.file}: the score would have {len(text):,} bytes, and at most 1,048,576 are read")
+    played = _played(text, options.score)
+    _tell(options.file, listing, piece)
+    answer = compared(fit.listing, piece, played)
+    each = len(text) / max(1, answer.events)
+    print(f"{options.score}: {voices} branches, {text.count('phrase '):,} phrases, {len(text):,} bytes, {each:.1f} an "
+          "event")
+    if answer.differing:
+        print(f"played and compared: {answer.differing:,} of {answer.events:,} events differ; first {answer.first}")
+        return 1
+    print(f"played and compared: all {answer.events:,} events are at their ticks")
+    if answer.reordered:
+        print(f"at one tick of a channel {answer.reordered:,} stand in another order than in the file")
+    return 0
+
+
+def _played(text: str, path: str) -> Listing:
+    """The listing of what the text plays; it is then in the file `path`."""
+    with tempfile.TemporaryDirectory() as folder:
+        source, target = os.path.join(folder, "in.score"), os.path.join(folder, "out.mid")
+        with open(source, "w", encoding="ascii", newline="\n") as file:
+            file.write(text)
+        needs(play(source, target, "--workers", "0"))
+        listing = listing_of_file(target)
+    try:
+        with open(path, "w", encoding="ascii", newline="\n") as file:
+            file.write(text)
+    except OSError as error:
+        raise Failed(4, f"{path!r} cannot be written: {error.strerror}") from error
+    return listing
+
+
+def _tell(path: str, listing: Listing, piece: Piece) -> None:
+    notes = sum(len(part.notes) for part in piece.parts)
+    messages = sum(len(part.messages) for part in piece.parts)
+    print(f"{path}: format {listing.format}, {listing.tracks} tracks, {listing.division} ticks a quarter note; "
+          f"{notes:,} notes, {messages:,} control changes, programs and bends")
+    left = [f"{count:,} {what}" for what, count in sorted(piece.left_out.items()) if count]
+    if left:
+        print(f"left out or changed: {'; '.join(left)}")

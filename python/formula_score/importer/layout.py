@@ -1,0 +1,136 @@
+"""Statements and blocks as the lines of a text: short ones side by side, a bar or some bars a line.
+
+A line that begins with a bar says behind a `#` which bars it has. Where a bar takes several lines, the first says so;
+above a block of several lines that holds whole bars, the comment has a line of its own.
+"""
+
+from __future__ import annotations
+
+from dataclasses import dataclass, field
+from typing import NamedTuple, Optional, Union
+
+WIDTH = 100
+_SHORT_BLOCK = 64
+_COMMENT = len("  # bars 100 to 199")
+
+
+class Plain(NamedTuple):
+    """A statement without a block."""
+
+    text: str
+
+
+class Mark(NamedTuple):
+    """Where a bar begins; no statement begins with the ones behind it, up to `last`."""
+
+    number: int
+    last: int
+
+
+@dataclass(frozen=True)
+class Braces:
+    """A block: what stands before its brace, and what it holds."""
+
+    head: str
+    inner: tuple["Node", ...]
+
+
+Node = Union[Plain, Mark, Braces]
+
+
+def flat(nodes: tuple[Node, ...]) -> str:
+    """The nodes on one line."""
+    texts = []
+    for node in nodes:
+        if isinstance(node, Plain):
+            texts.append(node.text)
+        elif isinstance(node, Braces):
+            texts.append(f"{node.head} {{ {flat(node.inner)} }}")
+    return " ".join(texts)
+
+
+def has_mark(nodes: tuple[Node, ...]) -> bool:
+    """Whether a bar begins among the nodes."""
+    return any(isinstance(node, Mark) or isinstance(node, Braces) and has_mark(node.inner) for node in nodes)
+
+
+def _bars(first: int, last: int) -> str:
+    return f"# bar {first}" if first == last else f"# bars {first} to {last}"
+
+
+@dataclass
+class Page:
+    """Lines that are written one after another."""
+
+    with_bars: bool
+    lines: list[str] = field(default_factory=list)
+    _open: list[str] = field(default_factory=list)
+    _whole: int = 0                # how many statements of the open line stand before the last bar line
+    _begun: Optional[Mark] = None  # the bar line at which the open line began
+    _last: Optional[Mark] = None   # the last bar line
+
+    def write(self, nodes: tuple[Node, ...], depth: int) -> None:
+        """Writes the nodes, indented so deep."""
+        for at, node in enumerate(nodes):
+            if isinstance(node, Mark):
+                if self.with_bars and self._open and self._begun is None:
+                    self._whole = len(self._open)
+                    self._flush(depth)
+                if not self._open:
+                    self._begun = node
+                self._whole, self._last = len(self._open), node
+            elif isinstance(node, Plain):
+                self._add(node.text, depth)
+            elif not has_mark(node.inner) and len(flat((node,))) <= _SHORT_BLOCK:
+                self._add(flat((node,)), depth)
+            else:
+                self._block(node, nodes[at + 1] if at + 1 < len(nodes) else None, depth)
+
+    def end(self, depth: int) -> None:
+        """Ends the last line."""
+        self._flush(depth)
+
+    def _block(self, block: Braces, behind: Optional[Node], depth: int) -> None:
+        self._flush(depth)
+        if not has_mark(block.inner):
+            if self.with_bars and self._begun and isinstance(behind, Mark):
+                self.lines.append("  " * depth + _bars(self._begun.number, behind.number - 1))
+            self._begun = None
+        heads, inner = [block.head], block.inner
+        while len(inner) == 1 and isinstance(inner[0], Braces) and len(flat(inner)) > _SHORT_BLOCK:
+            heads.append(inner[0].head)
+            inner = inner[0].inner
+        self._head(" { ".join(heads), depth)
+        self.write(inner, depth + 1)
+        self._flush(depth + 1)
+        self.lines.append("  " * depth + " ".join("}" * len(heads)))
+
+    def _add(self, text: str, depth: int) -> None:
+        room = WIDTH - 2 * depth - (_COMMENT if self.with_bars else 0)
+        if self._open and sum(map(len, self._open)) + len(self._open) + len(text) > room:
+            behind = self._open[self._whole:] if self._whole else []
+            del self._open[len(self._open) - len(behind):]
+            self._flush(depth)
+            self._open = behind
+            if behind:
+                self._begun = self._last
+        self._open.append(text)
+
+    def _flush(self, depth: int) -> None:
+        if not self._open:
+            return
+        line, is_whole = "  " * depth + " ".join(self._open), self._whole == len(self._open)
+        if self.with_bars and self._begun and self._last and (is_whole or self._last.number == self._last.last):
+            line += "  " + _bars(self._begun.number, self._last.number - is_whole)
+        self.lines.append(line)
+        self._begun = self._last if is_whole else None
+        self._open, self._whole = [], 0
+
+    def _head(self, head: str, depth: int) -> None:
+        indent, line = "  " * depth, ""
+        for word in head.split(" "):
+            if line and len(indent) + len(line) + len(word) > WIDTH - 3:
+                self.lines.append(indent + line)
+                indent, line = "  " * (depth + 2), ""
+            line = f"{line} {word}" if line else word
+        self.lines.append(f"{indent}{line} {{")

@@ -1,0 +1,161 @@
+"""Scores from MIDI files that are made here: what is written, and whether tools/score_model plays the file's events."""
+
+import pathlib
+import random
+import tempfile
+import unittest
+
+from .companion import score
+from .midi_files import meta, midi, notes, track
+from .program import needs_program
+
+import score_model
+
+FILES = 25
+
+
+def imported(file, *words):
+    """What the verb answers, and the text that it wrote."""
+    with tempfile.TemporaryDirectory() as folder:
+        source, target = pathlib.Path(folder, "in.mid"), pathlib.Path(folder, "out.score")
+        source.write_bytes(file)
+        answer = score("import", source, target, *words)
+        return answer, target.read_text() if target.exists() else None
+
+
+def played(text):
+    """The events of a text by the model, note-offs by their keys, sorted."""
+    events, end = score_model.played(text.encode())
+    return sorted((tick, bytes(message[:2] if message[0] >> 4 == 8 else message)) for tick, _, _, message in events), end
+
+
+def sent(events):
+    """The same of a file's events."""
+    off = [(tick, message[:2] if message[0] >> 4 == 8 else message) for tick, message in events]
+    return sorted((tick, bytes([message[0] - 16, message[1]]) if message[0] >> 4 == 9 and message[2] == 0 else message)
+                  for tick, message in off)
+
+
+WALTZ = midi(96, [
+    track([(0, meta(0x58, bytes([3, 2, 24, 8]))), (0, meta(0x51, (400_000).to_bytes(3, "big")))], 96 * 12),
+    track([(0, meta(0x03, b"Flute")), (0, bytes([0xC0, 73]))]
+          + notes(0, *((tick, tick + 86, 72 + tick // 96 % 3, 64) for tick in range(0, 96 * 12, 96))), 96 * 12),
+    track([(0, meta(0x03, b"Chords"))]
+          + notes(1, *((tick, tick + 288, key, 50 + tick // 36) for tick in range(0, 96 * 12, 288)
+                       for key in (48, 52, 55))), 96 * 12),
+])
+
+
+@needs_program
+class Written(unittest.TestCase):
+    def test_a_waltz_is_written_as_one_would(self):
+        answer, text = imported(WALTZ)
+        self.assertEqual((answer.status, answer.complaint), (0, ""))
+        self.assertEqual(text, """\
+# Made from in.mid by formula-score import
+# It plays 120 quarter notes a minute; for the file's own tempo put `warp tempo {` and `}` round the `par`.
+formula 2; division 96;
+shape tempo = flat 3/1 by 800;
+par {
+  # Flute
+  branch {
+    program 73; note c5 1/4; note cs5 1/4; note d5 1/4;  # bar 1
+    repeat 3 { note c5 1/4; note cs5 1/4; note d5 1/4; }  # bars 2 to 4
+  }
+  # Chords
+  branch { channel 1 { gate 100 {
+    loud [50, 58, 66, 74] { repeat 4 { note c3, e3, g3 3/4; } }  # bars 1 to 4
+  } } }
+}
+""")
+
+    def test_its_comments_count_its_bars(self):
+        with tempfile.TemporaryDirectory() as folder:
+            path = pathlib.Path(folder, "waltz.score")
+            path.write_text(imported(WALTZ)[1])
+            answer = score("bars", path, "--meter", "3/4")
+        self.assertEqual(answer.status, 0, answer.said)
+
+    def test_what_has_no_word_is_told(self):
+        file = midi(480, [track([(0, meta(0x05, b"la")), (0, bytes([0x90, 60, 64])), (0, b"\xd0\x40"),
+                                 (10, b"\xf0\x02\x01\xf7"), (240, bytes([0x80, 60, 7])), (240, bytes([0x80, 61, 64])),
+                                 (480, bytes([0x90, 62, 64]))], 960)])
+        answer, text = imported(file)
+        self.assertEqual(answer.status, 0, answer.complaint)
+        for told in ("1 lyric", "1 channel pressure", "1 system exclusive message", "1 note-off without a note",
+                     "1 release velocity other than 64", "1 note without an end (ended with the file)"):
+            self.assertIn(told, answer.said)
+        self.assertEqual(played(text), ([(0, b"\x90\x3c\x40"), (240, b"\x80\x3c"), (480, b"\x90\x3e\x40"),
+                                         (960, b"\x80\x3e")], 960))
+
+    def test_a_division_that_a_score_cannot_have(self):
+        even = notes(0, (0, 512, 60, 64), (1024, 2048, 62, 64))
+        answer, text = imported(midi(1024, [track(even, 2048)]))
+        self.assertIn("written with 512; no event moves", answer.said)
+        self.assertEqual(played(text)[0], sent((tick // 2, message) for tick, message in even))
+        odd = notes(0, (0, 511, 60, 64), (1024, 2047, 62, 64))
+        answer, text = imported(midi(1024, [track(odd, 2048)]))
+        self.assertEqual((answer.status, text), (1, None))
+        self.assertIn("moves 2 of 4 events, by at most 64/1024 of a tick", answer.said)
+        answer, text = imported(midi(1024, [track(odd, 2048)]), "--scale")
+        self.assertEqual(answer.status, 0, answer.said)
+        self.assertEqual([tick for tick, _ in played(text)[0]], [0, 479, 960, 1919])  # 479.06 and 1919.06 of 960
+
+    def test_another_file_is_refused_with_the_programs_line(self):
+        answer, text = imported(b"RIFF")
+        self.assertEqual((answer.status, text), (1, None))
+        self.assertIn("byte 0 fault 21", answer.said)
+
+
+class Maker:
+    """Random files: lines, chords, notes that overlap or have no length, and messages among them."""
+
+    def __init__(self, seed):
+        self.random = random.Random(seed)
+
+    def line(self, channel, division):
+        r = self.random
+        tick, found = r.choice([0, 0, r.randrange(division)]), []
+        step = r.choice([division // 4, division // 2, division, 7])
+        loud = r.choice([[64], [80, 60], list(range(1, 127))])
+        pattern = [(r.randrange(30, 90), r.choice([step, 2 * step, step // 2, 1, 0, step - 1, 5 * step]))
+                   for _ in range(r.randrange(1, 9))]
+        for at in range(r.randrange(1, 60)):
+            key, sounds = pattern[at % len(pattern)]
+            for high in r.choice([(0,), (0,), (0, 4, 7)]):
+                found.append((tick, tick + sounds, key + high, r.choice(loud)))
+            tick += r.choice([step, step, 2 * step, r.randrange(1, 50)])
+        events = notes(channel, *found)
+        for _ in range(r.choice([0, 2, 30])):
+            at = r.randrange(tick + 1)
+            message = r.choice([bytes([0xB0 | channel, r.randrange(120), r.randrange(128)]),
+                                bytes([0xC0 | channel, r.randrange(128)]),
+                                bytes([0xE0 | channel, r.randrange(128), r.randrange(128)])])
+            events.append((at, message))
+        return sorted(events, key=lambda each: each[0])
+
+    def file(self):
+        """The bytes of a file, its events, and its end."""
+        r = self.random
+        division = r.choice([24, 96, 120, 480, 89, 960])
+        tracks = [self.line(r.randrange(16), division) for _ in range(r.randrange(1, 5))]
+        end = max(tick for events in tracks for tick, _ in events) + r.choice([0, 1, division])
+        head = [(0, meta(0x58, bytes([r.choice([2, 3, 4, 7]), 2, 24, 8])))] if r.random() < 0.7 else []
+        if len(tracks) == 1:
+            return midi(division, [track(head + tracks[0], end)]), tracks[0], end
+        whole = [track(head, end), *(track(events, end) for events in tracks)]
+        return midi(division, whole), [event for events in tracks for event in events], end
+
+
+@needs_program
+class RandomFiles(unittest.TestCase):
+    def test_the_score_plays_the_files_events(self):
+        for seed in range(FILES):
+            file, events, end = Maker(seed).file()
+            answer, text = imported(file)
+            self.assertEqual(answer.status, 0, f"{seed}: {answer}")
+            self.assertEqual(played(text), (sent(events), end), seed)
+
+
+if __name__ == "__main__":
+    unittest.main()
