@@ -308,7 +308,7 @@ class Played(Walk):
         """All events with their ticks, in the order of the file: what the program is expected to play."""
         made: list[list[Made]] = [[] for _ in self.begun]
         for happening in self.happenings:
-            made[happening.process] += _messages(happening)
+            made[happening.process] += messages_of(happening)
         return sorted(Event(tick, process, number, message) for process, own in enumerate(made)
                       for number, (tick, message) in enumerate(come_out(own, self.tick_of_end(process))))
 
@@ -328,7 +328,7 @@ def tick_of(levels: tuple[Level, ...], position: int) -> int:
     return outside(parts_of(levels), position, True)
 
 
-def _messages(happening: Happening) -> list[Made]:
+def messages_of(happening: Happening) -> list[Made]:
     """The messages of a statement with their ticks, the note-offs of a note behind its note-ons."""
     says, channel, values = happening.statement.word, happening.channel, happening.values
     if says in ("rest", "skip"):

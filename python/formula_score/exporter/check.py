@@ -1,0 +1,64 @@
+"""The real times of the notes of two files, each as the program lists it."""
+
+from __future__ import annotations
+
+from bisect import bisect_right
+from collections import defaultdict
+from fractions import Fraction
+from typing import NamedTuple
+
+from ..companion.playing import Listing
+
+
+class Checked(NamedTuple):
+    """How many notes there are, how many lie more than a millisecond off, the greatest distance, and the first."""
+
+    notes: int
+    off: int
+    most: Fraction
+    first: str
+
+
+def _times(listing: Listing) -> dict[tuple[int, int, int], list[Fraction]]:
+    """Of each channel and key the milliseconds of its note-ons and of its note-offs."""
+    tempos = sorted((event.tick, int.from_bytes(event.message[3:6], "big")) for event in listing.events
+                    if event.message[:3] == b"\xff\x51\x03")
+    places, times, last = [0], [Fraction(0)], 500_000
+    lasts = [last]
+    for tick, tempo in tempos:
+        times.append(times[-1] + Fraction((tick - places[-1]) * last, 1000 * listing.division))
+        places.append(tick)
+        last = tempo
+        lasts.append(last)
+    found: dict[tuple[int, int, int], list[Fraction]] = defaultdict(list)
+    for event in listing.events:
+        kind = event.message[0] >> 4
+        if kind in (8, 9):
+            at = bisect_right(places, event.tick) - 1
+            time = times[at] + Fraction((event.tick - places[at]) * lasts[at], 1000 * listing.division)
+            found[event.message[0] & 15, event.message[1], kind].append(time)
+    return {key: sorted(several) for key, several in found.items()}
+
+
+def checked(proved: Listing, made: Listing) -> Checked:
+    """Whether each note of one file begins and ends within a millisecond of the other's."""
+    wanted, got = _times(proved), _times(made)
+    notes = off = 0
+    most, first = Fraction(0), ""
+    for (channel, key, kind), times in sorted(wanted.items()):
+        others = got.get((channel, key, kind), [])
+        notes += len(times) if kind == 9 else 0
+        if len(others) != len(times):
+            return Checked(notes, max(len(times), len(others)), Fraction(0),
+                           f"channel {channel}, key {key}: {len(others)} note-{'ons' if kind == 9 else 'offs'} in place "
+                           f"of {len(times)}")
+        for time, other in zip(times, others):
+            distance = abs(time - other)
+            most = max(most, distance)
+            if distance > 1:
+                off += 1
+                if not first:
+                    said = "begins" if kind == 9 else "ends"
+                    first = (f"channel {channel}, key {key} {said} at {float(time):.1f} ms, and in this file at "
+                             f"{float(other):.1f} ms")
+    return Checked(notes, off, most, first)

@@ -1,0 +1,104 @@
+"""The events of a score on the grid, the tempos that play them in time, and the ticks that the file needs for both."""
+
+from __future__ import annotations
+
+from typing import NamedTuple
+
+from ..companion.meter import Meter
+from ..companion.walk import Level, Played
+from .axis import Axis, Heard, Spot, heard
+from .tempo import PLAIN, SLOWEST, Point, Region, Tempos, tempos
+
+_MOST_TICKS = 0x7FFF
+
+
+class Grid(NamedTuple):
+    """An export: its ticks a quarter note, its tempos, each event with its tick, and the last tick.
+
+    `lead` is how long a rest is that stands before the score, and `beside` counts events that lie off the grid, since
+    another voice makes the tempo, or since they end where a breath begins.
+    """
+
+    division: int
+    tempos: tuple[tuple[int, int], ...]
+    events: tuple[tuple[int, Heard], ...]
+    end: int
+    lead: int
+    beside: int
+
+
+def grid_of(walk: Played, meter: Meter) -> Grid:
+    """The grid of a score."""
+    events = heard(walk)
+    last = Heard(walk.tick_of_end(len(walk.begun) - 1), len(walk.begun), 0, b"", Spot(None, 0))
+    end = walk.ended[len(walk.begun) - 1]
+    last = last._replace(spot=Spot(None, last.tick) if not end.levels else Spot(end.levels[0], end.position))
+    left_out: frozenset[Level] = frozenset()
+    while True:
+        axis = Axis(walk, 0, left_out)
+        if any(axis.of(each.spot) == 0 and each.tick > 0 for each in events):
+            axis = Axis(walk, meter.start(2) - meter.start(1), left_out)
+        making = _Making(walk, axis, [*events, last])
+        if making.tempos.missed is None or not axis.sections:
+            return making.made()
+        # what is too slow for a tempo stays in the places of the notes
+        left_out |= {axis.near(making.tempos.missed).level}
+
+
+class _Making:
+    def __init__(self, walk: Played, axis: Axis, events: list[Heard]):
+        self.axis, self.division, self.events = axis, walk.reading.division, events
+        self.direct = [axis.of(each.spot) for each in events]
+        self.moved: dict[tuple[int, int], int] = {}
+        regions = [Region(begin, end, PLAIN * part.first // 1000 if part.kind == "flat" else None)
+                   for begin, end, part in axis.stretches()]
+        self.tempos = tempos(self.points(), _filled(regions), self.division)
+
+    def points(self) -> list[Point]:
+        """The places of the grid with their times; of a place that has two, the earlier one comes shortly before."""
+        at: dict[int, dict[int, Point]] = {0: {0: Point(0, 0, 0)}}
+        for each, place in zip(self.events, self.direct):
+            if place is not None and place not in at or place is not None and each.tick not in at[place]:
+                aim = each.tick * PLAIN
+                if each.spot.level is not None:
+                    aim += int(self.axis.exactly(each.spot) * PLAIN) - PLAIN // 2
+                at.setdefault(place, {})[each.tick] = Point(place, each.tick * PLAIN, aim)
+        found: list[Point] = []
+        for place in sorted(at):
+            *earlier, latest = [at[place][tick] for tick in sorted(at[place])]
+            for point in earlier:
+                before = -(-(latest.time - point.time) // (SLOWEST - SLOWEST // 16))
+                if found and found[-1].place < place - before:
+                    self.moved[place, point.time] = place - before
+                    found.append(Point(place - before, point.time, point.time))
+            found.append(latest)
+        return found
+
+    def made(self) -> Grid:
+        """The whole."""
+        found = self.tempos
+        beside = [each for each, place in zip(self.events, self.direct) if place is None]
+        slowest = max([found.tempo_at(each.tick * PLAIN) for each in beside], default=0)
+        times = max(1, min(-(-slowest // (1200 * self.division)), _MOST_TICKS // self.division))
+        placed = []
+        for each, place in zip(self.events, self.direct):
+            if place is None:
+                placed.append((round(times * found.place(each.tick * PLAIN)), each))
+            else:
+                placed.append((times * self.moved.get((place, each.tick * PLAIN), place), each))
+        *events, (end, _) = placed
+        end = max([end, *(tick for tick, _ in events)])
+        changes = tuple((times * place, tempo) for place, tempo in found.changes)
+        notes = sum(each.message[:1] != b"" for each in beside) + len(self.moved)
+        return Grid(times * self.division, changes, tuple(events), end, times * self.axis.lead, notes)
+
+
+def _filled(regions: list[Region]) -> list[Region]:
+    """The regions, with those of 120 quarter notes a minute between them."""
+    found, at = [], 0
+    for region in sorted(regions):
+        if at < region.begin:
+            found.append(Region(at, region.begin, PLAIN))
+        found.append(region)
+        at = region.end
+    return [*found, Region(at, 2 ** 62, PLAIN)]

@@ -1,0 +1,158 @@
+"""Files for notation programs: their real times against those that tools/score_model plays, their grid and their words.
+
+SCORES names another number of random scores.
+"""
+
+import os
+import pathlib
+import sys
+import tempfile
+import unittest
+from collections import defaultdict
+from fractions import Fraction
+
+from .companion import score
+from .program import TOP, needs_program
+from .random_texts import Texts
+
+import score_model
+
+sys.path.insert(0, str(TOP / "tools" / "file_model"))
+
+import file_model  # noqa: E402
+
+SCORES = int(os.environ.get("SCORES", "15"))
+
+
+def exported(text, *words):
+    """What the verb answers, and the file that it wrote, read by the model."""
+    with tempfile.TemporaryDirectory() as folder:
+        source, target = pathlib.Path(folder, "in.score"), pathlib.Path(folder, "out.mid")
+        source.write_text(text)
+        answer = score("export", source, target, *words)
+        return answer, file_model.read(target.read_bytes()) if target.exists() else None
+
+
+def seconds(file):
+    """A function from a tick of a file to its time."""
+    changes = [(entry.tick, int.from_bytes(entry.bytes[3:], "big")) for track in file.tracks for entry in track
+               if entry.bytes[:2] == b"\xff\x51"]
+
+    def at(tick):
+        time, last, tempo = Fraction(0), 0, 500_000
+        for begin, new in sorted(changes):
+            if begin < tick:
+                time, last, tempo = time + Fraction((begin - last) * tempo, file.division), begin, new
+        return (time + Fraction((tick - last) * tempo, file.division)) / 1_000_000
+    return at
+
+
+def heard(file):
+    """Of each channel and key the times of its note-ons and note-offs."""
+    at, found = seconds(file), defaultdict(list)
+    for track in file.tracks:
+        for entry in track:
+            if entry.bytes[0] >> 4 in (8, 9):
+                found[entry.bytes[0] >> 4, entry.bytes[0] & 15, entry.bytes[1]].append(at(entry.tick))
+    return {key: sorted(times) for key, times in found.items()}
+
+
+def played(text):
+    """The same of what the model plays: a tick is 1/960 of a second, or as the score's division says."""
+    found = defaultdict(list)
+    division = score_model.profile(text.encode())[1]
+    for tick, _, _, message in score_model.played(text.encode())[0]:
+        if message[0] >> 4 in (8, 9):
+            found[message[0] >> 4, message[0] & 15, message[1]].append(Fraction(tick, 2 * division))
+    return {key: sorted(times) for key, times in found.items()}
+
+
+def metas(file, kind):
+    """Of each track the meta events of a kind, as (tick, data)."""
+    return [[(entry.tick, entry.bytes[3:]) for entry in track if entry.bytes[:2] == bytes([0xFF, kind])]
+            for track in file.tracks]
+
+
+@needs_program
+class Exports(unittest.TestCase):
+    def is_in_time(self, text, file):
+        wanted, got = played(text), heard(file)
+        self.assertEqual({key: len(times) for key, times in wanted.items()},
+                         {key: len(times) for key, times in got.items()})
+        for key, times in wanted.items():
+            for time, other in zip(times, got[key]):
+                self.assertLessEqual(abs(time - other), Fraction(1, 1000), (key, float(time), float(other)))
+
+    def test_the_tutorial_has_sixteen_bars_and_its_tempos(self):
+        text = pathlib.Path(TOP, "examples", "tutorial", "8_end.score").read_text()
+        answer, file = exported(text, "--meter", "4/4")
+        self.assertEqual((answer.status, answer.complaint), (0, ""))
+        self.is_in_time(text, file)
+        self.assertEqual({track[-1].tick for track in file.tracks}, {16 * 1920})
+        self.assertLess(abs(seconds(file)(16 * 1920) - Fraction(42_120, 960)), Fraction(1, 1000))
+        first, *others = metas(file, 0x51)
+        self.assertEqual((first[0], others), ((0, (625_000).to_bytes(3, "big")), [[], []]))  # 96 quarter notes a minute
+        self.assertGreaterEqual(first[1][0], 14 * 1920)
+        self.assertEqual(metas(file, 0x58), [[(0, bytes([4, 2, 24, 8]))], [], []])
+        self.assertIn(b"made by formula-score", metas(file, 1)[0][0][1])
+        begins = {entry.tick for track in file.tracks for entry in track if entry.bytes[0] >> 4 == 9}
+        self.assertTrue(all(tick % 60 == 0 for tick in begins))  # its shortest notes are 32nds
+
+    def test_names_are_those_of_branches_and_phrases(self):
+        text = """formula 1; phrase low { note c3 3/4; }
+par {
+  # Flute and friends
+  branch { program 73; note c5 3/4; }
+  branch { channel 1 { do low; } }
+  branch { channel 2 { note c2 3/4; } }
+}
+"""
+        answer, file = exported(text, "--meter", "3/4")
+        self.assertEqual(answer.status, 0)
+        self.assertEqual([[data for _, data in track] for track in metas(file, 3)],
+                         [[], [b"Flute and friends"], [b"low"], [b"branch 3"]])
+        self.assertEqual(metas(file, 4)[1], [(0, b"flute")])
+        self.assertEqual(metas(file, 0x58)[0], [(0, bytes([3, 2, 24, 8]))])
+
+    def test_meters_take_turns_behind_an_upbeat(self):
+        answer, file = exported("formula 1; note c4 1/4; repeat 3 { note c4 3/4; note d4 2/4; }",
+                                "--meter", "3/4,2/4", "--upbeat", "1/4")
+        self.assertEqual(answer.status, 0)
+        self.assertEqual([(tick, *data[:2]) for tick, data in metas(file, 0x58)[0]],
+                         [(0, 1, 2), *((480 + 2400 * at + behind, beats, 2) for at in range(3)
+                                       for behind, beats in ((0, 3), (1440, 2)))])
+
+    def test_a_breath_and_shapes_of_other_voices_are_in_time(self):
+        for text in ("""formula 1; shape air = flat 1/2 by 1000, breath 1/16, slope 1/2 by 1000 to 1700;
+warp air { note c4 1/4; gate 100 { note d4 1/4; } note e4 1/4; note f4 1/4; } note g4 1/4;""",
+                     """formula 1; shape held = pause 1/8, flat 1/4 by 1333; warp held { note c4 1/4; note d4 1/4; }""",
+                     """formula 1; shape slow = flat 4/1 by 1300; shape fast = slope 4/1 by 900 to 300;
+par { branch { warp slow { repeat 9 { note c4 1/8; } } } branch { channel 1 { warp fast { note c4 1/3; note d4 2/1; }
+} } } note e4 1/4;"""):
+            answer, file = exported(text)
+            self.assertEqual(answer.status, 0, answer)
+            self.is_in_time(text, file)
+
+    def test_the_drift_of_thousandths_is_told(self):
+        answer, _ = exported("formula 1; shape t = flat 16/1 by 1333; warp t { repeat 64 { note c4 1/4; } }")
+        # 120,000 / 90 is 1333.33: 0.33 thousandths of 30,720 ticks are 10.24 ticks, 10.67 ms
+        self.assertIn("over its 16/1 it comes 11 ms early against 90", answer.said)
+
+    def test_what_no_tempo_is_slow_enough_for_stays_in_the_notes(self):
+        text = "formula 1; shape t = flat 1/4 by 1000000; warp t { note c4 1/4; } note d4 1/4;"
+        answer, file = exported(text)
+        self.assertEqual(answer.status, 0, answer)
+        self.assertIn("2 events off the written grid", answer.said)
+        self.is_in_time(text, file)
+
+    def test_random_scores_are_in_time(self):
+        for seed in range(SCORES):
+            text = Texts(seed).score()
+            answer, file = exported(text)
+            if file is not None:
+                self.assertEqual(answer.status, 0, f"{seed}: {answer} {text}")
+                self.is_in_time(text, file)
+
+
+if __name__ == "__main__":
+    unittest.main()
