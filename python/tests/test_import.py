@@ -1,17 +1,30 @@
-"""Scores from MIDI files that are made here: what is written, and whether tools/score_model plays the file's events."""
+"""Scores from MIDI files that are made here: what is written, and whether tools/score_model plays the file's events.
 
+FILES names another number of random files.
+"""
+
+import os
 import pathlib
 import random
+import sys
 import tempfile
 import unittest
 
 from .companion import score
 from .midi_files import meta, midi, notes, track
-from .program import needs_program
+from .program import TOP, needs_program
+
+from formula_score.companion.playing import listed
+from formula_score.importer.parts import piece_of
+from formula_score.importer.score import fitting_text
 
 import score_model
 
-FILES = 25
+sys.path.insert(0, str(TOP / "tools" / "file_model"))
+
+import file_model  # noqa: E402
+
+FILES = int(os.environ.get("FILES", "15"))
 
 
 def imported(file, *words):
@@ -155,6 +168,14 @@ class RandomFiles(unittest.TestCase):
             answer, text = imported(file)
             self.assertEqual(answer.status, 0, f"{seed}: {answer}")
             self.assertEqual(played(text), (sent(events), end), seed)
+
+    def test_texts_that_are_tight_or_flat_play_them_too(self):
+        for seed in range(FILES):
+            file, events, end = Maker(seed).file()
+            piece = piece_of(listed(file_model.listing(file_model.read(file)).decode()))
+            for is_tight, is_flat in ((True, False), (False, True)):
+                text, _ = fitting_text(piece, "in.mid", 0 if is_tight else 2 ** 20, is_flat)
+                self.assertEqual(played(text), (sent(events), end), seed)
 
 
 if __name__ == "__main__":

@@ -13,7 +13,7 @@ from ..exporter.tracks import Staff, staves
 from . import meter as meters
 from .meter import Meter
 from .midi_file import Timed, file_of, save, text
-from .playing import Failed, judge, listing_of, listing_of_file
+from .playing import Failed, judge, listing_of, listing_of_file, must_differ
 from .ticks import agreed
 from .walk import Played
 
@@ -37,6 +37,7 @@ those of the program's file: each begins and ends within a millisecond of it, or
 
 def run(options: argparse.Namespace) -> int:
     """Writes OUT, and tells how it compares."""
+    must_differ(options.score, options.out)
     written = judge(options.score)
     walk = agreed(written)
     meter = Meter(options.meter, options.upbeat, walk.reading.whole)

@@ -10,9 +10,11 @@ from ..importer.compare import compared
 from ..importer.parts import Piece, piece_of
 from ..importer.scaling import Scaled, scaled
 from ..importer.score import fitting_text
-from .playing import Failed, Listing, listing_of_file, needs, run as play
+from .midi_file import save
+from .playing import Listing, listing_of_file, must_differ, needs, run as play
 
 MOST_BYTES = 1_048_576
+_TOO_DEEP = "fault 12"
 
 
 def arguments(parser: argparse.ArgumentParser) -> None:
@@ -34,6 +36,7 @@ Notes of length 0 stay. A score plays 120 quarter notes a minute; its first line
 
 def run(options: argparse.Namespace) -> int:
     """Writes the score, and tells how it compares."""
+    must_differ(options.file, options.score)
     listing = listing_of_file(options.file, refused=1)
     fit = scaled(listing, options.scale)
     for line in fit.told:
@@ -41,11 +44,9 @@ def run(options: argparse.Namespace) -> int:
     if fit.listing is None:
         return 1
     piece = piece_of(fit.listing)
-    text, voices = fitting_text(piece, os.path.basename(options.file), MOST_BYTES)
-    if len(text) > MOST_BYTES:
-        raise Failed(1, f"{options.file}: the score would have {len(text):,} bytes, and at most 1,048,576 are read")
-    played = _played(text, options.score)
     _tell(options.file, listing, piece)
+    text, voices, played = _written(piece, os.path.basename(options.file))
+    save(options.score, text.encode())
     answer = compared(fit.listing, piece, played)
     each = len(text) / max(1, answer.events)
     print(f"{options.score}: {voices} branches, {text.count('phrase '):,} phrases, {len(text):,} bytes, {each:.1f} an "
@@ -59,20 +60,18 @@ def run(options: argparse.Namespace) -> int:
     return 0
 
 
-def _played(text: str, path: str) -> Listing:
-    """The listing of what the text plays; it is then in the file `path`."""
+def _written(piece: Piece, name: str) -> tuple[str, int, Listing]:
+    """A text that the program accepts, how many branches it has, and the listing of what it plays."""
     with tempfile.TemporaryDirectory() as folder:
         source, target = os.path.join(folder, "in.score"), os.path.join(folder, "out.mid")
-        with open(source, "w", encoding="ascii", newline="\n") as file:
-            file.write(text)
-        needs(play(source, target, "--workers", "0"))
-        listing = listing_of_file(target)
-    try:
-        with open(path, "w", encoding="ascii", newline="\n") as file:
-            file.write(text)
-    except OSError as error:
-        raise Failed(4, f"{path!r} cannot be written: {error.strerror}") from error
-    return listing
+        for is_flat in (False, True):
+            text, voices = fitting_text(piece, name, MOST_BYTES, is_flat)
+            save(source, text.encode())
+            made = play(source, target, "--workers", "0")
+            if made.status != 3 or not made.said.endswith(_TOO_DEEP):
+                break
+        needs(made, refused=1)
+        return text, voices, listing_of_file(target)
 
 
 def _tell(path: str, listing: Listing, piece: Piece) -> None:

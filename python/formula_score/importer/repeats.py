@@ -15,15 +15,16 @@ Size = Callable[[int], int]
 
 
 class Numbers:
-    """Bars by their numbers, with further numbers for loops and phrases of them."""
+    """Bars by their numbers, with further numbers for loops and phrases of them; none where it is flat."""
 
-    def __init__(self, sizes: Sequence[int], may_be_one: Callable[[Sequence[int]], bool] = lambda run: True):
+    def __init__(self, sizes: Sequence[int], is_flat: bool,
+                 may_be_one: Callable[[Sequence[int]], bool] = lambda run: True):
         self.bars = len(sizes)
         self.sizes = list(sizes)
         self.loops: dict[int, tuple[int, int]] = {}  # of each loop its rounds, and the row of its body
         self.phrases: dict[int, int] = {}            # of each phrase the row of its body
         self.rows: list[list[int]] = []
-        self._may_be_one = may_be_one
+        self._is_flat, self._may_be_one = is_flat, may_be_one
         self._known: dict[tuple[int, tuple[int, ...]], int] = {}
 
     def flat(self, number: int) -> list[int]:
@@ -41,7 +42,7 @@ class Numbers:
         """A row for a sequence of bars, with loops; the row's number."""
         row = len(self.rows)
         self.rows.append([])
-        self.rows[row] = self._looped(list(bars))
+        self.rows[row] = list(bars) if self._is_flat else self._looped(list(bars))
         return row
 
     def _text(self, run: Sequence[int]) -> int:
@@ -82,7 +83,7 @@ class Numbers:
 
     def name_runs(self) -> None:
         """Gives numbers to runs that come again, where the text is shorter so."""
-        for width in _RUNS:
+        for width in () if self._is_flat else _RUNS:
             self._name(width)
 
     def _name(self, width: int) -> None:

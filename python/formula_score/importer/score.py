@@ -74,8 +74,8 @@ def _instrument(part: Part) -> str:
 class Writer:
     """Writes the text of a piece."""
 
-    def __init__(self, piece: Piece, source: str, is_dense: bool = False):
-        self.piece, self.source, self.is_dense = piece, source, is_dense
+    def __init__(self, piece: Piece, source: str, is_dense: bool = False, is_flat: bool = False):
+        self.piece, self.source, self.is_dense, self.is_flat = piece, source, is_dense, is_flat
         self.whole = 4 * piece.division
         self.written: dict[int, str] = {}
         self.spelled = Spelled(self.length)
@@ -139,7 +139,7 @@ class Writer:
     def text(self) -> str:
         """The whole text."""
         numbers = [[self.number(bar, branch.defaults) for bar in branch.bars] for branch in self.branches]
-        self.whole_bars = Numbers(list(map(self.size, range(len(self.tokens)))))
+        self.whole_bars = Numbers(list(map(self.size, range(len(self.tokens)))), self.is_flat)
         self.row_of = [self.whole_bars.add(each) for each in numbers]
         self.whole_bars.name_runs()
         self._name_notes()
@@ -154,7 +154,7 @@ class Writer:
             flat = [bar for each in run for bar in self.notes_alone.flat(each)]
             return sum(counts[bar] for bar in flat) <= _MOST_SOUNDS
 
-        self.notes_alone = Numbers(sizes, may_be_one)
+        self.notes_alone = Numbers(sizes, self.is_flat, may_be_one)
         self.run_at: dict[tuple[int, int], int] = {}
         for row, sequence in enumerate(self.whole_bars.rows):
             for at, upto in self._runs(sequence):
@@ -333,12 +333,14 @@ def _is_rest(tokens: Sequence[Token]) -> bool:
     return len(tokens) == 1 and isinstance(tokens[0], Silence)
 
 
-def fitting_text(piece: Piece, source: str, most: int) -> tuple[str, int]:
-    """The text of a score that plays the piece, more tightly written where it would have too many bytes, and how many
-    branches it has."""
-    writer = Writer(piece, source)
+def fitting_text(piece: Piece, source: str, most: int, is_flat: bool = False) -> tuple[str, int]:
+    """The text of a score that plays the piece, and how many branches it has.
+
+    It is more tightly written where it would have too many bytes. Where it is flat, no phrase stands in another.
+    """
+    writer = Writer(piece, source, False, is_flat)
     text = writer.text()
     if len(text) > most:
-        writer = Writer(piece, source, is_dense=True)
+        writer = Writer(piece, source, True, is_flat)
         text = writer.text()
     return text, len(writer.branches)
