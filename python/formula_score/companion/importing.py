@@ -55,8 +55,10 @@ def run(options: argparse.Namespace) -> int:
         print(f"played and compared: {answer.differing:,} of {answer.events:,} events differ; first {answer.first}")
         return 1
     print(f"played and compared: all {answer.events:,} events are at their ticks")
+    if answer.early:
+        print(f"{answer.early:,} note-offs stand on another side of a message of their tick than in the file")
     if answer.reordered:
-        print(f"at one tick of a channel {answer.reordered:,} stand in another order than in the file")
+        print(f"{answer.reordered:,} other events of one tick and channel stand in another order than in the file")
     return 0
 
 

@@ -6,7 +6,7 @@ from __future__ import annotations
 from typing import Callable, NamedTuple, Optional, Sequence, Union
 
 from ..pitch import Pitch
-from .layout import Braces, Mark, Node, Plain, flat
+from .layout import Braces, Mark, Node, Plain, flat, repeated
 from .spelling import Said, Silence, Sound, Token
 
 #: The entries of a list: at most, and as many as one still finds one's way in.
@@ -264,7 +264,7 @@ def loops(atoms: Sequence[Atom], spelled: Spelled) -> list[Node]:
             first, last = real[at], real[at + width * count - 1] + 1
             found += rhythms(atoms[begun:first], spelled)
             body = [atoms[real[at + k]] for k in range(width)]
-            found.append(Braces(f"repeat {count}", tuple(rhythms(body, spelled))))
+            found.append(repeated(count, tuple(rhythms(body, spelled))))
             at += width * count
             begun = last
         else:

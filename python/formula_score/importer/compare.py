@@ -13,11 +13,13 @@ _Sent = tuple[int, int, bytes]
 
 
 class Compared(NamedTuple):
-    """How many events a file has for a score, how many differ, which first, and how many stand in another order."""
+    """How many events a file has for a score, how many differ, and which first; of those at one tick and channel, how
+    many note-offs stand on another side of a message than in the file, and how many others in another order."""
 
     events: int
     differing: int
     first: str
+    early: int
     reordered: int
 
 
@@ -58,10 +60,10 @@ def _orders(sent: list[_Sent]) -> Counter[tuple[object, ...]]:
                 keys[each[2][0]].append(kind)
             else:
                 messages.append(each)
-                found[(*place, *each, len(messages))] += 1
+                found[(*place, 0, each[1:], len(messages))] += 1
         for key, kinds in keys.items():
             if len(kinds) > 1:
-                found[(*place, key, tuple(kinds))] += 1
+                found[(*place, 1, key, tuple(kinds))] += 1
     return found
 
 
@@ -88,4 +90,5 @@ def compared(file: Listing, piece: Piece, played: Listing) -> Compared:
     idle = Counter({(tick, status, bytes([key])): count for (tick, status, key), count in piece.idle.items()})
     kept = [each for each in sent if not idle[each]]
     orders = _orders(kept) - _orders(got)
-    return Compared(sum(wanted.values()), differing, first or "", sum(orders.values()))
+    early = sum(count for order, count in orders.items() if order[2] == 8)
+    return Compared(sum(wanted.values()), differing, first or "", early, sum(orders.values()) - early)

@@ -12,6 +12,7 @@ from typing import NamedTuple, Optional, Union
 WIDTH = 100
 _SHORT_BLOCK = 64
 _COMMENT = len("  # bars 100 to 199")
+_NO_TIME = ("control ", "program ", "bend ")
 
 
 class Plain(NamedTuple):
@@ -47,6 +48,13 @@ def flat(nodes: tuple[Node, ...]) -> str:
         elif isinstance(node, Braces):
             texts.append(f"{node.head} {{ {flat(node.inner)} }}")
     return " ".join(texts)
+
+
+def repeated(times: int, nodes: tuple[Node, ...]) -> Braces:
+    """A loop round the nodes; a loop round a loop alone is one."""
+    if len(nodes) == 1 and isinstance(nodes[0], Braces) and nodes[0].head.startswith("repeat "):
+        return Braces(f"repeat {times * int(nodes[0].head.split()[1])}", nodes[0].inner)
+    return Braces(f"repeat {times}", nodes)
 
 
 def has_mark(nodes: tuple[Node, ...]) -> bool:
@@ -120,17 +128,26 @@ class Page:
         if not self._open:
             return
         line, is_whole = "  " * depth + " ".join(self._open), self._whole == len(self._open)
-        if self.with_bars and self._begun and self._last and (is_whole or self._last.number == self._last.last):
-            line += "  " + _bars(self._begun.number, self._last.number - is_whole)
+        if self.with_bars and self._begun and self._last:
+            takes_time = any(not text.startswith(_NO_TIME) for text in self._open[self._whole:])
+            last = self._last.number - (not takes_time)
+            if self._begun.number <= last and (not takes_time or self._last.number == self._last.last):
+                line += "  " + _bars(self._begun.number, last)
         self.lines.append(line)
         self._begun = self._last if is_whole else None
         self._open, self._whole = [], 0
 
     def _head(self, head: str, depth: int) -> None:
-        indent, line = "  " * depth, ""
-        for word in head.split(" "):
-            if line and len(indent) + len(line) + len(word) > WIDTH - 3:
-                self.lines.append(indent + line)
-                indent, line = "  " * (depth + 2), ""
-            line = f"{line} {word}" if line else word
-        self.lines.append(f"{indent}{line} {{")
+        self.lines += wrapped([*head.split(" "), "{"], depth)
+
+
+def wrapped(words: list[str], depth: int = 0) -> list[str]:
+    """Words on as many lines as they need, the further ones indented more."""
+    lines, indent = [""], "  " * depth
+    for word in words:
+        if lines[-1] and len(indent) + len(lines[-1]) + len(word) > WIDTH - 3:
+            lines[-1], indent = indent + lines[-1], "  " * (depth + 2)
+            lines.append("")
+        lines[-1] = f"{lines[-1]} {word}" if lines[-1] else word
+    lines[-1] = indent + lines[-1]
+    return lines

@@ -12,7 +12,7 @@ from ..midi import INSTRUMENTS
 from ..music import KEYWORDS
 from .bars import DRUMS, Bar, bar_lines, bars_of
 from .blocks import Atom, Call, Defaults, Spelled, loops, nodes_of
-from .layout import Braces, Mark, Node, Page, Plain
+from .layout import Braces, Mark, Node, Page, Plain, repeated, wrapped
 from .parts import Part, Piece
 from .repeats import Numbers
 from .spelling import MAX_LENGTH, Said, Silence, Sound, Token
@@ -190,12 +190,12 @@ class Writer:
         parts = tempo_parts(self.piece)
         if not parts:
             return lines
-        comment = "# It plays 120 quarter notes a minute; for the file's own tempo "
+        note = "# It plays 120 quarter notes a minute; for the file's own tempo put `warp tempo {` and `}` round the `par`."
         if len(parts) > _MOST_PARTS:
-            return [*lines[:1], f"# The file's tempo changes {len(parts) - 1} times; it plays 120 quarter notes a minute.",
-                    *lines[1:]]
-        shape = ", ".join(f"flat {self.length(ticks)} by {by}" for ticks, by in parts)
-        return [*lines[:1], f"{comment}put `warp tempo {{` and `}}` round the `par`.", *lines[1:], f"shape tempo = {shape};"]
+            note = f"# It plays 120 quarter notes a minute; the file's own tempo changes {len(parts) - 1} times."
+            return [lines[0], note, lines[1]]
+        *words, last = [f"flat {self.length(ticks)} by {by}" for ticks, by in parts]
+        return [lines[0], note, lines[1], *wrapped(["shape tempo =", *(f"{word}," for word in words), f"{last};"])]
 
     def _branch(self, row: int, branch: Branch) -> list[str]:
         part = branch.part
@@ -231,7 +231,7 @@ class Writer:
                 found.append(_mark([next(bars) for _ in self.whole_bars.flat(number)]))
             if number in self.whole_bars.loops:
                 times, body = self.whole_bars.loops[number]
-                found.append(Braces(f"repeat {times}", tuple(self._sequence(body, branch, None))))
+                found.append(repeated(times, tuple(self._sequence(body, branch, None))))
             else:
                 found.append(Plain(f"do {self._phrase(number, branch)};"))
             at += 1
@@ -259,7 +259,7 @@ class Writer:
         """A phrase or a loop of notes alone, as an atom."""
         if number in self.notes_alone.loops:
             times, row = self.notes_alone.loops[number]
-            return Call(tuple([Braces(f"repeat {times}", tuple(self._notes(row, branch)))]), sounds)
+            return Call((repeated(times, tuple(self._notes(row, branch))),), sounds)
         key = "notes", number
         if key not in self.name_of:
             self._define(key, self._notes(self.notes_alone.phrases[number], branch), branch)
@@ -282,6 +282,9 @@ class Writer:
         return self.name_of[key]
 
     def _define(self, key: tuple[str, int], nodes: list[Node], branch: Branch) -> None:
+        if len(nodes) == 1 and isinstance(nodes[0], Plain) and nodes[0].text.startswith("do "):
+            self.name_of[key] = nodes[0].text[3:-1]  # a phrase that only plays another one needs no name
+            return
         name = self.name_of[key] = self.names.of(branch.part)
         page = Page(False)
         page.write((Braces(f"phrase {name}", tuple(nodes)),), 0)
