@@ -4,13 +4,9 @@ from __future__ import annotations
 
 from typing import Iterable
 
+from .test_random import quantity
+
 Event = tuple[int, bytes]
-
-
-def quantity(number: int) -> bytes:
-    """A variable-length quantity."""
-    low = bytes([number & 127])
-    return low if number < 128 else bytes(128 | byte & 127 for byte in quantity(number >> 7)) + low
 
 
 def meta(kind: int, data: bytes) -> bytes:

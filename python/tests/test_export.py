@@ -1,6 +1,6 @@
 """Files for notation programs: their real times against those that tools/score_model plays, their grid and their words.
 
-SCORES names another number of random scores.
+SCORES names another number of random scores. Where it is named all examples are exported, too.
 """
 
 import os
@@ -144,6 +144,15 @@ par { branch { warp slow { repeat 9 { note c4 1/8; } } } branch { channel 1 { wa
         self.assertEqual(answer.status, 0, answer)
         self.assertIn("2 events off the written grid", answer.said)
         self.is_in_time(text, file)
+
+    @unittest.skipUnless("SCORES" in os.environ, "SCORES names no number")
+    def test_all_examples_are_in_time(self):
+        for path in pathlib.Path(TOP, "examples").glob("*/*.score"):
+            if path.parent.name not in ("refused", "long"):
+                text = path.read_text()
+                answer, file = exported(text)
+                self.assertEqual(answer.status, 0, (path, answer))
+                self.is_in_time(text, file)
 
     def test_random_scores_are_in_time(self):
         for seed in range(SCORES):

@@ -15,6 +15,7 @@ from .midi_files import meta, midi, notes, track
 from .program import TOP, needs_program
 
 from formula_score.companion.playing import listed
+from formula_score.importer.compare import compared
 from formula_score.importer.parts import piece_of
 from formula_score.importer.score import fitting_text
 
@@ -37,13 +38,13 @@ def imported(file, *words):
 
 
 def played(text):
-    """The events of a text by the model, note-offs by their keys, sorted."""
+    """The events of a text by the model, and its end."""
     events, end = score_model.played(text.encode())
-    return sorted((tick, bytes(message[:2] if message[0] >> 4 == 8 else message)) for tick, _, _, message in events), end
+    return sent((tick, bytes(message)) for tick, _, _, message in events), end
 
 
 def sent(events):
-    """The same of a file's events."""
+    """Events sorted, note-offs by their keys."""
     off = [(tick, message[:2] if message[0] >> 4 == 8 else message) for tick, message in events]
     return sorted((tick, bytes([message[0] - 16, message[1]]) if message[0] >> 4 == 9 and message[2] == 0 else message)
                   for tick, message in off)
@@ -114,6 +115,14 @@ par {
         self.assertEqual(answer.status, 0, answer.said)
         self.assertEqual([tick for tick, _ in played(text)[0]], [0, 479, 960, 1919])  # 479.06 and 1919.06 of 960
 
+    def test_what_differs_first_is_told(self):
+        listing = listed(file_model.listing(file_model.read(WALTZ)).decode().splitlines())
+        late = [each._replace(tick=each.tick + 1) if each.message == b"\x90\x49\x40" else each
+                for each in listing.events]
+        answer = compared(listing, piece_of(listing), listing._replace(events=late))
+        self.assertEqual((answer.events, answer.differing), (49, 8))  # four notes, each missing and at another tick
+        self.assertEqual(answer.first, "tick 96, channel 0, note-on 73 64: not played")
+
     def test_another_file_is_refused_with_the_programs_line(self):
         answer, text = imported(b"RIFF")
         self.assertEqual((answer.status, text), (1, None))
@@ -172,7 +181,7 @@ class RandomFiles(unittest.TestCase):
     def test_texts_that_are_tight_or_flat_play_them_too(self):
         for seed in range(FILES):
             file, events, end = Maker(seed).file()
-            piece = piece_of(listed(file_model.listing(file_model.read(file)).decode()))
+            piece = piece_of(listed(file_model.listing(file_model.read(file)).decode().splitlines()))
             for is_tight, is_flat in ((True, False), (False, True)):
                 text, _ = fitting_text(piece, "in.mid", 0 if is_tight else 2 ** 20, is_flat)
                 self.assertEqual(played(text), (sent(events), end), seed)

@@ -13,7 +13,7 @@ from ..exporter.tracks import Staff, staves
 from . import meter as meters
 from .meter import Meter
 from .midi_file import Timed, file_of, save, text
-from .playing import Failed, judge, listing_of, listing_of_file, must_differ
+from .playing import Failed, judge, listing_of, listing_of_file, many, must_differ
 from .ticks import agreed
 from .walk import Played
 
@@ -44,25 +44,22 @@ def run(options: argparse.Namespace) -> int:
     grid = grid_of(walk, meter)
     tracks = staves(walk, [each for _, each in grid.events])
     save(options.out, _file(grid, tracks, meter))
-    print(f"{options.out}: {_many(len(tracks), 'track')} ({'; '.join(staff.name for staff in tracks)}), meter {meter}, "
-          f"{_many(len(grid.tempos), 'tempo')}; made by the companion, outside the proof")
+    print(f"{options.out}: {many(len(tracks), 'track')} ({'; '.join(staff.name for staff in tracks)}), meter {meter}, "
+          f"{many(len(grid.tempos), 'tempo')}; made by the companion, outside the proof")
     if grid.lead:
         print("it begins with a bar of rest, since the score begins with a pause")
     for line in _drifts(walk):
         print(line)
     if grid.beside:
-        print(f"{_many(grid.beside, 'event')} off the written grid: other voices make the tempo there, or none is slow "
+        print(f"{many(grid.beside, 'event')} off the written grid: other voices make the tempo there, or none is slow "
               "enough, or a breath begins")
     found = checked(listing_of(written), listing_of_file(options.out))
     if found.off:
-        print(f"{_many(found.notes, 'note')}: {found.off:,} beginnings and ends lie more than 1 ms off, first {found.first}")
+        print(f"{many(found.notes, 'note')}: {found.off:,} beginnings and ends lie more than 1 ms off; first "
+              f"{found.first}")
         return 1
-    print(f"{_many(found.notes, 'note')}: each begins and ends within {float(found.most):.2f} ms of the program's file")
+    print(f"{many(found.notes, 'note')}: each begins and ends within {float(found.most):.2f} ms of the program's file")
     return 0
-
-
-def _many(number: int, what: str) -> str:
-    return f"{number:,} {what}{'' if number == 1 else 's'}"
 
 
 def _file(grid: Grid, tracks: list[Staff], meter: Meter) -> bytes:
@@ -117,5 +114,6 @@ def _drifts(walk: Played) -> Iterator[str]:
         if wanted and round(Fraction(120_000, wanted)) == by and wanted * by != 120_000:
             early = (Fraction(120_000, wanted) - by) * length / 1000 * 500 / walk.reading.division
             part = Fraction(length, walk.reading.whole)
-            yield (f"by {by} is {120_000 / by:.2f} quarter notes a minute: over its {part.numerator}/{part.denominator} "
-                   f"it comes {abs(float(early)):.0f} ms {'early' if early > 0 else 'late'} against {wanted}")
+            how = f"{abs(float(early)):.0f} ms {'early' if early > 0 else 'late'} against {wanted}"
+            yield (f"by {by} is {120_000 / by:.2f} quarter notes a minute: over its "
+                   f"{part.numerator}/{part.denominator} it comes {how}")

@@ -11,7 +11,7 @@ from ..importer.parts import Piece, piece_of
 from ..importer.scaling import Scaled, scaled
 from ..importer.score import fitting_text
 from .midi_file import save
-from .playing import Listing, listing_of_file, must_differ, needs, run as play
+from .playing import Listing, listing_of_file, many, must_differ, needs, run as play
 
 MOST_BYTES = 1_048_576
 _TOO_DEEP = "fault 12"
@@ -21,17 +21,18 @@ def arguments(parser: argparse.ArgumentParser) -> None:
     """What the verb takes."""
     parser.add_argument("file", metavar="FILE.mid")
     parser.add_argument("score", metavar="SCORE", help="the score that is written; an older one is replaced")
-    parser.add_argument("--scale", action="store_true", help="for a file with more than 960 or less than 24 ticks a "
-                        "quarter note, where no exact score can be: the nearest ticks of 960 or 24")
+    parser.add_argument("--scale", action="store_true", help="for a file with more than 960 ticks a quarter note, where "
+                        "no exact score can be: the nearest ticks of 960")
     parser.description = f"{parser.description}\n\n" + __doc__.split("\n")[0] + """
 
 Each track and channel is a branch, or some where notes begin together and end apart. What comes again is a phrase
 or a loop, and lists say velocities and articulations where that is shorter. The score is then played by the program,
 and each note, control change, program change and bend compared with the file's: status 1 where one differs.
 
-What a score has no word for is left out, told and counted: tempo, texts, pressure, system exclusive messages. A
-note-off is sent with velocity 64; one that ends no note is left out; a note that never ends is ended with the file.
-Notes of length 0 stay. A score plays 120 quarter notes a minute; its first lines tell how to have the file's tempo."""
+What a score has no word for is left out or changed, told and counted: tempo, texts, pressure, system exclusive
+messages. A note-off is sent with velocity 64; one that ends no note is left out; a note that never ends is ended with
+the file. Notes of length 0 stay. A score plays 120 quarter notes a minute; its first lines tell how to have the tempo
+of the file."""
 
 
 def run(options: argparse.Namespace) -> int:
@@ -49,16 +50,17 @@ def run(options: argparse.Namespace) -> int:
     save(options.score, text.encode())
     answer = compared(fit.listing, piece, played)
     each = len(text) / max(1, answer.events)
-    print(f"{options.score}: {voices} branches, {text.count('phrase '):,} phrases, {len(text):,} bytes, {each:.1f} an "
+    phrases = sum(line.startswith("phrase ") for line in text.splitlines())
+    print(f"{options.score}: {many(voices, 'branch')}, {many(phrases, 'phrase')}, {len(text):,} bytes, {each:.1f} an "
           "event")
     if answer.differing:
         print(f"played and compared: {answer.differing:,} of {answer.events:,} events differ; first {answer.first}")
         return 1
     print(f"played and compared: all {answer.events:,} events are at their ticks")
     if answer.early:
-        print(f"{answer.early:,} note-offs stand on another side of a message of their tick than in the file")
+        print(f"{many(answer.early, 'note-off')} on another side of a message of the same tick than in the file")
     if answer.reordered:
-        print(f"{answer.reordered:,} other events of one tick and channel stand in another order than in the file")
+        print(f"{many(answer.reordered, 'other event')} in another order at one tick and channel than in the file")
     return 0
 
 
@@ -79,8 +81,10 @@ def _written(piece: Piece, name: str) -> tuple[str, int, Listing]:
 def _tell(path: str, listing: Listing, piece: Piece) -> None:
     notes = sum(len(part.notes) for part in piece.parts)
     messages = sum(len(part.messages) for part in piece.parts)
-    print(f"{path}: format {listing.format}, {listing.tracks} tracks, {listing.division} ticks a quarter note; "
-          f"{notes:,} notes, {messages:,} control changes, programs and bends")
+    print(f"{path}: format {listing.format}, {many(listing.tracks, 'track')}, {listing.division} ticks a quarter note; "
+          f"{many(notes, 'note')}, {messages:,} control changes, programs and bends")
     left = [f"{count:,} {what}" for what, count in sorted(piece.left_out.items()) if count]
+    if piece.tempos:
+        left.append(f"{len(piece.tempos):,} tempo, as a shape that is not used")
     if left:
         print(f"left out or changed: {'; '.join(left)}")

@@ -14,7 +14,7 @@ from ..errors import CommandError
 from ..explain import explanation
 
 __all__ = ["Event", "Failed", "Listing", "Run", "judge", "listed", "listing_of", "listing_of_file", "located",
-           "must_differ", "needs", "program", "run", "text_of"]
+           "many", "must_differ", "needs", "program", "run", "text_of"]
 
 _TOP = pathlib.Path(__file__).resolve().parents[3]
 
@@ -113,6 +113,11 @@ def located(text: bytes, tick: int, process: int) -> Optional[tuple[int, ...]]:
         return command.locate(text, tick, process, program()).positions
     except CommandError as error:
         raise Failed(error.status, error.why, error.said) from error
+
+
+def many(number: int, what: str) -> str:
+    """So many of something, as `1 note` or `2 notes`."""
+    return f"{number:,} {what}{'' if number == 1 else 'es' if what.endswith('ch') else 's'}"
 
 
 def must_differ(source: str, target: str) -> None:

@@ -49,9 +49,8 @@ def checked(proved: Listing, made: Listing) -> Checked:
         others = got.get((channel, key, kind), [])
         notes += len(times) if kind == 9 else 0
         if len(others) != len(times):
-            return Checked(notes, max(len(times), len(others)), Fraction(0),
-                           f"channel {channel}, key {key}: {len(others)} note-{'ons' if kind == 9 else 'offs'} in place "
-                           f"of {len(times)}")
+            what = f"{len(others)} note-{'ons' if kind == 9 else 'offs'} in place of {len(times)}"
+            return Checked(notes, max(len(times), len(others)), most, f"channel {channel}, key {key}: {what}")
         for time, other in zip(times, others):
             distance = abs(time - other)
             most = max(most, distance)

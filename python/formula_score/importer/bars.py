@@ -12,6 +12,7 @@ from .spelling import MAX_LENGTH, Said, Silence, Sound, Token, fitting, percents
 from .voices import Chord, Voice
 
 DRUMS = 9
+_MOST_BARS = 100_000
 
 
 class Bar(NamedTuple):
@@ -23,7 +24,8 @@ class Bar(NamedTuple):
 
 
 def bar_lines(piece: Piece) -> list[int]:
-    """The ticks at which bars begin, by the time signatures, else by 4/4; the last one is not before the end."""
+    """The ticks at which bars begin, by the time signatures, else by 4/4; the last one is not before the end. A piece
+    of very many bars is taken as one."""
     whole = 4 * piece.division
     meters = [each for each in piece.meters if whole * each.over >= each.under]
     if not meters or meters[0].tick > 0:
@@ -32,6 +34,8 @@ def bar_lines(piece: Piece) -> list[int]:
     for meter, following in zip(meters, [*meters[1:], None]):
         until = piece.end if following is None else following.tick
         tick, length = meter.tick, max(1, whole * meter.over // meter.under)
+        if (until - tick) // length > _MOST_BARS:
+            return [0, piece.end]
         while tick < until:
             lines.append(tick)
             tick += length

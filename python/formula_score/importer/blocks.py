@@ -3,16 +3,14 @@ as loops: each where it makes the text shorter."""
 
 from __future__ import annotations
 
-from typing import Callable, NamedTuple, Optional, Sequence, Union
+from typing import Callable, NamedTuple, Sequence, Union
 
 from ..pitch import Pitch
 from .layout import Braces, Mark, Node, Plain, flat, repeated
-from .spelling import Said, Silence, Sound, Token
+from .passages import EASY_ENTRIES, MOST_ENTRIES, Passage, passages, split
+from .spelling import Said, Silence, Sound
 
-#: The entries of a list: at most, and as many as one still finds one's way in.
-MOST_ENTRIES, _EASY_ENTRIES = 256, 32
 _PITCHES = tuple(str(Pitch(key)) for key in range(128))
-_MODE, _LIST = 15, 13
 
 
 class Call(NamedTuple):
@@ -67,148 +65,17 @@ def sounds_of(atom: Atom) -> tuple[Sound, ...]:
     return atom.sounds if isinstance(atom, Call) else ()
 
 
-class _Passage(NamedTuple):
-    """From an atom to before another: nothing round it, or a block with one value or a list of them."""
-
-    begin: int
-    end: int
-    values: tuple[int, ...]
-
-    @property
-    def is_plain(self) -> bool:
-        return not self.values
-
-
-def best_percent(low: int, high: int, default: int) -> int:
-    """The percent of a range that is easiest to read."""
-    if low <= default <= high:
-        return default
-    for step in (100, 50, 25, 10, 5):
-        first = -(-low // step) * step
-        if first <= high:
-            return first
-    return low
-
-
-class _Step(NamedTuple):
-    kind: str
-    begin: int
-    before: Optional["_Step"]
-    range: tuple[int, int]
-
-
-def _passages(ranges: list[list[tuple[int, int]]], default: int, lines: set[int], most: int) -> list[_Passage]:
-    """The cheapest way to say the values: of each atom the ranges of its sounds.
-
-    A list has at most so many values, and more only where no bar line stands among them.
-    """
-    best: dict[str, tuple[float, _Step]] = {"plain": (0.0, _Step("plain", 0, None, (0, 0)))}
-    for at, wanted in enumerate(ranges):
-        if not wanted:
-            continue
-        cost, step = min(best.values(), key=lambda each: each[0])
-        low, high = max(each[0] for each in wanted), min(each[1] for each in wanted)
-        is_free = all(each[0] <= default <= each[1] for each in wanted)
-        new: dict[str, tuple[float, _Step]] = {}
-        if is_free:
-            new["plain"] = best["plain"] if best.get("plain", (1e18,))[0] <= cost else (
-                cost, _Step("plain", at, step, (0, 0)))
-        if low <= high:
-            new["block"] = (cost + _MODE, _Step("block", at, step, (low, high)))
-            if "block" in best:
-                own, old = best["block"]
-                narrow = max(low, old.range[0]), min(high, old.range[1])
-                if narrow[0] <= narrow[1] and own <= cost + _MODE:
-                    new["block"] = (own, old._replace(range=narrow))
-        entries = sum(len(str(best_percent(*each, default))) + 2 for each in wanted)
-        new["list"] = (cost + _LIST + entries, _Step("list", at, step, (0, 0)))
-        if "list" in best and best["list"][0] <= cost + _LIST:
-            new["list"] = (best["list"][0] + entries, best["list"][1])
-        best = new
-    found: list[_Passage] = []
-    end, last = len(ranges), min(best.values(), key=lambda each: each[0])[1]
-    step_now: Optional[_Step] = last
-    while step_now is not None:
-        begin = step_now.begin
-        if begin < end:
-            found.append(_valued(step_now, begin, end, ranges, default))
-            end = begin
-        step_now = step_now.before
-    if end > 0:
-        found.append(_Passage(0, end, ()))
-    return [piece for whole in reversed(found) for piece in _short_enough(whole, ranges, lines, most)]
-
-
-def _valued(step: _Step, begin: int, end: int, ranges: list[list[tuple[int, int]]], default: int) -> _Passage:
-    if step.kind == "plain":
-        return _Passage(begin, end, ())
-    if step.kind == "block":
-        return _Passage(begin, end, (best_percent(*step.range, default),))
-    return _Passage(begin, end, tuple(best_percent(*each, default) for wanted in ranges[begin:end] for each in wanted))
-
-
-def _short_enough(whole: _Passage, ranges: list[list[tuple[int, int]]], lines: set[int], most: int) -> list[_Passage]:
-    """The passage in pieces whose lists are short enough, from bar line to bar line where it may be."""
-    values = period(whole.values)
-    if len(values) <= most:
-        return [whole._replace(values=values)]
-    pieces: list[_Passage] = []
-    begin, first = whole.begin, 0
-    while begin < whole.end:
-        end = upto = line = begin
-        taken = at_line = first
-        while end < whole.end and taken + len(ranges[end]) - first <= MOST_ENTRIES:
-            if taken + len(ranges[end]) - first > most and line > begin:
-                break
-            taken += len(ranges[end])
-            end += 1
-            if end in lines or end == whole.end:
-                line, at_line = end, taken
-        upto, taken = (line, at_line) if line > begin else (max(end, begin + 1), taken)
-        pieces.append(_Passage(begin, upto, period(whole.values[first:taken])))
-        begin, first = upto, taken
-    return [each._replace(values=each.values[:1]) if len(set(each.values)) == 1 else each for each in pieces]
-
-
-def period(values: tuple[int, ...]) -> tuple[int, ...]:
-    """The first of the values, as many as go round through all of them."""
-    fail = [0] * len(values)
-    for at in range(1, len(values)):
-        k = fail[at - 1]
-        while k and values[at] != values[k]:
-            k = fail[k - 1]
-        fail[at] = k + (values[at] == values[k])
-    return values[:len(values) - fail[-1]] if values else values
-
-
-def _split(inner: list[_Passage], begin: int, end: int, ranges: list[list[tuple[int, int]]],
-           default: int) -> list[_Passage]:
-    """What of the passages lies between two atoms."""
-    found = []
-    for each in inner:
-        low, high = max(each.begin, begin), min(each.end, end)
-        if low >= high:
-            continue
-        if len(each.values) > 1 and (low, high) != (each.begin, each.end):
-            wanted = [one for some in ranges[low:high] for one in some]
-            values = period(tuple(best_percent(*one, default) for one in wanted))
-            found.append(_Passage(low, high, values))
-        else:
-            found.append(each._replace(begin=low, end=high))
-    return found
-
-
 def nodes_of(atoms: Sequence[Atom], defaults: Defaults, spelled: Spelled, is_dense: bool = False) -> list[Node]:
     """The atoms as statements and blocks."""
     loud = [[(sound.velocity, sound.velocity) for sound in sounds_of(atom)] for atom in atoms]
     artic = [[(sound.low, sound.high) for sound in sounds_of(atom)] for atom in atoms]
     lines = {at for at, atom in enumerate(atoms) if isinstance(atom, Mark)}
-    most = MOST_ENTRIES if is_dense else _EASY_ENTRIES
-    louds, artics = (_passages(ranges, default, lines, most) for ranges, default in
+    most = MOST_ENTRIES if is_dense else EASY_ENTRIES
+    louds, artics = (passages(ranges, default, lines, most) for ranges, default in
                      ((loud, defaults.velocity), (artic, defaults.percent)))
     comma = "," if is_dense else ", "
 
-    def heads(word: str, one: str, passage: _Passage) -> str:
+    def heads(word: str, one: str, passage: Passage) -> str:
         if len(passage.values) == 1:
             return f"{one} {passage.values[0]}"
         return f"{word} [{comma.join(map(str, passage.values))}]"
@@ -221,7 +88,7 @@ def nodes_of(atoms: Sequence[Atom], defaults: Defaults, spelled: Spelled, is_den
     found: list[Node] = []
     for passage in outer:
         held: list[Node] = []
-        for each in _split(inner, passage.begin, passage.end, inner_ranges, inner_default):
+        for each in split(inner, passage.begin, passage.end, inner_ranges, inner_default):
             nodes = loops(atoms[each.begin:each.end], spelled)
             held += nodes if each.is_plain else _round(heads(*inner_words, each), nodes)
         found += held if passage.is_plain else _round(heads(*outer_words, passage), held)

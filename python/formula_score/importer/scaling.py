@@ -30,13 +30,15 @@ def scaled(listing: Listing, is_asked: bool) -> Scaled:
     step = 0
     for event in listing.events:
         step = gcd(step, event.tick)
-    new = next((old // by for by in range(2, old) if old % by == 0 and step % by == 0 and LEAST <= old // by <= MOST), 0)
+    new = next((old // by for by in range(2, old // LEAST + 1)
+                if old % by == 0 and step % by == 0 and old // by <= MOST), 0)
     if new:
         return Scaled(_with(listing, new), (f"{old} ticks a quarter note: written with {new}; no event moves",))
     moved = [(event, _scaled(event.tick, old, MOST)) for event in listing.events if event.message[0] < 0xF0]
     off = [abs(tick * old - event.tick * MOST) for event, tick in moved]
-    told = (f"{sum(each > 0 for each in off):,} of {len(off):,} events, by at most {max(off, default=0)}/{old} of a tick, "
-            f"{500 * max(off, default=0) / old / MOST:.2f} ms at 120 quarter notes a minute")
+    most = max(off, default=0)
+    told = (f"{sum(each > 0 for each in off):,} of {len(off):,} events, by at most {most}/{old} of a tick, "
+            f"{500 * most / old / MOST:.2f} ms at 120 quarter notes a minute")
     if not is_asked:
         return Scaled(None, (f"{old} ticks a quarter note: a score has {LEAST} to {MOST}",
                              f"--scale writes it with {MOST}, and moves {told}"))
@@ -49,6 +51,5 @@ def _scaled(tick: int, old: int, new: int) -> int:
 
 
 def _with(listing: Listing, new: int) -> Listing:
-    events = tuple(Event(event.track, _scaled(event.tick, listing.division, new), event.message)
-                   for event in listing.events)
+    events = [Event(event.track, _scaled(event.tick, listing.division, new), event.message) for event in listing.events]
     return Listing(listing.format, listing.tracks, new, events)

@@ -3,20 +3,17 @@
 from __future__ import annotations
 
 import itertools
-import re
-from collections import Counter
 from fractions import Fraction
 from typing import Iterator, NamedTuple, Optional, Sequence
 
-from ..midi import INSTRUMENTS
-from ..music import KEYWORDS
-from .bars import DRUMS, Bar, bar_lines, bars_of
+from .bars import Bar, bar_lines, bars_of
 from .blocks import Atom, Call, Defaults, Spelled, loops, nodes_of
 from .layout import Braces, Mark, Node, Page, Plain, repeated, wrapped
 from .parts import Part, Piece
 from .repeats import Numbers
 from .spelling import MAX_LENGTH, Said, Silence, Sound, Token
 from .voices import voices_of
+from .words import Names, defaults_of, instrument_of, plain, tempo_parts
 
 _MOST_SOUNDS = 200
 _MOST_PARTS = 256
@@ -30,45 +27,6 @@ class Branch(NamedTuple):
     voices: int
     bars: list[Bar]
     defaults: Defaults
-
-
-def _defaults(bars: Sequence[Bar]) -> Defaults:
-    """The velocity and the percent of most notes."""
-    velocities: Counter[int] = Counter()
-    ranges: Counter[tuple[int, int]] = Counter()
-    for bar in bars:
-        for token in bar.tokens:
-            if isinstance(token, Sound):
-                velocities[token.velocity] += 1
-                ranges[token.low, token.high] += 1
-    sounds = sum(velocities.values())
-    velocity, most = velocities.most_common(1)[0] if velocities else (64, 0)
-    percents = [sum(count for (low, high), count in ranges.items() if low <= each <= high) for each in range(401)]
-    percent = min((each for each in range(401) if percents[each] == max(percents)),
-                  key=lambda each: (each != 90, each % 100 != 0, each % 10 != 0, each % 5 != 0, each))
-    return Defaults(velocity if 3 * most >= sounds else 64, percent if 3 * max(percents) >= sounds else 90)
-
-
-class _Names:
-    """Names for phrases: of the part that has them first."""
-
-    def __init__(self) -> None:
-        self.taken: Counter[str] = Counter()
-
-    def of(self, part: Part) -> str:
-        words = re.findall(r"[a-z]+", part.name.lower())
-        if not words:
-            words = ["drums"] if part.channel == DRUMS else re.findall(r"[a-z]+", _instrument(part))
-        stem = (words or ["voice"])[-1][:8]
-        self.taken[stem] += 1
-        name = f"{stem}_{self.taken[stem]}"
-        assert name not in KEYWORDS
-        return name
-
-
-def _instrument(part: Part) -> str:
-    programs = [message.data[0] for message in part.messages if message.status >> 4 == 0xC]
-    return INSTRUMENTS[programs[0]] if programs else ""
 
 
 class Writer:
@@ -87,7 +45,7 @@ class Writer:
         self.of_bar: dict[tuple[object, ...], int] = {}
         self.of_notes: dict[tuple[object, ...], int] = {}
         self.plain: list[tuple[Token, ...]] = []   # of each number of notes alone the tokens
-        self.names = _Names()
+        self.names = Names()
         self.name_of: dict[tuple[str, int], str] = {}
         self.definitions: list[str] = []
 
@@ -105,7 +63,7 @@ class Writer:
             voices = voices_of(part)
             for number, voice in enumerate(voices, 1):
                 bars = bars_of(voice, self.lines, self.piece, part.channel)
-                found.append(Branch(part, number, len(voices), bars, _defaults(bars)))
+                found.append(Branch(part, number, len(voices), bars, defaults_of(bars)))
         return found
 
     # ---- numbers for bars
@@ -186,20 +144,20 @@ class Writer:
         """What the score is made of, its version, and the file's tempo as a shape."""
         title = f": {self.piece.title}" if self.piece.title else ""
         division = f" division {self.piece.division};" if self.piece.division != 480 else ""
-        lines = [f"# Made from {_plain(self.source)} by formula-score import{title}", f"formula 2;{division}"]
+        lines = [f"# Made from {plain(self.source)} by formula-score import{title}", f"formula 2;{division}"]
         parts = tempo_parts(self.piece)
         if not parts:
             return lines
-        note = "# It plays 120 quarter notes a minute; for the file's own tempo put `warp tempo {` and `}` round the `par`."
+        note = "# It plays 120 quarter notes a minute; "
         if len(parts) > _MOST_PARTS:
-            note = f"# It plays 120 quarter notes a minute; the file's own tempo changes {len(parts) - 1} times."
-            return [lines[0], note, lines[1]]
+            return [lines[0], f"{note}the file's own tempo changes {len(parts) - 1} times.", lines[1]]
+        note += "for the file's own tempo put `warp tempo {` and `}` round the `par`."
         *words, last = [f"flat {self.length(ticks)} by {by}" for ticks, by in parts]
         return [lines[0], note, lines[1], *wrapped(["shape tempo =", *(f"{word}," for word in words), f"{last};"])]
 
     def _branch(self, row: int, branch: Branch) -> list[str]:
         part = branch.part
-        said_of = part.name or _instrument(part) or "voice"
+        said_of = part.name or instrument_of(part) or "voice"
         if branch.voices > 1:
             said_of += f", voice {branch.voice}"
         nodes = self._sequence(self.row_of[row], branch, iter(branch.bars))
@@ -290,26 +248,6 @@ class Writer:
         page.write((Braces(f"phrase {name}", tuple(nodes)),), 0)
         page.end(0)
         self.definitions += page.lines
-
-
-def tempo_parts(piece: Piece) -> list[tuple[int, int]]:
-    """The file's tempo as lengths with their stretches; none where it is 120 quarter notes a minute throughout."""
-    changes = [(0, 500_000), *piece.tempos, (piece.end, 0)]
-    parts: list[tuple[int, int]] = []
-    for (tick, tempo), (until, _) in zip(changes, changes[1:]):
-        by = max(1, min(1_000_000, (2 * tempo + 500) // 1000))
-        while tick < until:
-            length = min(until - tick, MAX_LENGTH)
-            if parts and parts[-1][1] == by and parts[-1][0] + length <= MAX_LENGTH:
-                parts[-1] = parts[-1][0] + length, by
-            else:
-                parts.append((length, by))
-            tick += length
-    return parts if any(by != 1000 for _, by in parts) else []
-
-
-def _plain(name: str) -> str:
-    return "".join(c if " " <= c <= "~" else "?" for c in name)
 
 
 def _mark(bars: Sequence[Bar]) -> Mark:

@@ -90,7 +90,7 @@ def _cost(voice: Voice, chord: Chord) -> Optional[float]:
     length, sounds = chord.begin - last.begin, last.end - last.begin
     if length <= 0 or not may_sound(length, sounds):
         return None
-    if sounds > length and voice.sounding(chord.begin) + len(chord.keys) > MOST_WAITING:
+    if voice.sounding(chord.begin) + len(chord.keys) > MOST_WAITING:
         return None
     distance = abs(chord.keys[-1] - last.keys[-1]) / 6
     return distance + (1 + 3 * (sounds - length) / length if sounds > length else 0.0)
