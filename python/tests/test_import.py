@@ -114,6 +114,10 @@ par {
         answer, text = imported(midi(1024, [track(odd, 2048)]), "--scale")
         self.assertEqual(answer.status, 0, answer.said)
         self.assertEqual([tick for tick, _ in played(text)[0]], [0, 479, 960, 1919])  # 479.06 and 1919.06 of 960
+        answer, text = imported(midi(1024, [track(odd, 2048)]), "--exact")
+        self.assertEqual(answer.status, 0, answer.said)
+        self.assertIn("formula 2; division 512;\nshape tempo = flat 1/1 by 500;\n", text)
+        self.assertEqual(played(text)[0], sent(odd))
 
     def test_what_differs_first_is_told(self):
         listing = listed(file_model.listing(file_model.read(WALTZ)).decode().splitlines())

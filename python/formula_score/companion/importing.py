@@ -8,7 +8,7 @@ import tempfile
 
 from ..importer.compare import compared
 from ..importer.parts import Piece, piece_of
-from ..importer.scaling import Scaled, scaled
+from ..importer.scaling import scaled
 from ..importer.score import fitting_text
 from .midi_file import save
 from .playing import Listing, listing_of_file, many, must_differ, needs, run as play
@@ -21,8 +21,11 @@ def arguments(parser: argparse.ArgumentParser) -> None:
     """What the verb takes."""
     parser.add_argument("file", metavar="FILE.mid")
     parser.add_argument("score", metavar="SCORE", help="the score that is written; an older one is replaced")
-    parser.add_argument("--scale", action="store_true", help="for a file with more than 960 ticks a quarter note, where "
-                        "no exact score can be: the nearest ticks of 960")
+    several = parser.add_mutually_exclusive_group()
+    several.add_argument("--scale", action="store_true", help="for a file with more than 960 ticks a quarter note, "
+                         "whose ticks have no common divisor that would do: the nearest ticks of 960")
+    several.add_argument("--exact", action="store_true", help="for such a file: no tick moves, and each length is "
+                         "written twice as long, or longer")
     parser.description = f"{parser.description}\n\n" + __doc__.split("\n")[0] + """
 
 Each track and channel is a branch, or some where notes begin together and end apart. What comes again is a phrase
@@ -39,12 +42,12 @@ def run(options: argparse.Namespace) -> int:
     """Writes the score, and tells how it compares."""
     must_differ(options.file, options.score)
     listing = listing_of_file(options.file, refused=1)
-    fit = scaled(listing, options.scale)
+    fit = scaled(listing, options.scale, options.exact)
     for line in fit.told:
         print(line)
     if fit.listing is None:
         return 1
-    piece = piece_of(fit.listing)
+    piece = piece_of(fit.listing, fit.longer)
     _tell(options.file, listing, piece)
     text, voices, played = _written(piece, os.path.basename(options.file))
     save(options.score, text.encode())

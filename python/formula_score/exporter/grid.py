@@ -7,7 +7,7 @@ from typing import NamedTuple
 from ..companion.meter import Meter
 from ..companion.walk import Level, Played
 from .axis import Axis, Heard, Spot, heard
-from .tempo import PLAIN, SLOWEST, Point, Region, Tempos, tempos
+from .tempo import PLAIN, SLOWEST, Point, Region, tempos
 
 _MOST_TICKS = 0x7FFF
 

@@ -26,7 +26,7 @@ class Bar(NamedTuple):
 def bar_lines(piece: Piece) -> list[int]:
     """The ticks at which bars begin, by the time signatures, else by 4/4; the last one is not before the end. A piece
     of very many bars is taken as one."""
-    whole = 4 * piece.division
+    whole = 4 * piece.division * piece.longer
     meters = [each for each in piece.meters if whole * each.over >= each.under]
     if not meters or meters[0].tick > 0:
         meters.insert(0, Meter(0, 4, 4))

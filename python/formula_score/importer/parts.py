@@ -67,17 +67,19 @@ class Piece:
     meters: list[Meter]
     tempos: list[tuple[int, int]]
     left_out: Counter[str]
+    #: how many times as long as in the file each length is written
+    longer: int = 1
     #: note-offs that end no note, and those that a file lacks, as (tick, status, key)
     idle: Counter[tuple[int, int, int]] = field(default_factory=Counter)
     added: Counter[tuple[int, int, int]] = field(default_factory=Counter)
 
 
-def piece_of(listing: Listing) -> Piece:
-    """The piece of a file."""
+def piece_of(listing: Listing, longer: int = 1) -> Piece:
+    """The piece of a file, with each length written so many times as long."""
     tracks = defaultdict(list)
     for event in listing.events:
         tracks[event.track].append(event)
-    piece = Piece(listing.division, listing.end, [], "", [], [], Counter())
+    piece = Piece(listing.division, listing.end, [], "", [], [], Counter(), longer)
     for number in sorted(tracks):
         _add_track(piece, number, [(event.tick, event.message) for event in tracks[number]], listing.format)
     piece.meters.sort()

@@ -6,12 +6,13 @@ import itertools
 from fractions import Fraction
 from typing import Iterator, NamedTuple, Optional, Sequence
 
+from ..lengths import written
 from .bars import Bar, bar_lines, bars_of
 from .blocks import Atom, Call, Defaults, Spelled, loops, nodes_of
 from .layout import Braces, Mark, Node, Page, Plain, repeated, wrapped
 from .parts import Part, Piece
 from .repeats import Numbers
-from .spelling import MAX_LENGTH, Said, Silence, Sound, Token
+from .spelling import MAX_LENGTH, Silence, Sound, Token
 from .voices import voices_of
 from .words import Names, defaults_of, instrument_of, plain, tempo_parts
 
@@ -53,8 +54,8 @@ class Writer:
         """How a length is written: as a fraction, where it has a name in notes."""
         if ticks not in self.written:
             part = Fraction(ticks, self.whole)
-            is_named = ticks and (part.denominator <= 96 or self.is_dense)
-            self.written[ticks] = f"{part.numerator}/{part.denominator}" if is_named else f"ticks {ticks}"
+            self.written[ticks] = (f"{part.numerator}/{part.denominator}" if ticks and self.is_dense
+                                   else written(ticks, self.whole))
         return self.written[ticks]
 
     def _branches(self) -> list[Branch]:
@@ -85,11 +86,13 @@ class Writer:
         return self.of_bar[key]
 
     def size_of_notes(self, number: int) -> int:
+        """How long the text of notes alone is; a bar of silence is worth no name."""
         if _is_rest(self.plain[number]):
             return 0
         return sum(len(self.spelled.text(token)) + 1 for token in self.plain[number])
 
     def size(self, number: int) -> int:
+        """About how long the text of a bar is, with its lists."""
         return self.size_of_notes(self.notes[number]) + self.lists[number]
 
     # ---- phrases
@@ -148,6 +151,8 @@ class Writer:
         parts = tempo_parts(self.piece)
         if not parts:
             return lines
+        if self.piece.longer > 1:
+            lines[0] += f"; each length is {self.piece.longer} times as long as there"
         note = "# It plays 120 quarter notes a minute; "
         if len(parts) > _MOST_PARTS:
             return [lines[0], f"{note}the file's own tempo changes {len(parts) - 1} times.", lines[1]]

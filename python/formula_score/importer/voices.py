@@ -7,7 +7,7 @@ file's order: a note-off before the next note-on of its key, a message before th
 from __future__ import annotations
 
 from bisect import bisect_right
-from collections import Counter, defaultdict
+from collections import defaultdict
 from dataclasses import dataclass, field
 from typing import NamedTuple, Optional
 

@@ -55,10 +55,10 @@ def instrument_of(part: Part) -> str:
 
 def tempo_parts(piece: Piece) -> list[tuple[int, int]]:
     """The file's tempo as lengths with their stretches; none where it is 120 quarter notes a minute throughout."""
-    changes = [(0, 500_000), *piece.tempos, (piece.end, 0)]
+    changes = [(0, 500_000), *piece.tempos, (piece.end, 0)]  # microseconds a quarter note, 1000 for 500,000
     parts: list[tuple[int, int]] = []
     for (tick, tempo), (until, _) in zip(changes, changes[1:]):
-        by = max(1, min(1_000_000, (2 * tempo + 500) // 1000))
+        by = max(1, min(1_000_000, (2 * tempo + 500 * piece.longer) // (1000 * piece.longer)))
         while tick < until:
             length = min(until - tick, MAX_LENGTH)
             if parts and parts[-1][1] == by and parts[-1][0] + length <= MAX_LENGTH:
