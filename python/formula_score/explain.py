@@ -16,13 +16,17 @@ import unicodedata
 from typing import NamedTuple, Optional, Sequence
 
 from . import records
-from .faults import FAULTS, FILE_FAULTS, RECORD_FAULTS, slip_at
+from .faults import FAULTS, FILE_FAULTS, RECORD_FAULTS
+from .slips import told
+from .slips.kinds import MIDI, RECORD, SCORE, not_a
 from .words import USAGE, read
 
 MOST_BYTES = 1_048_576
 MOST_RECORD = 67_108_864
 #: The tasks of which OUT may be a pipe, since nothing in it is written over.
 PIPED = ("--list", "--parts", "--record")
+#: How many bytes of a file tell its kind.
+BEGINNING = 4096
 #: How many bytes of a file are shown before a place, and from it on.
 BYTES_SHOWN = 12
 #: The greatest part of a long line that is shown before the place, and from it on, in characters.
@@ -69,11 +73,13 @@ def file_refusal(name: str, place: FilePlace) -> str:
     fault = FILE_FAULTS.get(place.number)
     if fault is None:
         return f"{name}: byte {place.byte}: fault {place.number}"
-    parts = [f"{name}: byte {place.byte}: {fault.means} (fault {fault.number})"]
-    data = _bytes_of(name, place.byte + BYTES_SHOWN) if fault.number != 35 else None
-    if data:
+    data = _bytes_of(name, max(place.byte + BYTES_SHOWN, BEGINNING))
+    other = not_a(MIDI.what, data) if data and fault.number in (22, 35) else None
+    means, do = other or (fault.means, "")
+    parts = [f"{name}: byte {place.byte}: {means} (fault {fault.number})"]
+    if data and fault.number != 35:
         parts.append(bytes_round(data, place.byte))
-    return "\n".join([*parts, fault.do])
+    return "\n".join([*parts, do or fault.do])
 
 
 class RecordPlace(NamedTuple):
@@ -94,9 +100,11 @@ def record_refusal(name: str, data: Optional[bytes], place: RecordPlace) -> str:
     fault = RECORD_FAULTS.get(place.number)
     if fault is None:
         return f"{name}: {place.place}: fault {place.number}"
+    other = not_a(RECORD.what, data) if data and place == RecordPlace(0, 41) else None
+    means, do = other or (fault.means, "")
     where = {44: f"{name}: step {place.place}", 45: f"{name}: behind {place.place} steps", 46: name}.get(
         place.number, f"{name}: byte {place.place}" + (" of the steps" if place.number == 43 else ""))
-    said = [f"{where}: {fault.means} (fault {fault.number})"]
+    said = [f"{where}: {means} (fault {fault.number})"]
     record = records.parts(data) if data else None
     if data and place.number == 41:
         said.append(bytes_round(data, place.place))
@@ -106,7 +114,13 @@ def record_refusal(name: str, data: Optional[bytes], place: RecordPlace) -> str:
         step = next((each for each in records.steps(record.steps) if each.number == place.place), None)
         if step:
             said.append(f"{step.number} {step.place} {step}")
-    return "\n".join([*said, fault.do])
+    return "\n".join([*said, do or fault.do])
+
+
+def position(text: bytes, byte: int) -> tuple[int, int]:
+    """The line and the column of a byte, both from 1."""
+    line = text.count(b"\n", 0, byte)
+    return line + 1, byte - text.rfind(b"\n", 0, byte)
 
 
 def excerpt(text: bytes, place: Place) -> str:
@@ -127,21 +141,26 @@ def excerpt(text: bytes, place: Place) -> str:
 
 
 def refusal(name: str, text: Optional[bytes], place: Place) -> str:
-    """What a refused text is told: file, line and column, the line with a caret, what it means, what to do."""
+    """What a refused text is told: file, line and column, what stands there, the line with a caret, what to do.
+
+    Where something is missing at the end of a line, that end is shown in place of what follows it.
+    """
     fault = FAULTS.get(place.number)
-    where = f"{name}:{place.line}:{place.column}"
     if fault is None:
-        return f"{where}: fault {place.number}"
-    parts = [f"{where}: {fault.means} (fault {fault.number})"]
+        return f"{name}:{place.line}:{place.column}: fault {place.number}"
+    heading, cure = fault.means, fault.do
+    other = not_a(SCORE.what, text) if text and place[:2] == (1, 1) else None
+    if other:
+        heading, cure = other
+    elif text is not None and fault.number != 18:
+        found = told(text, *place)
+        if found:
+            heading, cure = found.heading, found.cure or cure
+            place = Place(*position(text, found.place), place.number)
+    parts = [f"{name}:{place.line}:{place.column}: {heading} (fault {fault.number})"]
     if text is not None and fault.number != 18:
         parts.append(excerpt(text, place))
-    slip = slip_at(text, place.line, place.column, fault.number) if text is not None else None
-    if slip:
-        wrote, write = (" ".join(each.split("\n")) for each in (slip.wrote, slip.write))
-        parts.append(f"{slip.why}: in place of `{wrote}` write `{write}`")
-    else:
-        parts.append(fault.do)
-    return "\n".join(part for part in parts if part)
+    return "\n".join(part for part in [*parts, cure] if part)
 
 
 def explanation(status: int, said: str, words: Sequence[str]) -> str:

@@ -3,8 +3,7 @@ and those of docs/LANGUAGE.md, docs/MIDI_FILE.md and docs/SCHEDULER.md (which `s
 
 from __future__ import annotations
 
-import re
-from typing import NamedTuple, Optional
+from typing import NamedTuple
 
 
 class Fault(NamedTuple):
@@ -14,22 +13,6 @@ class Fault(NamedTuple):
     means: str
     stands_at: str
     do: str
-
-
-class Slip(NamedTuple):
-    """A slip of the pen: what was written, what to write, and how to know it at its place.
-
-    `wrote` and `write` are statements; with `formula 1;` before them they are whole scores.
-    `before` is a pattern for the text before the place, each run of blanks in it made one
-    blank, and `here` for the text from the place on.
-    """
-
-    wrote: str
-    write: str
-    why: str
-    fault: int
-    before: str
-    here: str
 
 
 FAULTS = {fault.number: fault for fault in (
@@ -129,112 +112,3 @@ RECORD_FAULTS = {fault.number: fault for fault in (
     Fault(46, "more than 67,108,864 bytes came, which is tested before all else", "0",
           "record a shorter score, or with more room and fewer workers: a longer record is written, and not audited"),
 )}
-
-_PITCH = r"[a-g][sb]?[0-9]\b"
-_BEGIN = r"(^|[;{}] ?)$"          # where a statement begins
-_WORD = (r"\b(note|play|rest|skip|control|program|bend|set|if|repeat|do|warp|par|channel|volume|gate|rhythm|artic|"
-         r"loud)\b")
-_LENGTH = r"([0-9]+/[0-9]+|ticks [0-9]+)"
-
-# In this order: of several that fit, the first one is told.
-SLIPS = (
-    Slip("c4 1/4;", "note c4 1/4;", "a pitch begins no statement", 3, _BEGIN, _PITCH),
-    Slip("note c4 1/4\nnote e4 1/4;", "note c4 1/4;\nnote e4 1/4;", "each statement ends with `;`", 3,
-         r"(" + _LENGTH + r"|(\b(play|do|set|control|program|bend)|^formula) [^;{}]*[^ ]) $", _WORD + r"|\}"),
-    Slip("note C4 1/4;", "note c4 1/4;", "small letters alone", 1, "", r"[A-Z]"),
-    Slip("note c#4 1/4;", "note cs4 1/4;", "a `#` begins a comment; C sharp is `cs4`", 3,
-         r"(note|play|,) $", r"[a-g]#"),
-    Slip("note ces4 1/4;", "note cb4 1/4;", "flats end in `b`: C flat is `cb4`, and E flat `eb4`", 3,
-         r"(note|play|,) $", r"([ac-fg]es|as|es|[ac-g]f)[0-9]\b"),
-    Slip("note fis4 1/4;", "note fs4 1/4;", "sharps end in `s`", 3, r"(note|play|,) $", r"[a-h]is[0-9]\b"),
-    Slip("note fss4 1/4;", "note g4 1/4;", "no double sharps and flats", 3,
-         r"(note|play|,) $", r"[a-g](ss|bb|x)[0-9]\b"),
-    Slip("note h4 1/4;", "note b4 1/4;", "the letters are a to g", 3, r"(note|play|,) $", r"h[0-9]\b"),
-    Slip("note c10 1/4;", "note c9 1/4;", "one digit of octave; the highest pitch is `g9`", 3,
-         r"(note|play|,) $", r"[a-g][sb]?[0-9]{2,}\b"),
-    Slip("note c 1/4;", "note c4 1/4;", "a pitch has its octave", 3, r"(note|play|,) $", r"[a-g][sb]?\b(?!#)"),
-    Slip("note r 1/4;", "rest 1/4;", "silence has a word of its own", 3, r"note $", r"r\b"),
-    Slip("note 60 1/4;", "note key 60 1/4;", "a key by its number has `key` before it", 3,
-         r"(note|play) $", r"[0-9]"),
-    Slip("note c4, 1/4;", "note c4 1/4;", "no comma before the length", 3, r"(note|play) .*, $", r"[0-9]+/|ticks\b"),
-    Slip("note key 60, 64 1/4;", "note key 60, key 64 1/4;", "`key` before each number", 3,
-         r"(note|play) .*, $", r"[0-9]"),
-    Slip("note key 60 + 12 1/4;", "note key (60 + 12) 1/4;", "what is computed stands in parentheses", 3,
-         r"(key|program|bend|control [0-9]+) [0-9]+ ?$", r"[-+*%]"),
-    Slip("note c4 e4 g4 1/2;", "note c4, e4, g4 1/2;", "commas between the pitches of a chord", 3,
-         r"(note|play) .*" + _PITCH + r" $", _PITCH),
-    Slip("note [c4, e4] 1/2;", "note c4, e4 1/2;", "a chord has no brackets", 3, r"(note|play) $", r"[\[({]"),
-    Slip("rhythm [1/4] { note c4; }", "rhythm [1/4] { play c4; }", "a `note` has its own length; `play` takes it "
-         "from the `rhythm`", 3, r"note .*" + _PITCH + r" ?$", r";"),
-    Slip("rhythm [1/4] { play c4 1/4; }", "rhythm [1/4] { play c4; }", "`play` takes its length from the "
-         "`rhythm`; `note` has its own", 3, r"play [^;{}]*$", r"([0-9]|ticks\b)"),
-    Slip("note c4 4;", "note c4 1/4;", "a length is `a/b` of a whole note, or `ticks N`", 3,
-         r"(note|rest)( [^;{}]*)? [0-9]+ ?$", r";"),
-    Slip("note c4 1/2 + 1/4;", "note c4 3/4;", "lengths are written as one", 3, r"(note|rest) .*" + _LENGTH + r" $",
-         r"\+"),
-    Slip("note c4 1/4.;", "note c4 3/8;", "a dotted quarter is 3/8", 1, r"[0-9]$", r"\. ?[;,\]]"),
-    Slip("note c4 0.25;", "note c4 1/4;", "numbers have no decimal point", 1, r"[0-9]$", r"\.[0-9]"),
-    Slip("rest;", "rest 1/4;", "a rest has its length; in a `rhythm`, `skip` takes the next one", 3, r"rest ?$", r";"),
-    Slip("rest 1/4 1/4;", "rest 2/4;", "one length, and `;` behind it", 3, r"rest " + _LENGTH + r" $", r"[0-9]"),
-    Slip("note c4 ticks (2 * 120);", "note c4 ticks (2 * 120) max 240;", "a computed length has its `max`", 3,
-         r"ticks \(.*\) ?$", r";"),
-    Slip("repeat (2 + 2) { note c4 1/4; }", "repeat (2 + 2) max 4 { note c4 1/4; }", "a computed count has its "
-         "`max`", 3, r"repeat \(.*\) ?$", r"\{"),
-    Slip("repeat 2 { note c4 1/4; };", "repeat 2 { note c4 1/4; }", "no `;` behind a block", 3, r"\} ?$", r";"),
-    Slip("channel 1; note c4 1/4;", "channel 1 { note c4 1/4; }", "it holds for a block", 3,
-         r"(channel|volume|gate) [0-9]+ ?$", r";"),
-    Slip("volume (60 + 4) { note c4 1/4; }", "volume 64 { note c4 1/4; }", "the numbers of these blocks are "
-         "written, never computed", 3, r"(channel|volume|gate) $", r"\("),
-    Slip("volume mf { note c4 1/4; }", "volume 80 { note c4 1/4; }", "by its velocity, 1 to 127", 3, r"volume $",
-         r"[a-z]"),
-    Slip("program flute;", "program 73;", "by its number, counted from 0", 3, r"program $", r"[a-z]"),
-    Slip("control 7, 100;", "control 7 100;", "no comma", 3, r"control [0-9]+ ?$", r","),
-    Slip("par { note c4 1/4; note e4 1/4; }",
-         "par { branch { note c4 1/4; } branch { channel 1 { note e4 1/4; } } }",
-         "each voice of a `par` is a `branch`", 3, r"par \{ ?$", r"[a-z}]"),
-    Slip("note c4 1/4; }", "note c4 1/4;", "there is no `{` for this `}`", 3, _BEGIN, r"\}"),
-    Slip("phrase bar { note c4 1/4; } do bar 4;", "phrase bar { note c4 1/4; } repeat 4 { do bar; }",
-         "a loop plays it more than once", 3, r"do [a-z0-9_]+ $", r"[0-9]"),
-    Slip("phrase a1 { note c4 1/4; }", "phrase part_a { note c4 1/4; }", "a name is no keyword, pitch, register or "
-         "index", 3, r"(phrase|shape|do|warp) $", r"[a-z]"),
-    Slip("repeat 2 { phrase bar { note c4 1/4; } do bar; }", "phrase bar { note c4 1/4; } repeat 2 { do bar; }",
-         "a `phrase` or `shape` stands outside all blocks", 3, r"[;{}] ?$", r"(phrase|shape)\b"),
-    Slip("shape slow = flat 1/1 2000;", "shape slow = flat 1/1 by 2000;", "`by` before the stretch", 3,
-         r"(flat|slope) " + _LENGTH + r" $", r"[0-9]"),
-    Slip("tempo 90; note c4 1/4;", "shape ninety = flat 4/1 by 1333; warp ninety { note c4 1/4; }",
-         "a tempo is a `warp`: 120,000 by the tempo", 3, _BEGIN, r"(tempo|bpm)\b"),
-    Slip("velocity 100 { note c4 1/4; }", "volume 100 { note c4 1/4; }", "the velocity is the `volume`", 3, _BEGIN,
-         r"(velocity|vel|dynamic|dynamics)\b"),
-    Slip("set r8 = 60;", "set r7 = 60;", "registers are `r0` to `r7`", 3, r"set $", r"[a-z]"),
-    Slip("set r0 60;", "set r0 = 60;", "with `=`", 3, r"set r[0-7] $", r"[^=]"),
-    Slip("if r0 < 3 { note c4 1/4; }", "if less(r0, 3) { note c4 1/4; }", "`a > b` is `less(b, a)`", 1,
-         r"", r"[<>]"),
-    Slip("if r0 == 3 { note c4 1/4; }", "if same(r0, 3) { note c4 1/4; }", "`same` compares", 3,
-         r"if [^;{}]*$", r"="),
-    Slip("if r0 { note c4 1/4; } else if r1 { note e4 1/4; }",
-         "if r0 { note c4 1/4; } else { if r1 { note e4 1/4; } }", "a third case is an `if` in the block", 3,
-         r"else $", r"if\b"),
-    Slip("repeat 2 note c4 1/4;", "repeat 2 { note c4 1/4; }", "what it holds stands between `{` and `}`", 3,
-         r"((repeat|channel|volume|gate) [0-9]+|warp [a-z0-9_]+|else|branch|phrase [a-z0-9_]+|\]|if [^;{}]*[^ ]) $",
-         _WORD),
-    Slip("note c4 1/4; // a tune", "note c4 1/4; # a tune", "a comment begins with `#`", 3, r"", r"//|/\*"),
-    Slip("note c4 1/4; seed 7;", "seed 7; note c4 1/4;", "`seed` stands directly behind `formula 1;`", 3, _BEGIN,
-         r"seed\b"),
-    Slip("repeat 2 { note c4 1/4;", "repeat 2 { note c4 1/4; }", "each `{` has its `}`", 3, r"\{", r"\s*$"),
-)
-
-
-def slip_at(text: bytes, line: int, column: int, number: int) -> Optional[Slip]:
-    """The slip that the text at this place looks like, for a fault of this number."""
-    lines = text.split(b"\n")
-    if not 1 <= line <= len(lines):
-        return None
-    start = sum(len(each) + 1 for each in lines[:line - 1]) + column - 1
-    # a comment says nothing, and a word that a comment follows directly has to be seen with its '#'
-    before = re.sub(rb"#[^\n]*", b"", text[max(0, start - 2000):start]).decode("latin-1")
-    before = re.sub(r"\s+", " ", re.sub(r"^\s*formula\s+1\s*;\s*", "", before))[-400:]
-    here = text[start:start + 400].decode("latin-1")
-    for slip in SLIPS:
-        if slip.fault == number and re.search(slip.before, before) and re.match(slip.here, here):
-            return slip
-    return None

@@ -1,4 +1,4 @@
-"""The table of slips, and what is told of words and places."""
+"""What is told of words, of places, and of files of other kinds."""
 
 import pathlib
 import re
@@ -9,10 +9,10 @@ from formula_score.explain import (
     FilePlace, Place, bytes_round, excerpt, explanation, file_place_of, file_refusal, place_of, record_place_of,
     refusal,
 )
-from formula_score.faults import FAULTS, FILE_FAULTS, RECORD_FAULTS, SLIPS, slip_at
+from formula_score.faults import FAULTS, FILE_FAULTS, RECORD_FAULTS
 from formula_score.words import read
 
-from .program import TOP, needs_program, run
+from .program import TOP
 
 # Lines of words, with a `|` between two words; those of crates/fm_words_tests/src/words.rt.
 REFUSED = (
@@ -91,8 +91,11 @@ class Places(unittest.TestCase):
             place = place_of(console.read_text())
             text = console.with_suffix(".score").read_bytes()
             told = refusal("a.score", text, place).split("\n")
-            self.assertEqual(told[0], f"a.score:{place.line}:{place.column}: {FAULTS[place.number].means} "
-                                      f"(fault {place.number})")
+            # a `;` that is missing at the end of a line is shown there
+            shown = "3:12" if console.stem == "not_expected" else f"{place.line}:{place.column}"
+            self.assertRegex(told[0], rf"^a\.score:{shown}: .+ \(fault {place.number}\)$")
+            if place.number in (4, *range(9, 19)):
+                self.assertIn(FAULTS[place.number].means, told[0])
             self.assertEqual(len(told), 4, console)
 
     def test_each_refused_file_is_explained(self):
@@ -105,7 +108,9 @@ class Places(unittest.TestCase):
                 pathlib.Path(file.name).write_bytes(bytes.fromhex(digits))
                 told = file_refusal(file.name, place).split("\n")
                 fault = FILE_FAULTS[place.number]
-                self.assertEqual(told[0], f"{file.name}: byte {place.byte}: {fault.means} (fault {fault.number})")
+                means = ("this is a packed file, as .mxl and .mscz are, and not a MIDI file" if name.stem == "not_midi"
+                         else fault.means)
+                self.assertEqual(told[0], f"{file.name}: byte {place.byte}: {means} (fault {fault.number})")
                 self.assertEqual((told[-1], len(told)), (fault.do, 4 if digits.strip() else 2), name)
 
     def test_each_refused_record_is_explained(self):
@@ -122,11 +127,43 @@ class Places(unittest.TestCase):
                 fault = RECORD_FAULTS[place.number]
                 numbers.add(place.number)
                 self.assertTrue(told[0].startswith(f"{file.name}: "), told)
-                self.assertTrue(told[0].endswith(f"{fault.means} (fault {fault.number})"), told)
-                self.assertEqual((told[-1], len(told)), (fault.do, {44: 3, 45: 2}.get(place.number, 4)), name)
+                self.assertEqual(len(told), {44: 3, 45: 2}.get(place.number, 4), name)
+                if name.stem != "no_record":
+                    self.assertTrue(told[0].endswith(f"{fault.means} (fault {fault.number})"), told)
+                    self.assertEqual(told[-1], fault.do, name)
                 if name.stem == "end_that_is_not_recorded":
                     self.assertEqual(told[1], "1 4 Give seat 0 process 0 taken 0 computed 0 clock 0 ended")
         self.assertEqual(numbers, set(RECORD_FAULTS) - {46})
+
+    def test_a_file_of_another_kind_is_told(self):
+        score, file, record = b"# A tune\nformula 1; note c4 1/4;", b"MThd\0\0\0\6", b"FMR1\1"
+        text, listed, audited = "formula: score refused: 1:1 fault 1", "formula: file refused: byte 0 fault 22", \
+            "formula: record refused: 0 fault 41"
+        rows = (
+            (file, text, [], "this is a MIDI file, and not a score", "add `--list`, which lists its events"),
+            (record, text, [], "this is the record of a run, and not a score",
+             "add `--audit`, which checks it and makes its file"),
+            (score, listed, ["--list"], "this is a score, and not a MIDI file",
+             "take `--list` away, and the score is played into a MIDI file"),
+            (record, listed, ["--list"], "this is the record of a run, and not a MIDI file",
+             "write `--audit` in place of `--list`, which checks it and makes its file"),
+            (score, audited, ["--audit"], "this is a score, and not the record of a run",
+             "write `--record` in place of `--audit`, which makes the record of a run, and audit that"),
+            (file, audited, ["--audit"], "this is a MIDI file, and not the record of a run",
+             "write `--list` in place of `--audit`, which lists its events"),
+            (b"<?xml version='1.0'?><score-partwise/>", text, [],
+             "this is a file of XML, as MusicXML is, and not a score",
+             "write the score as a text that begins with `formula 1;`"),
+            (b"\xef\xbb\xbfformula 1;", text, [], "this is a text with a byte order mark",
+             "save the score as plain text, in ASCII or UTF-8 without a byte order mark"),
+        )
+        with tempfile.TemporaryDirectory() as folder:
+            name = pathlib.Path(folder, "in")
+            for data, said, words, heading, do in rows:
+                name.write_bytes(data)
+                told = explanation(3, said, [str(name), "out", *words]).split("\n")
+                self.assertIn(f": {heading} (fault ", told[0])
+                self.assertEqual(told[-1], do)
 
     def test_the_caret_stands_under_the_byte(self):
         rows = (
@@ -145,18 +182,6 @@ class Places(unittest.TestCase):
         self.assertIn("No such file", explanation(2, "formula: read fault", [missing, "b"]))
         self.assertIn("Is a directory", explanation(4, "formula: write fault", ["a", str(TOP)]))
         self.assertIn("no process 3", explanation(7, "formula: no such process", "a b --locate 1 --process 3".split()))
-
-
-class Slips(unittest.TestCase):
-    @needs_program
-    def test_each_slip_is_refused_and_known_and_its_cure_plays(self):
-        for slip in SLIPS:
-            text = "formula 1; " + slip.wrote
-            status, said, _ = run(text)
-            place = place_of(said)
-            self.assertEqual((status, place and place.number), (3, slip.fault), slip.wrote)
-            self.assertIs(slip_at(text.encode(), *place), slip, slip.wrote)
-            self.assertEqual(run("formula 1; " + slip.write)[:2], (0, ""), slip.write)
 
 
 if __name__ == "__main__":

@@ -60,9 +60,9 @@ class Readme(unittest.TestCase):
                 play("formula 1;\nnote c#4 1/4;\n", out, PROGRAM)
             self.assertEqual((caught.exception.line, caught.exception.column, caught.exception.number), (2, 6, 3))
             self.assertEqual(str(caught.exception),
-                             "score:2:6: a token that cannot stand there in any score (fault 3)\n"
-                             "2 | note c#4 1/4;\n  |      ^\na `#` begins a comment; C sharp is `cs4`: in place of "
-                             "`note c#4 1/4;` write `note cs4 1/4;`")
+                             "score:2:6: here a pitch is expected, and there is `c` (fault 3)\n"
+                             "2 | note c#4 1/4;\n  |      ^\n"
+                             "a `#` begins a comment, and a sharp is `s`: write `note cs4 1/4;`")
 
 
 if __name__ == "__main__":

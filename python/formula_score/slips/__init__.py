@@ -1,0 +1,93 @@
+"""What is told of a refused text: what stands at the place, and one thing to do."""
+
+from __future__ import annotations
+
+import re
+from typing import NamedTuple, Optional
+
+from .bytes import at_byte, at_number
+from .places import AT
+from .ranges import known_name, no_ticks, out_of_range, unknown_name
+from .spot import Spot
+from .statement import FORMS, at_statement
+from .tokens import END
+
+__all__ = ["Told", "told"]
+
+
+class Told(NamedTuple):
+    """What stands there, what to do ('' for no more than the fault says), and the byte that is shown."""
+
+    heading: str
+    cure: str
+    place: int
+
+
+def told(data: bytes, line: int, column: int, number: int) -> Optional[Told]:
+    """What is told of a text that is refused at a place with a fault of this number; None for what the fault says."""
+    place = _byte_of(data, line, column)
+    if place is None or number not in _BY_NUMBER and number > 3:
+        return None
+    spot = Spot(data, place)
+    if not spot.is_read:
+        return None
+    if number in _BY_NUMBER:
+        found = _BY_NUMBER[number](spot)
+        return Told(*found, place) if found else None
+    if number == 1:
+        return Told(_heading_of_byte(spot), at_byte(spot) or "", place)
+    if number == 2:
+        return Told(_heading_of_number(spot), at_number(spot) or "", place)
+    cure = at_statement(spot) if spot.where == "statement" else AT[spot.where](spot)
+    return Told(_heading(spot), cure or _form(spot), spot.last.end if spot.is_over_line else place)
+
+
+_BY_NUMBER = {5: known_name, 6: unknown_name, 7: out_of_range, 8: no_ticks}
+
+
+def _byte_of(data: bytes, line: int, column: int) -> Optional[int]:
+    lines = data.split(b"\n")
+    if not 1 <= line <= len(lines):
+        return None
+    return sum(len(each) + 1 for each in lines[:line - 1]) + column - 1
+
+
+def _heading(spot: Spot) -> str:
+    here = spot.here
+    if spot.where == "statement":
+        if here.kind == END:
+            return "the text ends, and a `{` is open"
+        if here.text == "}":
+            return "this `}` closes nothing"
+        return f"{spot.shown(here)} begins no statement"
+    what = " or ".join(dict.fromkeys(_with_article(each) for each in spot.reading.expected[-3:]))
+    if here.kind == END:
+        return f"here {what} is expected, and the text ends"
+    if spot.is_over_line:
+        return f"here {what} is expected, and {spot.shown(here)} of line {spot.position(spot.place)[0]} follows"
+    return f"here {what} is expected, and there is {spot.shown(here)}"
+
+
+def _with_article(label: str) -> str:
+    return f"a {label}" if label.startswith("`") and not label[1].isalpha() else label
+
+
+def _heading_of_byte(spot: Spot) -> str:
+    found = re.match(r"[A-Za-z][A-Za-z0-9_]*", spot.rest)
+    if found:
+        return f"`{found[0]}` is no word of the language, by its capital letter"
+    return f"`{spot.characters(spot.place)}` begins no word of the language"
+
+
+def _heading_of_number(spot: Spot) -> str:
+    found = re.match(r"[0-9]+[a-z_]*[a-z0-9_]*", spot.rest)
+    text = found[0] if found else ""
+    return f"`{text if len(text) <= 24 else text[:24] + '…'}` is no number"
+
+
+def _form(spot: Spot) -> str:
+    """What a statement begins with, or the form of the present one."""
+    if spot.where == "statement" and spot.here.is_word:
+        return "a statement begins with a word as `note`, `rest`, `repeat` or `do`, and other text stands behind `#`"
+    form = FORMS.get(spot.head)
+    return f"`{spot.head}` is written so: `{form}`" if form else ""

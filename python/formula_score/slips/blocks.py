@@ -1,0 +1,258 @@
+"""What is meant by the words of blocks, and by their names, counts and lists."""
+
+from __future__ import annotations
+
+import re
+from typing import Optional
+
+from ..midi import DYNAMICS
+from .common import FUNCTIONS
+from .foreign import length_at, sum_at
+from .near import near
+from .reading import STATEMENTS
+from .spot import Spot, is_statement
+from .statement import FORMS, by_index, open_block
+from .tokens import END, INDEX, NAME, NUMBER, PITCH, REGISTER
+from .values import at_operator
+
+_BLOCKS = ("volume", "channel", "gate", "repeat", "warp", "rhythm", "loud", "artic", "par")
+
+
+def at_block(spot: Spot) -> Optional[str]:
+    """Where a `{` is expected."""
+    here, head = spot.here, spot.head
+    what = re.sub(r"\s+", " ", spot.source[spot.statement[0].start:spot.last.end])
+    if spot.last.text in ("else", "branch"):
+        what = spot.last.text
+    shown = what if len(what) <= 40 else head
+    if spot.last.text == "else" and here.kind == "if":
+        return "a third case is an `if` in the block: write `else { if .. { .. } }`"
+    if head == "if" and spot.last.text != "else":
+        found = at_operator(spot)
+        if found:
+            return found
+    if head == "repeat" and here.kind in ("+", "-", "*", "/", "%"):
+        return "a computed count stands in parentheses, with its `max`: write `repeat (2 + n0) max 16 { .. }`"
+    if head == "repeat" and (here.text in ("times", "x") or here.text == "*"):
+        return f"the block stands directly behind the count: take `{here.text}` away"
+    if head == "gate" and here.kind == "%":
+        return "percentages are numbers alone: take the `%` away"
+    if here.kind in _BLOCKS and not spot.is_over_line:
+        return f"a block stands in another: write `{shown} {{ {here.kind} .. {{ .. }} }}`"
+    if here.kind == "," and spot.next().kind in _BLOCKS:
+        return f"a block stands in another: write `{shown} {{ {spot.next().kind} .. {{ .. }} }}`"
+    if head == "phrase" and spot.last.kind == NAME:
+        return _phrase_block(spot, shown)
+    if head == "branch" or spot.last.text == "branch":
+        if here.kind == NUMBER or here.kind == NAME:
+            return "a branch has no name or number: take it away"
+    if head in ("volume", "gate", "channel") and spot.last.kind == NUMBER and here.kind in ("+", "*", "/", "-", "("):
+        if head == "volume" and here.kind == "-":
+            return by_index("crescendo")
+        return f"the number of `{head}` is written, and never computed: write `{FORMS[head]}`"
+    if head == "volume" and here.kind == "to":
+        return by_index("crescendo")
+    if head == "warp" and here.kind == ",":
+        return "one shape at a time: write `warp a { warp b { .. } }`"
+    if here.text == "(":
+        return f"the block stands between `{{` and `}}`: write `{shown} {{ .. }}`"
+    if here.kind in (";", ",") or here.text == ":":
+        return (f"`{spot.last.text if spot.last.text in ('else', 'branch') else head}` holds for a block: write "
+                f"`{shown} {{ .. }}`")
+    if here.kind == END or is_statement(here) or here.kind in (PITCH, "}", "branch", "]"):
+        return f"what it holds stands between `{{` and `}}`: write `{shown} {{ .. }}`"
+    return None
+
+
+def _phrase_block(spot: Spot, shown: str) -> Optional[str]:
+    here, name = spot.here, spot.last.text
+    if here.kind == "=" or here.text == ":":
+        return f"the block of a phrase stands directly behind its name: write `phrase {name} {{ .. }}`"
+    if here.kind == "(":
+        return f"a phrase has no arguments, and a register hands a value over: write `phrase {name} {{ .. }}`"
+    if here.kind == "-":
+        return "names have `_` in place of `-`"
+    if here.kind == NUMBER or here.kind == NAME and spot.next().text == "{":
+        return f"a name is one word: write `phrase {name}_{here.text} {{ .. }}`"
+    if here.text in ("'", "!", "."):
+        return "names have letters a to z, digits and `_` alone"
+    if here.kind == ";":
+        if name in spot.reading.named and spot.reading.named[name].start != spot.last.start:
+            return f"`do` plays a phrase: write `do {name};`"
+        return f"a phrase has its music in a block: write `phrase {name} {{ .. }}`, and play it by `do {name};`"
+    return f"the music of a phrase stands between `{{` and `}}`: write `{shown} {{ .. }}`"
+
+
+def at_count(spot: Spot) -> Optional[str]:
+    """Behind `repeat`."""
+    here = spot.here
+    if here.kind in (REGISTER, INDEX, *FUNCTIONS, "-"):
+        return "a computed count stands in parentheses, with its `max`: write `repeat (E) max 16 { .. }`"
+    if here.text == "{":
+        return "a loop has its count: write `repeat 2 { .. }`"
+    number = next((each.text for each in spot.after[1:4] if each.kind == NUMBER), "2")
+    if here.kind == NAME or here.text in ("*", "=", ":", "["):
+        if here.text in spot.phrases:
+            return f"a loop has its count and a block: write `repeat {number} {{ do {here.text}; }}`"
+        if here.text == "forever":
+            return "a score ends, and a loop has its count: write `repeat 16 { .. }`"
+        return f"a loop has its count directly behind the word: write `repeat {number} {{ .. }}`"
+    if here.kind == "do" or is_statement(here):
+        return "a loop has its count and a block: write `repeat 2 { .. }`"
+    return "a loop has its count: write `repeat 2 { .. }`"
+
+
+def at_name(spot: Spot) -> Optional[str]:
+    """Behind `do` or `warp`."""
+    here, head = spot.here, spot.head
+    known = [each for each in spot.names if (each in spot.phrases) == (head == "do")]
+    example = known[0] if known else "verse" if head == "do" else "rit"
+    form = f"do {example};" if head == "do" else f"warp {example} {{ .. }}"
+    if head == "warp" and here.kind in ("slope", "flat", "pause", "breath"):
+        found = re.match(r"([^;{}]*?)\s*[;{]", spot.rest)
+        parts = re.sub(r"\s+", " ", found[1]) if found and len(found[1]) < 60 else f"{here.kind} .."
+        return f"the shape is named first: write `shape rit = {parts}; warp rit {{ .. }}`"
+    if head == "do" and here.text == "{":
+        return "`do` plays a phrase by its name: write `phrase verse { .. }` before, and `do verse;`"
+    if head == "do" and here.kind == NUMBER:
+        number = here.text
+        name = next((each.text for each in spot.after[1:4] if each.text in spot.phrases), example)
+        return f"a loop plays it more than once: write `repeat {number} {{ do {name}; }}`"
+    if head == "warp" and here.kind == NUMBER:
+        return "a `warp` has the name of a shape: write `shape slow = flat 500/1 by 2000; warp slow { .. }`"
+    if here.text in ('"', "'"):
+        found = re.match(r"[\"']([a-z][a-z0-9_]*)[\"']", spot.rest)
+        return f"a name has no quotes: write `{head} {found[1]}{';' if head == 'do' else ' { .. }'}`" if found else None
+    if here.kind in (PITCH, REGISTER, INDEX):
+        return (f"a name is no keyword, pitch, register or index, and `{here.text}` is one: give the "
+                f"{'phrase' if head == 'do' else 'shape'} another name")
+    if here.kind in ("phrase", "shape"):
+        return f"the name alone stands behind `{head}`: take `{here.text}` away"
+    if here.kind in STATEMENTS and head == "do":
+        return f"`do` plays a phrase by its name, and `{here.text}` stands by itself: take `do` away"
+    if here.text.isalpha():
+        return f"a name is no keyword, and `{here.text}` is one: give it another name"
+    return f"a name is missing: write `{form}`"
+
+
+def at_new_name(spot: Spot) -> Optional[str]:
+    """Behind `phrase` or `shape`."""
+    here, head = spot.here, spot.head
+    form = "phrase verse { .. }" if head == "phrase" else "shape rit = slope 1/1 by 1000 to 1500;"
+    if here.kind in (PITCH, REGISTER, INDEX):
+        kind = {PITCH: "pitch", REGISTER: "register", INDEX: "index of a loop"}[here.kind]
+        return f"`{here.text}` is a {kind}, and names nothing: choose another name, as `part_{here.text}`"
+    if here.is_word and here.kind != NAME:
+        return f"`{here.text}` is a word of the language, and names nothing: choose another name, as `my_{here.text}`"
+    if here.kind == NUMBER:
+        return f"a name begins with a letter: choose another name, as `part_{here.text}`"
+    if here.text in ('"', "'"):
+        return f"a name has no quotes: write `{form}`"
+    if here.text in ("{", "=", "flat", "slope"):
+        return f"a name is missing: write `{form}`"
+    return f"a name stands behind `{head}`: write `{form}`"
+
+
+def at_branch(spot: Spot) -> Optional[str]:
+    """In a `par`, where a branch is expected."""
+    here = spot.here
+    if here.kind == END:
+        return f"write the `}}` of {open_block(spot)}"
+    if here.kind in (";", ","):
+        return "nothing stands between the branches of a `par`: take it away"
+    if here.kind == "}":
+        return "a `par` has at least one branch: write `par { branch { .. } branch { .. } }`"
+    if here.text == "{":
+        return "each voice of a `par` is a `branch`: write `branch` before the `{`"
+    if here.kind == NAME and spot.next().text in ("{", NUMBER) or here.kind == NAME and near(here.text, ["branch"]):
+        return f"each voice of a `par` is a `branch`: write `branch` in place of `{here.text}`"
+    if spot.last.text == "}":
+        return ("a `par` holds branches alone: move this into one, or write before it the `}` of the `{` at "
+                f"{spot.spelled(spot.reading.blocks[-1].token.start)}, behind `par`")
+    return "each voice of a `par` is a `branch`: write `par { branch { .. } branch { .. } }`"
+
+
+_RANGE_OF = {"channel": "channels go from 0 to 15", "volume": "velocities go from 1 to 127",
+             "gate": "gates go from 0 to 400"}
+
+
+def at_setting(spot: Spot) -> Optional[str]:
+    """Behind `channel`, `volume` or `gate`."""
+    here, head = spot.here, spot.head
+    if head == "volume" and here.text in DYNAMICS:
+        return (f"the volume is a velocity, and `{here.text}` is {DYNAMICS[here.text]}: write `volume "
+                f"{DYNAMICS[here.text]} {{ .. }}`")
+    if head == "channel" and here.kind == NAME and here.text.startswith(("drum", "perc")):
+        return "the drums are on channel 9: write `channel 9 { .. }`"
+    if head == "gate" and here.text in ("staccato", "stacc", "legato", "tenuto"):
+        number = 50 if here.text.startswith("stac") else 100
+        return f"a gate is in percent of the length, and {number} is {here.text}: write `gate {number} {{ .. }}`"
+    if here.kind in ("(", REGISTER, INDEX, *FUNCTIONS):
+        more = "; for a velocity from note to note, a `loud` list" if head == "volume" else ""
+        return f"the number of `{head}` is written, and never computed: write `{FORMS[head]}`{more}"
+    if here.kind == "-":
+        return f"{_RANGE_OF[head]}: write `{FORMS[head]}`"
+    if here.kind in ("=", "+") or here.text == ":":
+        text = spot.mended(spot.place, spot.place + 1, " ")
+        return f"the number stands directly behind `{head}`: write `{text or FORMS[head]}`"
+    if here.text == "[":
+        word = {"volume": "loud", "gate": "artic"}.get(head)
+        if word:
+            return f"a list is `{word}`: write `{FORMS[word]}`"
+        return f"one channel holds for a block: write `{FORMS[head]}`"
+    return f"a number and a block stand behind `{head}`: write `{FORMS[head]}`"
+
+
+def at_list(spot: Spot) -> Optional[str]:
+    """Behind `rhythm`, `artic` or `loud`."""
+    here, head = spot.here, spot.head
+    if here.kind == NUMBER:
+        other = {"loud": "volume", "artic": "gate"}.get(head)
+        if other and spot.next().text == "{":
+            return (f"a list stands in brackets: write `{head} [{here.text}] {{ .. }}`, or `{other} {here.text} {{ .. "
+                    f"}}`")
+        return f"a list stands in brackets: write `{FORMS[head]}`"
+    if here.text in ("(", "<"):
+        return f"a list stands in brackets, `[` and `]`: write `{FORMS[head]}`"
+    if here.kind == "=" or here.kind == NAME:
+        return f"a list in brackets stands directly behind `{head}`: write `{FORMS[head]}`"
+    return f"a list stands in brackets: write `{FORMS[head]}`"
+
+
+def at_entry(spot: Spot) -> Optional[str]:
+    """In the list of an `artic` or `loud`."""
+    here, head = spot.here, spot.head
+    if here.text in DYNAMICS and head == "loud":
+        return f"a list has velocities, and `{here.text}` is {DYNAMICS[here.text]}: write `{DYNAMICS[here.text]}`"
+    if here.text == "]":
+        return (f"a list has at least one entry: write `{FORMS[head]}`" if spot.last.text == "[" else
+                "no comma stands behind the last entry: take it away")
+    if here.kind == ",":
+        return "an entry is missing before this `,`: write it, or take the `,` away"
+    if here.kind in ("(", REGISTER, INDEX, *FUNCTIONS, "-"):
+        return f"the entries of a list are written numbers, and never computed: write `{FORMS[head]}`"
+    return f"a list has numbers alone: write `{FORMS[head]}`"
+
+
+def at_entries(spot: Spot) -> Optional[str]:
+    """Behind an entry of a list."""
+    here, head = spot.here, spot.head
+    if head == "rhythm":
+        slash = next((each for each in reversed(spot.statement) if each.kind == "/"), None)
+        if slash is not None:
+            start = spot.statement[[each.start for each in spot.statement].index(slash.start) - 1].start
+            for meant in (sum_at(spot.source[start:]), length_at(spot.source[start:])):
+                if meant and start + len(meant.wrote) > spot.place:
+                    return f"{meant.why}: write `{meant.write}` in place of `{meant.wrote}`"
+    if here.kind == "%":
+        return "percentages are numbers alone: take the `%` away"
+    if here.kind in (NUMBER, "ticks"):
+        return f"commas stand between the entries of a list: write `,` behind `{spot.last.text}`"
+    if here.kind in ("{", ";", ")", "}") or is_statement(here) or here.kind == END:
+        opened = next((each for each in reversed(spot.statement) if each.text == "["), spot.last)
+        return f"write the `]` of the `[` at {spot.spelled(opened.start)}"
+    if here.kind in ("-", "to") or here.text == ".":
+        return f"a list has each entry for itself: write `{FORMS[head]}`"
+    if here.kind in ("*", "+", "/"):
+        return f"the entries of a list are written, and never computed: write `{FORMS[head]}`"
+    return None

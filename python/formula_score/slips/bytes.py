@@ -1,0 +1,212 @@
+"""What is meant by bytes that begin no token, and by numbers that are none."""
+
+from __future__ import annotations
+
+import re
+from typing import Optional
+
+from ..index import musical
+from ..midi import DYNAMICS
+from ..music import KEYWORDS
+from .common import FUNCTIONS
+from .foreign import length_at, pitch_at
+from .near import near
+from .pitches import is_chord_name
+from .places import AT
+from .reading import STATEMENTS
+from .spot import Spot
+from .statement import at_statement, by_index
+from .tokens import INDEX, NUMBER, PITCH, REGISTER, kind_of
+
+_TYPED = {"–": "-", "—": "-", "−": "-", "×": "*", "÷": "/", "⁄": "/", "；": ";", "，": ",", "｛": "{", "｝": "}", "（": "(",
+          "）": ")", "＝": "=", "：": ";", "∕": "/"}
+_FRACTIONS = {"¼": "1/4", "½": "1/2", "¾": "3/4", "⅛": "1/8", "⅜": "3/8", "⅓": "1/3", "⅔": "2/3", "⅙": "1/6"}
+_SIGNS = {"♩": "1/4", "♪": "1/8", "𝅝": "1/1", "𝅗𝅥": "1/2"}
+_FIELDS = "XTCMLQKVRNOAW"
+_COMMANDS = ("relative", "absolute", "fixed", "score", "version", "language", "header", "paper", "layout", "new",
+             "book")
+#: Places that know what is meant by a text in quotes.
+_QUOTED = ("pitch", "length", "amount", "controller", "name", "new name", "slash", "end", "key")
+
+
+def at_byte(spot: Spot) -> Optional[str]:
+    """What to do about a byte that begins no token."""
+    text = spot.text
+    first = text[:1]
+    if first.isascii() and first.isalpha():
+        return _capital(spot)
+    if first == "\\":
+        return _backslash(spot)
+    if first in _TYPED:
+        return f"`{first}` is typed for `{_TYPED[first]}`: write `{_TYPED[first]}`"
+    if first in _FRACTIONS:
+        return f"a length is written with `/`: write `{_FRACTIONS[first]}` in place of `{first}`"
+    if text.startswith("♩") and re.match(r"♩\s*=\s*[0-9]+", text):
+        number = re.match(r"♩\s*=\s*([0-9]+)", text)
+        return by_index("tempo", number[1] if number else "")
+    if first in _SIGNS:
+        return f"a length is a part of a whole note: write `{_SIGNS[first]}` in place of `{first}`"
+    if first in "\u00a0\u2003\u2002\u2009\u202f\u3000\u200b\ufeff\u200e\u2028":
+        return "this is a blank of another kind, or none that is seen: write a plain blank in its place"
+    if spot.where == "statement" and first in "<>|\"“”„'‘’«»:~&@!^*_.":
+        found = _mark_of_statement(spot, first)
+        if found:
+            return found
+    found = _mark(spot, first)
+    if found:
+        return found
+    special = AT.get(spot.where)
+    told = special(spot) if special else None
+    if told:
+        return told
+    if first in "♯♭♮𝄪𝄫":
+        return "a sharp is `s`, as in `fs4`, a flat `b`, as in `bb4`, and a natural nothing: write `fs4`"
+    if not first.isascii() and first.isalpha():
+        return f"words have the letters a to z alone: take the `{first}` away, or put it behind `#`"
+    return None
+
+
+def _capital(spot: Spot) -> Optional[str]:
+    found = re.match(r"[A-Za-z][A-Za-z0-9_]*", spot.rest)
+    word = found[0] if found else spot.rest[:1]
+    lower = word.lower()
+    pitches = spot.where in ("pitch", "length", "key", "end") or spot.where == "statement"
+    if spot.where == "statement" and re.match(rf"[{_FIELDS}]:", spot.rest):
+        return _field(word[0], spot.rest)
+    if spot.where == "formula" and re.match(rf"[{_FIELDS}]:", spot.rest):
+        return "this is a text in ABC, and no score: abc2midi makes a MIDI file of it"
+    meant = pitch_at(spot.text) if pitches or spot.where == "value" else None
+    if meant and meant.write and not (lower in KEYWORDS):
+        if spot.where == "statement":
+            return f"a note begins with `note`, and pitches have small letters: write `note {meant.write} 1/4;`"
+        if spot.where in ("length", "end") and spot.head in ("note", "play"):
+            return ("words have small letters alone, and commas stand between the pitches of a chord: write `, "
+                    f"{meant.write}`")
+        write = meant.write
+        return spot.write(meant.why, spot.place, spot.place + len(meant.wrote.encode()), write)
+    if lower in KEYWORDS or kind_of(lower) == PITCH or lower in spot.names:
+        return f"words have small letters alone: write `{lower}`"
+    line = by_index(lower) if spot.where == "statement" or lower in DYNAMICS else None
+    if line:
+        return line
+    if spot.where == "pitch" and is_chord_name(spot.rest):
+        return "a chord is written by its pitches: write `note c4, e4, g4 1/4;`"
+    nearest = near(lower, [*STATEMENTS, "shape", "phrase", *spot.names]) if spot.where == "statement" else []
+    if nearest:
+        return f"did you mean `{nearest[0]}`, in small letters?"
+    return f"words have small letters alone: write `{lower}`, or put what is no music behind `#`"
+
+
+def _field(letter: str, rest: str) -> Optional[str]:
+    """A field of ABC."""
+    number = re.search(r"([0-9]+)\s*$", rest.split("\n")[0])
+    return {"M": by_index("meter"), "K": by_index("key_signature"), "Q": by_index("tempo", number[1] if number else ""),
+            "L": "each note has its own length: write `note c4 1/8;`, or `rhythm [1/8] { play c4; play d4; }`",
+            "V": by_index("voice")}.get(letter, "other text stands behind `#`: write `#` before it")
+
+
+def _backslash(spot: Spot) -> Optional[str]:
+    found = re.match(r"\\([a-zA-Z]+|[<>!\\])", spot.rest)
+    word = found[1] if found else ""
+    if spot.where == "slash":
+        return AT["slash"](spot)
+    if word in ("<", ">", "!"):
+        return by_index("crescendo")
+    if word == "\\":
+        return by_index("voice")
+    lower = word.lower()
+    if lower in DYNAMICS:
+        return by_index(lower)
+    if lower == "tempo":
+        number = re.search(r"=\s*([0-9]+)", spot.rest.split("\n")[0])
+        return by_index("tempo", number[1] if number else "")
+    if lower in _COMMANDS:
+        if lower == "header":
+            return by_index("title")
+        if spot.where == "formula":
+            return "this is a text for LilyPond, and no score: lilypond makes a MIDI file of it"
+        return f"commands of LilyPond are none here, and each pitch has its octave: take `\\{word}` away"
+    if lower == "repeat":
+        return "a `\\` begins no word: write `repeat 2 { .. }`"
+    if lower in ("key", "clef"):
+        return by_index("key_signature")
+    if lower in KEYWORDS:
+        return f"a `\\` begins no word: write `{lower}`"
+    if lower in spot.phrases:
+        return f"a phrase is played by `do`: write `do {lower};`"
+    if not word:
+        return None
+    return by_index(lower) or "commands of LilyPond are none here: take it away, or put it behind `#`"
+
+
+def _mark_of_statement(spot: Spot, first: str) -> Optional[str]:
+    if spot.rest.startswith(("<<", ">>")):
+        return by_index("voice")
+    if first == "<":
+        meant = pitch_at(spot.text[1:].lstrip())
+        return ("a chord has no brackets, and begins with `note`: write `note c4, e4, g4 1/4;`" if meant else None)
+    if first in "\"“”„'‘’«»":
+        return "other text stands behind `#`: write `#` before it, in place of quotes"
+    if first == ":" and spot.rest.startswith(":|"):
+        return by_index("volta")
+    if first == "." and spot.last.kind == NUMBER:
+        return None
+    return None
+
+
+def _mark(spot: Spot, first: str) -> Optional[str]:
+    """A mark that is the same wherever it stands."""
+    rest = spot.rest
+    if first == "|":
+        if rest.startswith("|:") or rest.startswith(":|"):
+            return by_index("volta")
+        if spot.where == "operator" or spot.head in ("if", "set"):
+            return None
+        bars = re.match(r"\|[]|:]?", rest)
+        line = musical("bar")
+        note = line.note.replace("*", "") if line else ""
+        return f"take the `{bars[0] if bars else '|'}` away: a bar line is {note}"
+    if rest.startswith(":|"):
+        return by_index("volta")
+    if first == "~":
+        told = AT[spot.where](spot) if spot.where == "end" and spot.head in ("note", "rest") else None
+        if told and "in place of" in told:
+            return told
+        return by_index("tie")
+    if first in "“”„‘’«»" or first in "\"'" and spot.where not in _QUOTED:
+        return "no word has quotes, and other text stands behind `#`: take them away"
+    if first in "\"" and spot.where in ("end", "length"):
+        return "text stands behind `#`: write `#` before it, behind the statement"
+    if rest.startswith("<<") or rest.startswith(">>"):
+        return by_index("voice")
+    if first == "@":
+        return None
+    return None
+
+
+def at_number(spot: Spot) -> Optional[str]:
+    """What to do about a number that a letter follows, or one of ten digits and more."""
+    found = re.match(r"([0-9]+)([a-z_][a-z0-9_]*)?", spot.rest)
+    digits, word = (found[1], found[2] or "") if found else ("", "")
+    if not word:
+        return f"a number has at most nine digits, and this one {len(digits)}: write a smaller one"
+    if spot.where in ("length", "denominator"):
+        start = spot.place if spot.where == "length" else spot.statement[-2].start
+        meant = length_at(spot.source[start:])
+        if meant:
+            return spot.write(meant.why, start, start + len(meant.wrote), meant.write)
+    if spot.where in ("value", "operator") and kind_of(word) in (REGISTER, INDEX, *FUNCTIONS):
+        return f"a product has its `*`: write `{digits} * {word}`"
+    if spot.where == "count" and word in ("x", "times"):
+        return f"the count is a number alone: write `repeat {digits} {{ .. }}`"
+    if spot.where == "statement":
+        return at_statement(spot) or f"no word begins with a digit: write a letter before `{digits}`"
+    if spot.where in ("new name", "name"):
+        return f"a name begins with a letter: choose another name, as `part_{digits}{word}`"
+    if spot.where == "pitch":
+        return "a pitch is a letter and then the octave, as `c4`: write `note c4 1/4;`"
+    if word in KEYWORDS:
+        return f"a blank stands between a number and a word: write `{digits} {word}`"
+    if word in ("ms", "s", "sec", "bpm", "hz", "st", "cents", "percent", "db"):
+        return f"numbers have no unit: write `{digits}`"
+    return f"a number has digits alone: write `{digits}`, or a blank behind it"

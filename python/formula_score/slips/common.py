@@ -1,0 +1,45 @@
+"""What the rules share."""
+
+from __future__ import annotations
+
+import re
+from typing import Optional
+
+from .spot import Spot
+
+#: The words of functions.
+FUNCTIONS = ("pick", "min", "max", "less", "same")
+_OPERAND = r"-?\s*(?:[a-z0-9]+(?:\s*\([^;{}]*?\))?|\([^;{}]*?\))"
+
+
+def insert(spot: Spot, why: str, new: str) -> str:
+    """The reason, and the statement with this put in behind what was read."""
+    return spot.write(why, spot.last.end, spot.last.end, new)
+
+
+def token_before(spot: Spot, text: str) -> Optional[int]:
+    """Where the last token of this text begins in the present statement."""
+    return next((each.start for each in reversed(spot.statement) if each.text == text), None)
+
+
+def statement_text(spot: Spot) -> str:
+    """The statement as it was read so far, ended by `;`."""
+    text = re.sub(r"\s+", " ", spot.source[spot.statement[0].start:spot.last.end])
+    return f"{text};" if len(text) < 50 else ".."
+
+
+def ended(spot: Spot) -> str:
+    text = statement_text(spot)
+    return f"write `;` behind `{spot.last.text}`" if text == ".." else f"write `{text}`"
+
+
+def parenthesized(spot: Spot, start: int) -> str:
+    """What is computed without parentheses, from its first byte on."""
+    text = spot.source[start:start + 200]
+    found = re.match(rf"{_OPERAND}(?:\s*[-+*%/]\s*{_OPERAND})*", text)
+    why = "what is computed stands in parentheses"
+    if found:
+        inner = found[0].strip()
+        # the last words may be a length: `note key 60 + 12 1/4`
+        return spot.write(why, start, start + len(found[0]), f"({inner})" + found[0][len(inner):])
+    return why

@@ -1,0 +1,191 @@
+"""What is meant where a `;` is expected."""
+
+from __future__ import annotations
+
+import re
+from typing import Callable, Optional
+
+from .common import ended, insert, parenthesized, statement_text, token_before
+from .foreign import length_at, pitch_at, sum_at
+from .lengths import word_behind
+from .near import near
+from .pitches import chord_plus
+from .reading import STATEMENTS
+from .shapes import end_of_shape
+from .spot import Spot, is_statement
+from .statement import by_index, open_block
+from .tokens import END, NAME, NUMBER, OTHER, PITCH
+from .values import at_operator
+
+
+def at_end(spot: Spot) -> Optional[str]:
+    """What to do where a `;` is expected."""
+    here, head = spot.here, spot.head
+    special = _END.get(head)
+    found = special(spot) if special else None
+    if found:
+        return found
+    if here.kind == END:
+        more = f", and then the `}}` of {open_block(spot)}" if spot.reading.blocks else ""
+        return f"each statement ends with `;`: {ended(spot)}{more}"
+    if spot.is_over_line or is_statement(here) or here.kind == "}":
+        return f"each statement ends with `;`: {ended(spot)}"
+    if here.text == "{":
+        return f"`{head}` has no block: write `;`, and take the `{{` and its `}}` away"
+    if here.text in (")", "]"):
+        return f"there is no open `{'(' if here.text == ')' else '['}` for this `{here.text}`: take it away"
+    if here.kind == PITCH or here.kind == NAME and pitch_at(spot.text) and head in ("note", "play"):
+        return spot.write("each note is a statement of its own", spot.last.end, spot.place, f"; {head} ",
+                          spot.statement[0].start) if head == "note" else None
+    if here.text == ":":
+        return spot.write("a statement ends with `;`", spot.last.end, spot.place + 1, ";")
+    if here.text == "," and is_statement(spot.next()):
+        return "each statement ends with `;`: write `;` in place of the `,`"
+    if here.kind == NAME:
+        fits = spot.next().kind not in (";", "}", END)
+        meant = near(here.text, STATEMENTS) if fits else []
+        if meant:
+            return f"each statement ends with `;`: {ended(spot)}"
+    return None
+
+
+def _end_of_sound(spot: Spot) -> Optional[str]:
+    """Behind the length of a note or a rest."""
+    here, head = spot.here, spot.head
+    begun = next((each.start for each in reversed(spot.statement) if each.kind in ("ticks",)), None)
+    slash = token_before(spot, "/")
+    if slash is not None and begun is None:
+        begun = spot.statement[[each.start for each in spot.statement].index(slash) - 1].start
+    if begun is not None and not spot.is_over_line:
+        text = spot.source[begun:begun + 200]
+        for meant in (sum_at(text), length_at(text)):
+            if meant and begun + len(meant.wrote) > spot.place:
+                return spot.write(meant.why, begun, begun + len(meant.wrote), meant.write)
+    if here.kind in ("volume", "gate", "channel", "artic", "loud") and not spot.is_over_line:
+        behind = spot.after[1:4]
+        values = [each.text for each in behind if each.kind == NUMBER]
+        if not any(each.text in ("{", "[") for each in behind) and values:
+            return (f"`{here.kind}` holds for a block, and stands round it: write `{here.kind} {values[0]} "
+                    f"{{ {statement_text(spot)} }}`")
+    if here.kind in ("+", "-", "*", "/", "%") and not spot.is_over_line:
+        return "a length is one number of parts, as `3/8`, or computed as `ticks (E) max N`"
+    if here.kind == ",":
+        after = spot.next()
+        if after.kind in (PITCH, NAME) and head == "note":
+            found = pitch_at(spot.source[after.start:])
+            pitch = found.write if found and found.write else after.text
+            return spot.write("each note is a statement of its own", spot.last.end,
+                              after.start + len(found.wrote if found else after.text), f"; note {pitch}")
+        if after.kind == "rest" or after.kind == "note":
+            return "each statement ends with `;`: write `;` in place of the `,`"
+        return f"a {head} has one length, and `;` behind it: write `;` in place of the `,`"
+    if here.kind == NUMBER and not spot.is_over_line:
+        if spot.next().kind == "/":
+            return f"a {head} has one length, and `;` behind it: take the second one away"
+        if head == "note" and 1 <= int(here.text) <= 127:
+            return f"the velocity is that of a block: write `volume {here.text} {{ {statement_text(spot)} }}`"
+        return f"a {head} has one length, and `;` behind it: take the `{here.text}` away"
+    if here.kind == NAME and not spot.is_over_line:
+        found_line = word_behind(spot)
+        if found_line:
+            return found_line
+    if here.kind == "(" and not spot.is_over_line:
+        return by_index("slur")
+    return None
+
+
+def _end_of_play(spot: Spot) -> Optional[str]:
+    here = spot.here
+    if spot.is_over_line:
+        return None
+    if here.kind in (NUMBER, "ticks") or length_at(spot.rest) and here.kind == NAME:
+        return spot.write("`play` takes its length from the `rhythm` round it, and `note` has its own",
+                          spot.statement[0].start, spot.statement[0].end, "note")
+    if here.kind == PITCH or here.kind == NAME and pitch_at(spot.text):
+        return insert(spot, "commas stand between the pitches of a chord, and each note is a statement of its own", ",")
+    if here.kind == "+":
+        return chord_plus(spot)
+    return None
+
+
+def _end_of_do(spot: Spot) -> Optional[str]:
+    here, name = spot.here, spot.last.text
+    if spot.is_over_line:
+        return None
+    if here.kind == NUMBER or here.text in ("*",) or here.text == "x":
+        number = here.text if here.kind == NUMBER else spot.next().text
+        count = number if number.isdigit() else "4"
+        return f"a loop plays it more than once: write `repeat {count} {{ do {name}; }}`"
+    if re.match(r"x[0-9]+(?![a-z0-9_])", spot.rest):
+        return f"a loop plays it more than once: write `repeat {here.text[1:]} {{ do {name}; }}`"
+    if here.text == "(":
+        if spot.next().text == ")":
+            return f"a phrase has no arguments: write `do {name};`"
+        return f"a phrase has no arguments, and a register hands a value over: write `set r0 = ..; do {name};`"
+    if here.text == "," or here.text == "+" or here.kind == NAME and here.text in spot.phrases:
+        other = here.text if here.kind == NAME else spot.next().text
+        if other in spot.phrases or spot.next().kind == NAME:
+            return f"one phrase at a time: write `do {name}; do {other};`"
+        return "one phrase at a time, and `;` behind it"
+    if here.text == "{":
+        if name in spot.phrases:
+            return f"`do` plays the phrase, and has no block: write `do {name};`"
+        return f"a `phrase` has the block, and `do` plays it: write `phrase {name} {{ .. }} do {name};`"
+    if here.text == "-":
+        return "names have `_` in place of `-`, here and where the phrase is written"
+    if here.kind == NAME and here.text in ("times", "twice", "thrice"):
+        return f"a loop plays it more than once: write `repeat 2 {{ do {name}; }}`"
+    if here.kind == NAME:
+        joined = f"{name}_{here.text}"
+        if joined in spot.phrases:
+            return f"did you mean `do {joined};`?"
+        return by_index(here.text)
+    return None
+
+
+def _end_of_message(spot: Spot) -> Optional[str]:
+    here, head = spot.here, spot.head
+    if spot.is_over_line:
+        return None
+    if here.kind in ("+", "-", "*", "/", "%"):
+        if spot.last.text == ")":
+            return "what is computed stands in parentheses, all of it: move the `)` behind it"
+        return parenthesized(spot, spot.last.start if spot.statement[-2].text != "-" else spot.statement[-2].start)
+    if here.kind == "{":
+        return f"a `{head}` holds from its place on, and has no block: write `;`, and take the `{{` and its `}}` away"
+    if here.kind == "," or here.kind == NUMBER:
+        if head == "control":
+            return ("a `control` has a controller and a value: write one `control` for each, as `control 7 100; "
+                    "control 10 64;`")
+        return f"a `{head}` has one number: take the second one away"
+    if here.kind == NAME and head == "program":
+        return "a program is its number alone: take the word away"
+    return None
+
+
+def _end_of_set(spot: Spot) -> Optional[str]:
+    if spot.is_over_line:
+        return None
+    return at_operator(spot)
+
+
+def _end_of_head(spot: Spot) -> Optional[str]:
+    if spot.here.text == ".":
+        return "the version is a whole number: write `formula 1;`"
+    if spot.is_over_line or spot.here.kind != OTHER:
+        return "the head ends with `;`: write `formula 1;`"
+    return "the head ends with `;`: write `formula 1;`" if spot.here.text in ":.,!" else None
+
+
+def _end_of_skip(spot: Spot) -> Optional[str]:
+    if not spot.is_over_line and spot.here.kind in (NUMBER, "ticks"):
+        return spot.write("`skip` takes its length from the `rhythm` round it, and `rest` has its own",
+                          spot.statement[0].start, spot.statement[0].end, "rest")
+    return None
+
+
+_END: dict[str, Callable[[Spot], Optional[str]]] = {
+    "note": _end_of_sound, "rest": _end_of_sound, "play": _end_of_play, "do": _end_of_do, "control": _end_of_message,
+    "program": _end_of_message, "bend": _end_of_message, "set": _end_of_set, "shape": end_of_shape,
+    "formula": _end_of_head, "skip": lambda spot: _end_of_skip(spot),
+}

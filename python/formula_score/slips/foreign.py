@@ -1,0 +1,181 @@
+"""How others write pitches and lengths, and how they are written here."""
+
+from __future__ import annotations
+
+import re
+from fractions import Fraction
+from typing import NamedTuple, Optional
+
+from ..pitch import Pitch
+
+_STEPS = {"c": 0, "d": 2, "e": 4, "f": 5, "g": 7, "a": 9, "b": 11, "h": 11}
+_ACCIDENTALS = {
+    "": 0, "n": 0, "nat": 0, "natural": 0, "♮": 0, "s": 1, "is": 1, "sharp": 1, "#": 1, "♯": 1, "b": -1, "es": -1,
+    "f": -1, "flat": -1, "♭": -1, "isis": 2, "ss": 2, "x": 2, "##": 2, "𝄪": 2,
+    "eses": -2, "bb": -2, "ff": -2, "♭♭": -2, "𝄫": -2,
+    "dièse": 1, "bemol": -1, "k": 1, "♯♯": 2, "sharpsharp": 2, "flatflat": -2,
+}
+_SYLLABLES = {"do": "c", "re": "d", "mi": "e", "fa": "f", "sol": "g", "la": "a", "si": "b", "ti": "b"}
+_MARKS = "|".join(sorted((re.escape(each) for each in _ACCIDENTALS if each), key=len, reverse=True))
+_PITCH = re.compile(rf"([A-Ha-h])[-_]?({_MARKS})?_?(?:([0-9]+)|('+|,+|’+)|)(?![A-Za-z0-9'’])")
+
+
+class Foreign(NamedTuple):
+    """A pitch or a length as others write it: what stands there, and what is written here."""
+
+    wrote: str
+    write: str
+    why: str
+
+
+def pitch_at(text: str, with_comma: bool = False) -> Optional[Foreign]:
+    """The pitch that others would read at the beginning of a text; None where they would read none.
+
+    A comma is a mark of the octave only where it is asked for, since else it stands between two pitches.
+    """
+    named = re.match(r"(?:middle[-_ ]?[cC]|(do|re|mi|fa|sol|la|si|ti)([sb#]?)([0-9]))(?![A-Za-z0-9])", text)
+    if named and not named[1]:
+        return Foreign(named[0], "c4", "middle C is `c4`")
+    if named:
+        mark = "s" if named[2] == "#" else named[2]
+        write = f"{_SYLLABLES[named[1]]}{mark}{named[3]}"
+        return Foreign(named[0], write, "pitches have the letters a to g")
+    found = _PITCH.match(text)
+    if not found:
+        found = re.match(r"([AaEe])(s)([0-9]*)(?![A-Za-z0-9])()", text)
+    if not found:
+        return None
+    letter, mark, digits, marks = found.group(1), found.group(2) or "", found.group(3), found.group(4)
+    wrote = found.group()
+    if marks and marks.startswith(",") and not with_comma:
+        marks, wrote = "", wrote[:-len(marks)]
+    rise = _ACCIDENTALS[mark]
+    octave = int(digits) if digits else 4
+    if marks:
+        octave = 3 + (len(marks) if marks[0] != "," else -len(marks))
+    spelled = {0: "", 1: "s", -1: "b"}.get(rise)
+    write = f"{'b' if letter in 'hH' else letter.lower()}{spelled}{octave}"
+    key = 12 * (octave + 1) + _STEPS[letter.lower()] + rise
+    if spelled is None or not re.fullmatch(r"[a-g][sb]?[0-9]", write):
+        if not 12 <= key <= 127:
+            return Foreign(wrote, "", "named pitches go from `cb0` to `g9`, and lower keys are `key 0` to `key 10`")
+        write = str(Pitch(key))
+    return Foreign(wrote, write, _why_pitch(letter, mark, digits, marks or "", spelled is None))
+
+
+def _why_pitch(letter: str, mark: str, digits: Optional[str], marks: str, is_double: bool) -> str:
+    if is_double:
+        return "there are no double sharps and flats"
+    if marks:
+        return "the octave is a digit, and `c4` is middle C"
+    if letter in "hH":
+        return "the letters are a to g"
+    if mark not in ("", "s", "b"):
+        named = {1: "a sharp is `s`", -1: "a flat is `b`", 0: "a natural has no sign"}[_ACCIDENTALS[mark]]
+        return f"a `#` begins a comment, and {named}" if "#" in mark else named
+    if letter.isupper():
+        return "words have small letters alone"
+    if not digits:
+        return "a pitch has its octave, and `c4` is middle C"
+    return "a pitch has one digit of octave, and `g9` is the highest"
+
+
+_NAMES = {
+    "whole": "1/1", "half": "1/2", "quarter": "1/4", "eighth": "1/8", "sixteenth": "1/16", "semibreve": "1/1",
+    "minim": "1/2", "crotchet": "1/4", "quaver": "1/8", "semiquaver": "1/16", "w": "1/1", "h": "1/2", "q": "1/4",
+    "e": "1/8", "dotted quarter": "3/8", "dotted half": "3/4", "dotted eighth": "3/16", "quarters": "1/4",
+    "eighths": "1/8", "qn": "1/4",
+    "8th": "1/8", "16th": "1/16", "4th": "1/4", "32nd": "1/32", "beat": "1/4", "beats": "1/4",
+}
+#: The ticks of a whole note, which a length has to divide into.
+_WHOLE = 1920
+_POWERS = (1, 2, 4, 8, 16, 32, 64, 128)
+
+
+def _written(value: Fraction) -> Optional[str]:
+    whole = value * _WHOLE
+    if whole.denominator != 1 or not 0 < whole <= 1_000_000:
+        return None
+    return f"{value.numerator}/{value.denominator}" if value.denominator <= 128 else f"ticks {whole}"
+
+
+def _dotted(value: Fraction, dots: int) -> Fraction:
+    return value * (2 - Fraction(1, 2 ** dots))
+
+
+def length_at(text: str) -> Optional[Foreign]:
+    """The length that others would read at the beginning of a text, which is none of this language."""
+    whole = r"[0-9]{1,4}"
+    found = re.match(rf"({whole}) ?/ ?({whole}) ?(\.+)(?![0-9])", text)
+    if found and int(found[2]):
+        value = _dotted(Fraction(int(found[1]), int(found[2])), len(found[3]))
+        return _foreign(found[0], value, "a dot is half as much again")
+    found = re.match(rf"({whole}) ?/ ?({whole}) ?(t|d|triplet|dotted|th|nd|n)(?![a-z0-9])", text)
+    if found and int(found[2]):
+        return _foreign(found[0], _suffixed(Fraction(int(found[1]), int(found[2])), found[3]), _why_suffix(found[3]))
+    found = re.match(rf"({whole})(\.+)(?![0-9])", text)
+    if found and int(found[1]) in _POWERS:
+        return _foreign(found[0], _dotted(Fraction(1, int(found[1])), len(found[2])),
+                        "a length is a part of a whole note, and a dot half as much again")
+    found = re.match(rf"({whole})(t|d|triplet|dotted|th|nd|n)(?![a-z0-9])", text)
+    if found and int(found[1]) in _POWERS:
+        return _foreign(found[0], _suffixed(Fraction(1, int(found[1])), found[2]), _why_suffix(found[2]))
+    found = re.match(r"[0-9]*\.[0-9]+", text)
+    if found:
+        return _foreign(found[0], Fraction(found[0]),
+                        "numbers have no decimal point, and a length is a part of a whole note")
+    found = re.match(rf"({whole}) ?[:\\] ?({whole})(?![a-z0-9])", text)
+    if found and int(found[2]):
+        return _foreign(found[0], Fraction(int(found[1]), int(found[2])), "a length is written with `/`")
+    found = re.match(rf"({whole})(?![a-z0-9]| ?/)", text)
+    if found:
+        return _bare(found[0])
+    found = re.match(r"(dotted )?[a-z0-9]+(?![A-Za-z0-9_/])", text)
+    if found and found[0] in _NAMES:
+        return Foreign(found[0], _NAMES[found[0]], "a length is a part of a whole note")
+    return None
+
+
+def _suffixed(value: Fraction, suffix: str) -> Fraction:
+    if suffix in ("t", "triplet"):
+        return value * Fraction(2, 3)
+    return value * Fraction(3, 2) if suffix in ("d", "dotted") else value
+
+
+def _why_suffix(suffix: str) -> str:
+    if suffix in ("t", "triplet"):
+        return "of a triplet each note is two thirds as long"
+    if suffix in ("d", "dotted"):
+        return "a dot is half as much again"
+    return "a length is a part of a whole note, without a letter behind it"
+
+
+def _bare(digits: str) -> Optional[Foreign]:
+    number = int(digits)
+    if number in _POWERS:
+        return Foreign(digits, f"1/{number}", "a length is a part of a whole note, as `1/4`, or `ticks N`")
+    if number > 128:
+        return Foreign(digits, f"ticks {number}", "a length is a part of a whole note, as `1/4`, or `ticks N`")
+    return None
+
+
+def _foreign(wrote: str, value: Fraction, why: str) -> Optional[Foreign]:
+    write = _written(value)
+    return Foreign(wrote, write, why) if write else None
+
+
+def sum_at(text: str) -> Optional[Foreign]:
+    """Two or more lengths that others would add, multiply or tie: `1/4 + 1/8`, `1/4~1/16`, `1/2 * 3`."""
+    found = re.match(r"([0-9]{1,4})/([0-9]{1,4})((?: ?[-+~_&] ?[0-9]{1,4}/[0-9]{1,4})+| ?\* ?[0-9]{1,4})(?![0-9a-z/])",
+                     text)
+    if not found or not int(found[2]):
+        return None
+    value = Fraction(int(found[1]), int(found[2]))
+    if "*" in found[3]:
+        value *= int(found[3].replace("*", "").strip())
+    else:
+        for sign, over, under in re.findall(r"([-+~_&]) ?([0-9]+)/([0-9]+)", found[3]):
+            if not int(under):
+                return None
+            value += Fraction(int(over), int(under)) * (-1 if sign == "-" else 1)
+    return _foreign(found[0], value, "lengths are written as one")

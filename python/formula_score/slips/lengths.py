@@ -1,0 +1,246 @@
+"""What is meant where a length is expected."""
+
+from __future__ import annotations
+
+import re
+from typing import Optional
+
+from ..midi import DYNAMICS
+from .common import FUNCTIONS, insert, parenthesized, statement_text
+from .foreign import length_at, pitch_at, sum_at
+from .near import near
+from .pitches import all_commas, chord_plus
+from .spot import Spot, is_statement
+from .statement import by_index
+from .tokens import END, INDEX, NAME, NUMBER, OTHER, PITCH, REGISTER
+
+#: Words that others write before a length.
+_LENGTH_WORDS = ("for", "length", "dur", "duration", "len", "lasting", "l")
+
+
+def at_length(spot: Spot) -> Optional[str]:
+    """Where a length is expected."""
+    here, head = spot.here, spot.head
+    if head in ("note", "play") and spot.last.text != "note":
+        found = _behind_pitch(spot)
+        if found:
+            return found
+    meant = sum_at(spot.rest) or length_at(spot.rest)
+    if meant and here.kind in (NAME, NUMBER, OTHER, PITCH):
+        return write_length(spot, spot.place, meant.wrote, meant.write, meant.why)
+    if head == "rest":
+        return _length_of_rest(spot)
+    if head == "rhythm":
+        return _length_of_rhythm(spot)
+    if head == "shape":
+        return _length_of_part(spot)
+    if here.kind == NAME and near(here.text, ["ticks"]):
+        return "did you mean `ticks`?"
+    if here.kind in (REGISTER, INDEX, *FUNCTIONS):
+        return "a computed length is written as ticks: write `ticks (E) max N`"
+    if here.kind == "(":
+        return length_in_parentheses(spot)
+    if here.kind == "/" and spot.next().kind == NUMBER:
+        return spot.write("a length has a number before its `/` too", spot.place, spot.place, "1")
+    return None
+
+
+def write_length(spot: Spot, start: int, wrote: str, write: str, why: str) -> str:
+    return spot.write(why, start, start + len(wrote.encode()), write)
+
+
+def length_in_parentheses(spot: Spot) -> str:
+    found = re.match(r"\(\s*([0-9]+/[0-9]+|[0-9]+)\s*\)", spot.rest)
+    if found:
+        meant = length_at(found[1])
+        return spot.write("a written length has no parentheses", spot.place, spot.place + len(found[0]),
+                          meant.write if meant else found[1])
+    added = sum_at(re.sub(r"^\(\s*", "", spot.rest))
+    close = spot.rest.find(")")
+    if added and close > 0 and len(added.wrote) <= close:
+        return spot.write(f"{added.why}, without parentheses", spot.place, spot.place + close + 1, added.write)
+    return "a computed length is written as ticks: write `ticks (E) max N`"
+
+
+def _behind_pitch(spot: Spot) -> Optional[str]:
+    """Behind a pitch, where a comma may stand too."""
+    here = spot.here
+    pitch = spot.last.text
+    if here.kind in (";", "}", END, "rest", "note", "play", "do", "repeat", "par", "rhythm") or (
+            is_statement(here) and spot.is_over_line):
+        if spot.is_inside("rhythm"):
+            return spot.write("a `note` has its own length, and `play` takes it from the `rhythm`",
+                              spot.statement[0].start, spot.statement[0].end, "play")
+        return insert(spot, f"the length is missing behind `{pitch}`", " 1/4") if here.kind == ";" else (
+            f"the length and a `;` are missing behind `{pitch}`: write `{statement_text(spot)[:-1]} 1/4;`")
+    if here.kind == PITCH or here.kind == "key" or here.kind == NAME and pitch_at(spot.text) and (
+            len(here.text) > 1 or here.text not in "he" or spot.next().kind == NUMBER):
+        meant = pitch_at(spot.text)
+        end = spot.place + len((meant.wrote if meant else here.text).encode())
+        text = all_commas(spot)
+        if text:
+            return f"commas stand between the pitches of a chord: write `{text}`"
+        return spot.write("commas stand between the pitches of a chord", spot.last.end, end,
+                          f", {meant.write if meant and meant.write else here.text}")
+    if here.kind in ("+", "-", "*", "/", "%") and spot.statement[-2].text in ("key", "-"):
+        return parenthesized(spot, spot.last.start)
+    if here.kind == "+":
+        return chord_plus(spot)
+    if here.text == ":" or here.text == "=" or here.text == "@":
+        meant = length_at(spot.rest[1:].lstrip())
+        blank = re.match(r"[:=@]\s*", spot.rest)
+        skip = len(blank[0]) if blank else 1
+        if meant:
+            return spot.write("the length stands directly behind the pitch", spot.place,
+                              spot.place + skip + len(meant.wrote), f" {meant.write}")
+        return spot.write("the length stands directly behind the pitch", spot.place, spot.place + skip, " ")
+    if here.text in ("-", "/", "&", "|", "^", "."):
+        if pitch_at(re.sub(r"^[-/&|^.]+\s*", "", spot.text)):
+            text = all_commas(spot)
+            why = "commas stand between the pitches of a chord"
+            return f"{why}: write `{text}`" if text else spot.write(why, spot.place, spot.place + 1, ",")
+        if here.kind == "-":
+            return "a computed pitch is `key` and parentheses: write `note key (60 - 2) 1/4;`"
+    if here.text == "'" or here.text == "’":
+        return "the octave is a digit, and `c4` is middle C: take the `'` away"
+    if here.text == ".":
+        return by_index("triplet")
+    if here.kind == "*" or here.text == "x" and spot.next().kind == NUMBER:
+        return (f"the length is missing behind `{pitch}`, and a loop plays a note more than once: write `repeat 4 {{ "
+                f"note c4 1/4; }}`")
+    if here.kind in ("volume", "gate", "channel", "loud", "artic") and spot.next().kind == NUMBER:
+        return (f"`{here.kind}` holds for a block, and stands round it: write `{here.kind} {spot.next().text} "
+                f"{{ note {pitch} 1/4; }}`")
+    if here.kind == NAME:
+        if here.text in _LENGTH_WORDS and spot.next().kind in (NUMBER, "=", "ticks"):
+            length = spot.next(2) if spot.next().kind == "=" else spot.next()
+            return spot.write("the length stands directly behind the pitch", spot.place, length.start, "")
+        if length_at(spot.rest) is None and not near(here.text, ["ticks"]):
+            return word_behind(spot)
+    return None
+
+
+def word_behind(spot: Spot) -> Optional[str]:
+    word, after = spot.here.text, spot.next()
+    if word in DYNAMICS:
+        return f"the velocity is that of a block: write `volume {DYNAMICS[word]} {{ {statement_text(spot)} }}`"
+    if word in ("velocity", "vel", "vol", "v") and after.kind in (NUMBER, "="):
+        number = after.text if after.kind == NUMBER else spot.next(2).text
+        return f"the velocity is that of a block: write `volume {number} {{ {statement_text(spot)} }}`"
+    if word in ("dotted", "triplet", "t", "d"):
+        return by_index("triplet")
+    return by_index(word)
+
+
+def _length_of_rest(spot: Spot) -> Optional[str]:
+    here = spot.here
+    if here.kind in (REGISTER, NAME):
+        found = re.match(r"r([0-9]*)(\.*)", spot.rest)
+        if found and (here.kind == REGISTER or found.end() >= len(here.text)):
+            meant = length_at(found[1] + found[2]) if found[1] else None
+            length = re.match(r"r[0-9]*\s+([0-9]+/[0-9]+)", spot.rest)
+            return ("a rest has its length alone: write `rest "
+                    f"{length[1] if length else meant.write if meant else '1/4'};`")
+    if here.kind in (";", "}", END) or is_statement(here):
+        more = ", and in a `rhythm` `skip;` takes the next one" if spot.is_inside("rhythm") else ""
+        return f"a rest has its length{more}: write `rest 1/4;`"
+    if here.kind == PITCH or here.kind == "key" or here.kind == NAME and pitch_at(spot.text):
+        return "a rest has no pitch: write `rest 1/4;`"
+    if here.kind == "(":
+        return length_in_parentheses(spot)
+    if here.kind in (INDEX, *FUNCTIONS):
+        return "a computed length is written as ticks: write `rest ticks (E) max N;`"
+    if here.kind == "/" and spot.next().kind == NUMBER:
+        return spot.write("a length has a number before its `/` too", spot.place, spot.place, "1")
+    if here.kind in ("=", ",") or here.text == ":":
+        return spot.write(f"no `{here.text}` stands there", spot.place, spot.place + 1, " ")
+    return by_index(here.text) if here.kind == NAME else None
+
+
+def _length_of_rhythm(spot: Spot) -> Optional[str]:
+    here = spot.here
+    if here.text == "]":
+        return ("a rhythm has at least one length: write `rhythm [1/4] { .. }`" if spot.last.text == "[" else
+                "no comma stands behind the last length: take it away")
+    if here.kind == PITCH or here.kind == NAME and pitch_at(spot.text):
+        return "a rhythm has lengths alone: write `rhythm [1/4] { play c4; play e4; }`"
+    if here.kind == ",":
+        return "a length is missing before this `,`: write it, or take the `,` away"
+    if here.kind in ("(", REGISTER, INDEX, *FUNCTIONS, "pick"):
+        return "the lengths of a rhythm are written, and never computed: write `rhythm [1/4, 1/8] { .. }`"
+    return "a rhythm has lengths alone: write `rhythm [1/4, 1/8] { .. }`"
+
+
+def _length_of_part(spot: Spot) -> str:
+    kind = spot.last.text
+    form = {"flat": "flat 1/1 by 1000", "slope": "slope 1/1 by 1000 to 2000"}.get(kind, f"{kind} 1/8")
+    if spot.here.kind in ("(", REGISTER, INDEX, *FUNCTIONS):
+        return f"the length of a part is written, and never computed: write `{form}`"
+    return f"a length stands behind `{kind}`: write `{form}`"
+
+
+def at_slash(spot: Spot) -> Optional[str]:
+    """Behind the first number of a length."""
+    here = spot.here
+    start = spot.last.start
+    if here.kind == NUMBER and not spot.is_over_line:
+        return spot.write("a length has a `/` between its two numbers", spot.last.end, spot.place, "/")
+    meant = length_at(spot.source[start:])
+    if meant and start + len(meant.wrote) >= spot.last.end:
+        if spot.head == "shape" and here.kind == "by" or here.kind != OTHER or len(meant.wrote) > len(spot.last.text):
+            return write_length(spot, start, meant.wrote, meant.write, meant.why)
+    if here.kind in (";", "}", ",", "]", "by", END):
+        return f"a length is a part of a whole note, as `1/{spot.last.text}` or `{spot.last.text}/4`, or `ticks N`"
+    return None
+
+
+def at_denominator(spot: Spot) -> Optional[str]:
+    """Behind the `/` of a length."""
+    here = spot.here
+    if here.kind == "/":
+        return spot.write("a length has one `/`", spot.place, spot.place + 1, "")
+    start = spot.statement[-2].start
+    meant = length_at(spot.source[start:])
+    if meant and len(meant.wrote) > spot.place - start:
+        return write_length(spot, start, meant.wrote, meant.write, meant.why)
+    if here.kind in (";", "}", ",", "]", "by", END):
+        return f"a number is missing behind the `/`: write `{spot.source[start:spot.last.end]}4`"
+    if here.kind in ("(", REGISTER, INDEX, *FUNCTIONS):
+        return "a computed length is written as ticks: write `ticks (E) max N`"
+    return "a number stands behind the `/` of a length: write `1/4`"
+
+
+def at_ticks(spot: Spot) -> Optional[str]:
+    """Behind `ticks`."""
+    here = spot.here
+    if here.kind in (REGISTER, INDEX, *FUNCTIONS, "-") and spot.head in ("note", "rest"):
+        return "a computed length stands in parentheses, with its `max`: write `ticks (E) max N`"
+    if here.kind == "(":
+        return "this length is written, and never computed: write `ticks 480`"
+    if here.kind == "=" or here.text == ":":
+        return spot.write("a number stands directly behind `ticks`", spot.place, spot.place + 1, " ")
+    return "a number stands behind `ticks`: write `ticks 480`"
+
+
+def at_max(spot: Spot) -> Optional[str]:
+    """Behind a computed length or count."""
+    here = spot.here
+    what = "count" if spot.head == "repeat" else "length"
+    most = "16" if what == "count" else "1920"
+    why = f"a computed {what} has its `max`, the greatest that it may be"
+    if here.kind in ("+", "-", "*", "/", "%"):
+        return "what is computed stands in parentheses, all of it: move the `)` behind it"
+    if here.kind == NUMBER:
+        return insert(spot, why, " max")
+    if here.kind == NAME and (near(here.text, ["max"]) or here.text in ("maximum", "most", "limit", "upto")):
+        return "did you mean `max`?"
+    return insert(spot, why, f" max {most} ")
+
+
+def at_most(spot: Spot) -> Optional[str]:
+    """Behind `max`."""
+    if spot.here.kind in ("(", REGISTER, INDEX, *FUNCTIONS):
+        return "what follows `max` is a written number, and never computed: write `max 1000`"
+    if spot.here.kind == "=" or spot.here.text == ":":
+        return spot.write("a number stands directly behind `max`", spot.place, spot.place + 1, " ")
+    return "a number stands behind `max`: write `max 1000`"

@@ -1,0 +1,34 @@
+"""Words that are meant by words that are not there."""
+
+from __future__ import annotations
+
+from typing import Iterable
+
+
+def distance(one: str, other: str) -> int:
+    """How many letters have to be put in, taken away, changed or swapped with the next one."""
+    above, last = list(range(len(other) + 1)), list[int]()
+    for row, left in enumerate(one, 1):
+        now = [row]
+        for column, right in enumerate(other, 1):
+            best = min(above[column] + 1, now[-1] + 1, above[column - 1] + (left != right))
+            if row > 1 and column > 1 and left == other[column - 2] and one[row - 2] == right:
+                best = min(best, last[column - 2] + 1)
+            now.append(best)
+        last, above = above, now
+    return above[-1]
+
+
+def near(word: str, words: Iterable[str]) -> list[str]:
+    """Those of the words that are nearest, where one is near enough: a letter of four, two of seven."""
+    most = 0 if len(word) < 2 else 1 if len(word) < 6 else 2
+    found: dict[int, list[str]] = {}
+    for each in sorted(set(words)):
+        if abs(len(each) - len(word)) <= most and len(each) > 1:
+            found.setdefault(distance(word, each), []).append(each)
+        elif len(each) > 3 and len(word) > 3 and (word.startswith(f"{each}_") or each.startswith(f"{word}_")):
+            found.setdefault(most, []).append(each)
+    for amount in range(most + 1):
+        if amount in found:
+            return found[amount]
+    return []

@@ -1,0 +1,262 @@
+"""What is meant where a pitch, a key or the amount of a message is expected."""
+
+from __future__ import annotations
+
+import re
+from typing import Optional
+
+from ..midi import INSTRUMENTS
+from ..pitch import Pitch
+from .common import FUNCTIONS, parenthesized, token_before
+from .foreign import length_at, pitch_at
+from .near import near
+from .reading import STATEMENTS, reads
+from .spot import Spot, is_statement
+from .statement import FORMS, by_index
+from .tokens import END, INDEX, NAME, NUMBER, OTHER, PITCH, REGISTER, tokens
+
+_CONTROLS = {"modulation": 1, "mod": 1, "breath": 2, "volume": 7, "vol": 7, "balance": 8, "pan": 10, "panning": 10,
+             "expression": 11, "sustain": 64, "pedal": 64, "damper": 64, "reverb": 91, "chorus": 93}
+
+
+def at_pitch(spot: Spot) -> Optional[str]:
+    """Where a pitch is expected."""
+    here, head = spot.here, spot.head
+    commas = spot.last.text == ","
+    if here.kind == NAME and here.text in spot.names and not pitch_at(spot.text):
+        return f"`{here.text}` is a phrase: write `do {here.text};`" if here.text in spot.phrases else None
+    if here.kind == NAME and re.fullmatch(r"r[0-9]*|rest|silence|pause", here.text) or here.kind == "rest":
+        return _rest_for_note(spot)
+    if here.kind in (REGISTER, INDEX, "pick", "min", "max", "less", "same"):
+        if here.text in ("r1", "r2", "r4") and not re.search(rf"\bset\s+{here.text}\b", spot.source):
+            return _rest_for_note(spot)
+        if here.kind in (REGISTER, INDEX):
+            return spot.write("a computed pitch is `key` and parentheses", spot.place, here.end, f"key ({here.text})")
+        return "a computed pitch is `key` and parentheses: write `key (` before it, and `)` behind it"
+    if here.kind == NUMBER:
+        return _number_for_pitch(spot, commas)
+    if here.kind == "ticks" and commas:
+        return spot.write("no comma stands before the length", spot.last.start, spot.last.end, "")
+    both = re.match(r"([a-h](?:is|es|s|f|isis|eses)?[',]+)([0-9]+\.*)(?![0-9a-z])", spot.rest)
+    if both and here.kind == NAME:
+        pitch, length = pitch_at(both[1], True), length_at(both[2])
+        if pitch and pitch.write and length:
+            return spot.write("the octave is a digit, and the length a part of a whole note", spot.place,
+                              spot.place + len(both[0]), f"{pitch.write} {length.write}")
+    found = pitch_at(spot.text, with_comma=_is_octave(spot))
+    if found and here.kind in (NAME, OTHER, "flat"):
+        if not found.write:
+            return found.why
+        end = spot.place + len(found.wrote.encode())
+        text = spot.mended(spot.place, end, found.write) or all_commas(spot)
+        return f"{found.why}: write `{text}`" if text else spot.write(found.why, spot.place, end, found.write)
+    return _no_pitch(spot)
+
+
+def _is_octave(spot: Spot) -> bool:
+    """Whether a comma behind the letter is a mark of the octave: no further pitch follows it."""
+    behind = re.match(r"[a-h][a-z]*,+\s*", spot.text)
+    if behind is None:
+        return False
+    left = spot.text[behind.end():]
+    return pitch_at(left) is None and not left.startswith("key")
+
+
+def _rest_for_note(spot: Spot) -> str:
+    found = re.match(r"(?:rest|silence|pause|r)([0-9]*\.*)\s*([0-9]+/[0-9]+|ticks [0-9]+)?", spot.rest)
+    length = found[2] if found and found[2] else "1/4"
+    if found and found[1] and not found[2]:
+        meant = length_at(found[1])
+        length = meant.write if meant and int(found[1].strip(".")) <= 64 else length
+    return f"silence is a statement of its own: write `rest {length};`"
+
+
+def _number_for_pitch(spot: Spot, commas: bool) -> str:
+    here, head = spot.here, spot.head
+    if spot.next().kind == "/" and commas:
+        return spot.write("no comma stands before the length", spot.last.start, spot.last.end, "")
+    if spot.next().kind == "/" and spot.next(2).kind == NUMBER:
+        length = f"{here.text}/{spot.next(2).text}"
+        pitch = pitch_at(spot.text[len(length):].lstrip(" ,"))
+        if pitch and pitch.write and head == "note":
+            return f"the pitch stands before the length: write `note {pitch.write} {length};`"
+        if head == "note" and spot.next(3).kind in (";", END, "}"):
+            return f"a note has its pitch before the length: write `note c4 {length};`, or `rest {length};` for silence"
+    if int(here.text) > 127:
+        return "a pitch stands first, and the length behind it: write `note c4 1/4;`"
+    return spot.write("a key by its number has `key` before it", spot.place, spot.place, "key ")
+
+
+def _no_pitch(spot: Spot) -> Optional[str]:
+    here, head = spot.here, spot.head
+    form = f"`{FORMS[head]}`" if head in FORMS else "`note c4 1/4;`"
+    if here.kind in (";", "}", END) or is_statement(here):
+        return f"a pitch is missing: write {form}"
+    if here.text in ("(", "[", "{", "<"):
+        return _chord(spot)
+    if here.text in ('"', "'"):
+        found = re.match(r"([\"'])([a-g][sb]?[0-9])\1", spot.rest)
+        if found:
+            return spot.write("a pitch has no quotes", spot.place, spot.place + len(found[0]), found[2])
+        return f"a pitch has no quotes: write {form}"
+    if here.kind in ("+", "-", "*", "/", "%", "=", ","):
+        return (f"a pitch stands behind `{spot.last.text}`: write {form}, or `note key (60 + 2) 1/4;` where it is "
+                "computed")
+    if here.kind == NAME:
+        line = _chord_name(spot) or by_index(here.text)
+        return line or "a pitch is a letter a to g, then perhaps `s` or `b`, then the octave: write `note c4 1/4;`"
+    return None
+
+
+def is_chord_name(text: str) -> bool:
+    """Whether a text begins with the name of a chord, as `Am` or `cmaj7`."""
+    return bool(re.match(r"[A-Ga-g](sharp|flat|#|b|s)?_?(maj|min|m|M|dim|aug|sus|major|minor|add|dom|chord)?[0-9]*"
+                         r"(?![A-Za-z0-9_])", text))
+
+
+def _chord_name(spot: Spot) -> Optional[str]:
+    if is_chord_name(spot.rest) and len(spot.here.text) > 1:
+        return "a chord is written by its pitches: write `note c4, e4, g4 1/4;`"
+    return None
+
+
+def _chord(spot: Spot) -> str:
+    """A chord in brackets, or what is computed in parentheses."""
+    begin = spot.here.text
+    close = {"(": ")", "[": "]", "{": "}", "<": ">"}[begin]
+    head = spot.head
+    count = 2 if spot.rest.startswith("<<") else 1
+    found = re.match(rf"{re.escape(begin) * count}([^{re.escape(close)};]*){re.escape(close) * count}\s*", spot.text)
+    inner = found[1].strip() if found else ""
+    pitches = []
+    left = inner
+    while left:
+        meant = pitch_at(left)
+        if meant is None or not meant.write:
+            break
+        pitches.append(meant.write)
+        left = re.sub(r"^[\s,+&/|]+", "", left[len(meant.wrote):])
+    if pitches and not left and found:
+        return spot.write("the pitches of a chord stand between commas, without brackets", spot.place,
+                          spot.place + len(found[0].encode()), ", ".join(pitches) + " ")
+    if begin == "(":
+        if found and not re.search(r"[a-g][sb]?[0-9]\b", inner):
+            return spot.write("a computed pitch is `key` and parentheses", spot.place, spot.place, "key ")
+        return "a pitch stands without parentheses, and a computed one is `key (E)`: write `note c4 1/4;`"
+    if begin == "{" and not found:
+        return f"`{head}` has no block: write `{FORMS[head]}`"
+    return "the pitches of a chord stand between commas, without brackets: write `note c4, e4, g4 1/4;`"
+
+
+def all_commas(spot: Spot) -> Optional[str]:
+    """The statement with commas between all its pitches."""
+    begun = spot.statement[1].start if len(spot.statement) > 1 else spot.place
+    left = spot.data[begun:spot.end_of_statement(spot.place)].decode("utf-8", "replace")
+    pitches = []
+    while left:
+        meant = pitch_at(left)
+        if meant is None or not meant.write:
+            break
+        pitches.append(meant.write)
+        left = re.sub(r"^(?:[\s,]|[-+&|/^](?!\s*[0-9]))+", "", left[len(meant.wrote):])
+    length = left.rstrip("; ")
+    meant_length = length_at(length)
+    if meant_length and meant_length.wrote == length:
+        length = meant_length.write
+    if not length:
+        length = "1/4"
+    text = f"{spot.head} {', '.join(pitches)}" + (f" {length};" if spot.head == "note" else ";")
+    return text if len(pitches) > 1 and reads(list(tokens(text))[:-1]) and len(text) < 70 else None
+
+
+def chord_plus(spot: Spot) -> Optional[str]:
+    after = spot.next()
+    found = re.match(r"\+\s*", spot.rest)
+    meant = pitch_at(spot.text[len(found[0]):]) if found else None
+    if meant or after.kind == PITCH:
+        return spot.write("commas stand between the pitches of a chord", spot.place, spot.place + 1, ",")
+    if after.kind == NUMBER and spot.last.kind == PITCH:
+        key = int(Pitch(spot.last.text))
+        return spot.write("a pitch is moved by computing its key", spot.last.start, after.end,
+                          f"key ({key} + {after.text})")
+    return "what is computed stands in parentheses behind `key`: write `note key (60 + n0) 1/4;`"
+
+
+def at_key(spot: Spot) -> Optional[str]:
+    """Behind `key`."""
+    here = spot.here
+    if here.kind == NAME and re.match(r"[a-g][a-z]* (major|minor|dur|moll)", spot.rest) or here.kind == "=":
+        return by_index("key signature")
+    found = pitch_at(spot.text)
+    if here.kind == PITCH or here.kind == NAME and found and found.write:
+        key = token_before(spot, "key")
+        write = found.write if found else here.text
+        if key is not None:
+            end = spot.place + len((found.wrote if found else here.text).encode())
+            return spot.write("a pitch by its name has no `key`", key, end, write)
+    return at_amount(spot)
+
+
+def at_amount(spot: Spot) -> Optional[str]:
+    """Where a number, or an expression in parentheses, is expected."""
+    here, head = spot.here, spot.head
+    if here.kind in (REGISTER, INDEX, *FUNCTIONS):
+        return parenthesized(spot, spot.place)
+    if here.kind == "+" and spot.next().kind == NUMBER:
+        return spot.write("a number has no `+`", spot.place, spot.next().start, "")
+    if here.kind in ("=", ",") or here.text in (":",):
+        return spot.write(f"no `{here.text}` stands there", spot.place, spot.place + 1, " ")
+    if here.text in ('"', "'"):
+        return _named_number(spot, re.match(r"[\"']([a-zA-Z0-9 _-]*)[\"']?", spot.rest))
+    if here.kind == NAME or here.kind in STATEMENTS or here.kind == PITCH:
+        found = _named_number(spot, re.match(r"([a-z0-9_]+(?: [a-z0-9]+)*)", spot.rest))
+        if found:
+            return found
+    if here.kind in (";", "}", END):
+        return f"a number is missing: write `{FORMS[head]}`" if head in FORMS else None
+    if here.kind == "[" or here.kind == "{":
+        return f"one number stands there: write `{FORMS.get(head, 'note key 60 1/4;')}`"
+    return None
+
+
+def _named_number(spot: Spot, found: Optional[re.Match[str]]) -> Optional[str]:
+    """An instrument, a controller's value or a pitch by its name, where its number is expected."""
+    if found is None:
+        return None
+    head = spot.head
+    name = found[1].lower().replace("_", " ").strip()
+    if head == "program":
+        exact = [each for each in INSTRUMENTS if each == name]
+        having = exact or [each for each in INSTRUMENTS if re.search(rf"\b{re.escape(name)}\b", each)]
+        if not having:
+            having = near(name, INSTRUMENTS)
+        first = having[0] if having else "flute"
+        number = INSTRUMENTS.index(first)
+        why = "an instrument is its number in General MIDI, counted from 0"
+        if not having:
+            return f"{why}: 73 is the flute: write `program 73;`"
+        return f"{why}: {number} is the {first}: write `program {number};`"
+    if head == "control":
+        value = {"on": 127, "off": 0, "down": 127, "up": 0, "max": 127, "full": 127, "half": 64, "center": 64,
+                 "left": 0, "right": 127}.get(name.split(" ")[0])
+        if value is not None:
+            return spot.write("a value is a number, 0 to 127", spot.place, spot.place + len(found[0]), str(value))
+        return "a value is a number, 0 to 127: write `control 7 100;`"
+    if head == "bend":
+        return "a bend is a number from -8192 to 8191, and 4096 is one semitone on most instruments: write `bend 4096;`"
+    return None
+
+
+def at_controller(spot: Spot) -> Optional[str]:
+    """Behind `control`."""
+    here = spot.here
+    found = re.match(r"[\"']?([a-z_]+)[\"']?", spot.rest)
+    if found and found[1] in _CONTROLS:
+        number = str(_CONTROLS[found[1]])
+        text = spot.mended(spot.place, spot.place + len(found[0]), number)
+        return f"a controller is its number, and {number} is the {found[1]}: write `{text or f'control {number} 100;'}`"
+    if here.kind in ("(", REGISTER, INDEX, *FUNCTIONS):
+        return "the controller is a written number, and its value alone may be computed: write `control 7 (60 + n0);`"
+    if here.kind == "-":
+        return "controllers go from 0 to 127: write `control 7 100;`"
+    return "a controller and its value stand there: write `control 7 100;`"

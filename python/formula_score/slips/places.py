@@ -1,0 +1,49 @@
+"""What is meant at each place of the grammar."""
+
+from __future__ import annotations
+
+import re
+from typing import Callable, Optional
+
+from .blocks import at_block, at_branch, at_count, at_entries, at_entry, at_list, at_name, at_new_name, at_setting
+from .ends import at_end
+from .lengths import at_denominator, at_length, at_max, at_most, at_slash, at_ticks
+from .near import near
+from .pitches import at_amount, at_controller, at_key, at_pitch
+from .shapes import at_by, at_part, at_stretch, at_to
+from .spot import Spot
+from .statement import FORMS
+from .tokens import END, OTHER
+from .values import at_equals, at_function, at_operator, at_register, at_value
+
+
+def at_seed(spot: Spot) -> Optional[str]:
+    """Behind `seed` or `division`."""
+    word = spot.statement[0].text if spot.statement else "seed"
+    return f"a written number stands behind `{word}`: write `{FORMS.get(word, 'seed 42;')}`"
+
+
+def at_head(spot: Spot) -> Optional[str]:
+    """Where `formula` or its version is expected."""
+    here = spot.here
+    if spot.where == "version":
+        return "the version stands behind `formula`: write `formula 1;`"
+    if here.kind == END:
+        return "the text holds nothing, and a score begins with its head: write `formula 1;`"
+    found = re.match(r"[A-Za-z]+\s*[:=]?\s*[vV]?([12])\b(?:\.[0-9]+)*\s*;?", spot.rest)
+    if found and here.is_word and (near(here.text, ["formula"]) or here.text in ("version", "score", "language")):
+        return f"did you mean `formula {found[1]};`?"
+    if here.is_word and near(here.text, ["formula"]):
+        return "did you mean `formula 1;`?"
+    return f"a score begins with its head: write `formula 1;` before {spot.shown(here)}" if here.kind != OTHER else None
+
+
+AT: dict[str, Callable[[Spot], Optional[str]]] = {
+    "end": at_end, "pitch": at_pitch, "key": at_key, "amount": at_amount, "controller": at_controller,
+    "length": at_length, "slash": at_slash, "denominator": at_denominator, "ticks": at_ticks, "max": at_max,
+    "most": at_most,
+    "register": at_register, "equals": at_equals, "operator": at_operator, "value": at_value, "function": at_function,
+    "block": at_block, "count": at_count, "name": at_name, "new name": at_new_name, "branch": at_branch,
+    "setting": at_setting, "list": at_list, "entry": at_entry, "entries": at_entries, "part": at_part, "by": at_by,
+    "stretch": at_stretch, "to": at_to, "seed": at_seed, "division": at_seed, "formula": at_head, "version": at_head,
+}

@@ -1,0 +1,153 @@
+"""The faults of names and numbers, by what the place is: which range, which names."""
+
+from __future__ import annotations
+
+from fractions import Fraction
+from typing import NamedTuple, Optional
+
+from .near import near
+from .spot import Spot
+from .tokens import NUMBER, PITCH
+
+_MILLION = 1_000_000
+_TOO_MANY_PITCHES = ("this is the 17th pitch of a note",
+                     "a note has at most 16 pitches: write a second voice for the others")
+
+
+class Range(NamedTuple):
+    """The numbers that a place takes, and what they are."""
+
+    low: int
+    high: int
+    what: str
+
+
+_RANGES = {
+    "version": Range(1, 2, "the version of the language"), "division": Range(24, 960, "the ticks of a quarter note"),
+    "key": Range(0, 127, "a key, and 60 is middle C"), "controller": Range(0, 127, "a controller"),
+    "channel": Range(0, 15, "channels count from 0"), "volume": Range(1, 127, "a velocity, and 80 is mf"),
+    "gate": Range(0, 400, "in percent of the length"), "loud": Range(1, 127, "a velocity, and 80 is mf"),
+    "artic": Range(0, 400, "in percent of the length"), "control": Range(0, 127, "the value of a controller"),
+    "program": Range(0, 127, "programs count from 0, and 73 is the flute"),
+    "bend": Range(-8192, 8191, "8192 is two semitones on most instruments"), "repeat": Range(0, _MILLION, "a count"),
+    "stretch": Range(1, _MILLION, "in thousandths, and 1000 is as written"), "most": Range(0, _MILLION, "behind `max`"),
+    "ticks": Range(0, _MILLION, "ticks, 1,920 a whole note"), "value": Range(0, _MILLION, "a number of an expression"),
+}
+
+
+def _range_at(spot: Spot) -> Optional[Range]:
+    where, head = spot.where, spot.head
+    if where in ("amount", "setting", "entry"):
+        return _RANGES.get(head)
+    if where == "count":
+        return _RANGES["repeat"]
+    if where in ("value", "operator", "function"):
+        return _RANGES["value"]
+    return _RANGES.get(where)
+
+
+def whole_note(spot: Spot) -> int:
+    """The ticks of a whole note."""
+    texts = [token.text for token in spot.before[:6]]
+    return 4 * int(texts[4]) if texts[3:4] == ["division"] and len(texts) > 4 and texts[4].isdigit() else 1920
+
+
+def out_of_range(spot: Spot) -> Optional[tuple[str, str]]:
+    """Heading and cure of a number out of its range."""
+    here = spot.here
+    if spot.where == "pitch" and here.kind in (PITCH, "key"):
+        return _TOO_MANY_PITCHES
+    if spot.where in ("key", "amount") and spot.last.kind == PITCH:
+        return None
+    sign = "-" if here.text == "-" else ""
+    number = spot.next() if sign else here
+    if number.kind != NUMBER:
+        return None
+    if spot.where == "length":
+        return _length(spot, number.text)
+    if spot.where in ("entry", "key", "part") and _count(spot):
+        return _count(spot)
+    found = _range_at(spot)
+    if found is None:
+        return None
+    value = int(sign + number.text)
+    if found.low <= value <= found.high:
+        return _count(spot)
+    what = found.what if whole_note(spot) == 1920 else found.what.replace("1,920", f"{whole_note(spot):,}")
+    return (f"`{sign}{number.text}` is out of its range",
+            f"write a number from {_digits(found.low)} to {_digits(found.high)}: {what}")
+
+
+def _digits(number: int) -> str:
+    return f"{number:,}" if abs(number) >= 10_000 else str(number)
+
+
+def _count(spot: Spot) -> Optional[tuple[str, str]]:
+    commas = sum(each.text == "," for each in spot.statement)
+    if spot.where == "key" and spot.head in ("note", "play") and commas >= 16:
+        return _TOO_MANY_PITCHES
+    if commas >= 256 and spot.head in ("rhythm", "artic", "loud"):
+        return ("this is the 257th entry of a list", "a list has at most 256 entries: write a second block behind it")
+    if commas >= 256 and spot.head == "shape":
+        return ("this is the 257th part of a shape", "a shape has at most 256 parts: write a second shape")
+    return None
+
+
+def _length(spot: Spot, over: str) -> tuple[str, str]:
+    commas = _count(spot)
+    if commas:
+        return commas
+    under = spot.next(2).text if spot.next().text == "/" else "1"
+    if int(under) == 0:
+        return f"`{over}/{under}` is no length", "the number behind the `/` is not 0: write `1/4`"
+    whole = whole_note(spot)
+    ticks = Fraction(int(over), int(under)) * whole
+    if ticks > _MILLION:
+        return (f"`{over}/{under}` is {int(ticks):,} ticks",
+                f"a length has at most 1,000,000 ticks, which is {_MILLION // whole}/1: write `{_MILLION // whole}/1`")
+    return (f"`{over}/{under}` is {ticks} ticks",
+            "a length of `flat` and `slope` is at least 1 tick: write `1/1`, or take the part away")
+
+
+def no_ticks(spot: Spot) -> Optional[tuple[str, str]]:
+    """Heading and cure of a length that is no whole number of ticks."""
+    over, under = spot.here.text, spot.next(2).text
+    if not (over.isdigit() and under.isdigit() and int(under)):
+        return None
+    whole = whole_note(spot)
+    ticks = Fraction(int(over), int(under)) * whole
+    return (f"`{over}/{under}` is {float(ticks):.2f} ticks, and no whole number of them",
+            f"a whole note has {whole:,} ticks, and a length is a whole number of them: write `ticks {round(ticks)}`")
+
+
+def known_name(spot: Spot) -> Optional[tuple[str, str]]:
+    """Heading and cure of a name that an earlier shape or phrase has."""
+    name = spot.here.text
+    first = spot.names.get(name)
+    if first is None:
+        return None
+    return (f"the name `{name}` is taken, at {spot.spelled(first.start)}",
+            f"each shape and phrase has a name of its own: choose another one, as `{name}_2`")
+
+
+def unknown_name(spot: Spot) -> Optional[tuple[str, str]]:
+    """Heading and cure of a `do` or `warp` whose name is none before it."""
+    name, head = spot.here.text, spot.head
+    kind = "phrase" if head == "do" else "shape"
+    above = {each for each in spot.reading.named if (each in spot.reading.phrases) == (head == "do")}
+    heading = f"no {kind} above has the name `{name}`"
+    inside = next((each for each in spot.reading.blocks if each.word == f"phrase {name}"), None)
+    if inside:
+        return heading, f"a phrase cannot play itself: take `do {name};` away, or write a loop round what comes again"
+    if name in spot.reading.named:
+        other = "warp" if head == "do" else "do"
+        return (heading, f"`{name}` is a {'shape' if head == 'do' else 'phrase'}: write "
+                         f"`{f'warp {name} {{ .. }}' if other == 'warp' else f'do {name};'}`")
+    later = spot.names.get(name)
+    if later is not None and later.start > spot.place:
+        return heading, f"the {kind} stands below, at {spot.spelled(later.start)}: move it before this statement"
+    meant = near(name, above)
+    if meant:
+        return heading, "did you mean " + " or ".join(f"`{each}`" for each in meant) + "?"
+    return heading, (f"write `phrase {name} {{ .. }}` above" if head == "do" else
+                     f"write `shape {name} = slope 1/1 by 1000 to 1500;` above")

@@ -1,0 +1,110 @@
+"""What is meant in a shape."""
+
+from __future__ import annotations
+
+import re
+from typing import Optional
+
+from .common import FUNCTIONS, insert, token_before
+from .foreign import length_at, sum_at
+from .lengths import write_length
+from .near import near
+from .spot import Spot
+from .tokens import INDEX, NAME, NUMBER, REGISTER
+
+#: The words that begin a part of a shape.
+PARTS = ("flat", "slope", "pause", "breath")
+
+
+def end_of_shape(spot: Spot) -> Optional[str]:
+    here = spot.here
+    if here.kind in PARTS:
+        return insert(spot, "commas stand between the parts of a shape", ",")
+    if spot.is_over_line:
+        return None
+    kind = next((each.text for each in reversed(spot.statement) if each.text in PARTS), "")
+    if here.kind == "to" and kind == "flat":
+        begun = token_before(spot, "flat")
+        if begun is not None:
+            return spot.write("a `flat` has one stretch, and a `slope` goes from one to another", begun, begun + 4,
+                              "slope")
+    if here.kind == "by" and kind in ("pause", "breath"):
+        return f"a `{kind}` has a length alone: take the `by` and its number away"
+    if here.kind == "%":
+        return "stretches are in thousandths: 1000 is as written, and 2000 half as fast"
+    if here.kind == "." or here.text == "." or here.kind == "/":
+        return thousandths(spot)
+    if here.text == "{" and spot.last.kind == NUMBER:
+        name = spot.statement[1].text
+        return f"a shape ends with `;`, and a `warp` plays a block through it: write `; warp {name}` before the `{{`"
+    return None
+
+
+def thousandths(spot: Spot) -> str:
+    begun = spot.last.start
+    found = re.match(r"([0-9]+)([./])([0-9]+)", spot.source[begun:])
+    if found:
+        over, sign, under = found.groups()
+        value = float(f"{over}.{under}") if sign == "." else int(over) / max(1, int(under))
+        stretch = round(value * 1000)
+        if 1 <= stretch <= 1_000_000:
+            return spot.write("stretches are whole numbers of thousandths", begun, begun + len(found[0]), str(stretch))
+    return "stretches are whole numbers of thousandths: 1000 is as written, and 2000 half as fast"
+
+
+def at_part(spot: Spot) -> Optional[str]:
+    """Where a part of a shape is expected."""
+    here = spot.here
+    meant = near(here.text, PARTS) if here.kind == NAME else []
+    if meant:
+        return f"did you mean `{meant[0]}`?"
+    if here.kind == ";" and spot.last.text == ",":
+        return "no comma stands behind the last part: take it away"
+    if here.text in ("{", "[", "("):
+        return ("the parts of a shape stand between commas, without brackets: write `shape rit = slope 1/1 by 1000 "
+                "to 1500;`")
+    if here.kind == NUMBER:
+        return "a part begins with its word: write `flat 1/1 by 1000`, or `slope 1/1 by 1000 to 1500`"
+    return "a part is `flat 1/1 by 1000`, `slope 1/1 by 1000 to 1500`, `pause 1/8` or `breath 1/16`"
+
+
+def at_by(spot: Spot) -> Optional[str]:
+    """Behind the length of a `flat` or `slope`."""
+    here = spot.here
+    if here.kind == NUMBER:
+        return insert(spot, "a `by` stands before the stretch", " by")
+    if here.kind in ("=", "*") or here.text in (":", "@") or here.kind == NAME and spot.next().kind == NUMBER:
+        end = spot.place + len(here.text)
+        return spot.write("a `by` stands before the stretch", spot.place, end, "by")
+    start = next((each.start for each in reversed(spot.statement[:-1]) if each.kind == NUMBER), None)
+    if start is not None and here.kind in ("+", "-") or here.text == "." and start is not None:
+        for meant in (sum_at(spot.source[start:]), length_at(spot.source[start:])):
+            if meant and start + len(meant.wrote) > spot.place:
+                return write_length(spot, start, meant.wrote, meant.write, meant.why)
+    kind = next((each.text for each in reversed(spot.statement) if each.text in ("flat", "slope")), "flat")
+    form = "flat 1/1 by 1000" if kind == "flat" else "slope 1/1 by 1000 to 1500"
+    return f"a stretch stands behind the length: write `{form}`"
+
+
+def at_stretch(spot: Spot) -> Optional[str]:
+    """Behind `by` or `to`."""
+    here = spot.here
+    if here.kind in ("(", REGISTER, INDEX, *FUNCTIONS):
+        return "a stretch is a written number of thousandths, and never computed: write `by 1000`"
+    return f"a stretch is a number of thousandths, and 1000 is as written: write `{spot.last.text} 1000`"
+
+
+def at_to(spot: Spot) -> Optional[str]:
+    """Behind the first stretch of a `slope`."""
+    here = spot.here
+    if here.kind in (NUMBER,):
+        return insert(spot, "a `to` stands between the two stretches", " to")
+    if here.kind in (",", "-") and spot.next().kind == NUMBER or here.kind == NAME and spot.next().kind == NUMBER:
+        return spot.write("a `to` stands between the two stretches", spot.place, here.end, " to ")
+    found = re.match(r"\.\.\.?|->|→", spot.text)
+    if found:
+        end = spot.place + len(found[0].encode())
+        return spot.write("a `to` stands between the two stretches", spot.place, end, " to ")
+    if here.kind == "/" or here.text == ".":
+        return thousandths(spot)
+    return insert(spot, "a `slope` goes from one stretch to another, and `flat` has one", " to 1500")

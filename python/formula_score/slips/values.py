@@ -1,0 +1,223 @@
+"""What is meant in a `set` and in an expression."""
+
+from __future__ import annotations
+
+import re
+from typing import Optional
+
+from ..pitch import Pitch
+from .common import FUNCTIONS, insert
+from .foreign import pitch_at
+from .near import near
+from .reading import STATEMENTS
+from .spot import Spot, is_statement
+from .statement import FORMS, by_index
+from .tokens import END, INDEX, NAME, NUMBER, PITCH, REGISTER
+
+_COMPARES = {"<": "less(a, b)", ">": "less(b, a)", "<=": "1 - less(b, a)", ">=": "1 - less(a, b)", "==": "same(a, b)",
+             "!=": "1 - same(a, b)", "<>": "1 - same(a, b)", "=": "same(a, b)"}
+
+
+def at_register(spot: Spot) -> Optional[str]:
+    """Behind `set`."""
+    here = spot.here
+    if here.kind == NAME:
+        number = next((each.text for each in spot.after[1:4] if each.kind == NUMBER), "")
+        if re.fullmatch(r"r[0-9]+", here.text):
+            return spot.write("registers are `r0` to `r7`", spot.place, here.end, "r7")
+        found = by_index(here.text, number)
+        if found:
+            return found
+        return spot.write("only registers, `r0` to `r7`, have values", spot.place, here.end, "r0")
+    if here.kind in ("volume", "channel", "gate") and spot.next().kind in (NUMBER, "="):
+        number = next((each.text for each in spot.after[1:4] if each.kind == NUMBER), "1")
+        return f"`{here.kind}` holds for a block: write `{here.kind} {number} {{ .. }}`"
+    if here.kind in ("program", "control", "bend"):
+        return f"`{here.kind}` is a statement without `set`: write `{FORMS[here.kind]}`"
+    if here.kind in (PITCH, INDEX) or here.kind in STATEMENTS:
+        return spot.write("only registers, `r0` to `r7`, have values", spot.place, here.end, "r0")
+    if here.kind == NUMBER:
+        return f"registers are `r0` to `r7`: write `set r{here.text if int(here.text) < 8 else 0} = ..;`"
+    return "only registers, `r0` to `r7`, have values: write `set r0 = 60;`"
+
+
+def at_equals(spot: Spot) -> Optional[str]:
+    """Where a `=` is expected."""
+    here = spot.here
+    if spot.head == "shape":
+        if here.kind in ("flat", "slope", "pause", "breath"):
+            return insert(spot, "a `=` stands before the parts of a shape", " =")
+        if here.text == "{":
+            return ("a shape has no block, and its parts stand behind a `=`: write `shape rit = slope 1/1 by 1000 to "
+                    "1500;`")
+        return "a `=` and parts stand behind the name: write `shape rit = slope 1/1 by 1000 to 1500;`"
+    found = re.match(r"(?::=|<-|([-+*/%])=|\+\+|--|to\b|as\b|:)\s*", spot.rest)
+    if found and found[1]:
+        register = spot.last.text
+        return spot.write("a register gets its value by `=`", spot.place, spot.place + len(found[0]),
+                          f"= {register} {found[1]} ")
+    if found and found[0].strip() in ("++", "--"):
+        return f"a register gets its value by `=`: write `set {spot.last.text} = {spot.last.text} {found[0][0]} 1;`"
+    if found:
+        return spot.write("a register gets its value by `=`", spot.place, spot.place + len(found[0]), "= ")
+    if here.kind in ("+", "-", "*", "/", "%"):
+        return spot.write("a register gets its value by `=`", spot.place, spot.place, f"= {spot.last.text} ")
+    return insert(spot, "a register gets its value by `=`", " =") if here.kind != ";" else (
+        f"a register gets its value by `=`: write `set {spot.last.text} = 60;`")
+
+
+def _compare(spot: Spot) -> Optional[str]:
+    """A comparison as others write it, in an expression."""
+    found = re.match(r"(<=|>=|==|!=|<>|<|>|=)\s*", spot.rest)
+    if not found:
+        return None
+    sign = found[1]
+    left, right = spot.last, next((each for each in spot.after if each.start >= spot.place + len(found[0])), spot.here)
+    two = len(spot.statement) >= 2 and spot.statement[-2].text in ("if", "(")
+    if two and left.kind in (NUMBER, REGISTER, INDEX) and right.kind in (NUMBER, REGISTER, INDEX):
+        words = re.sub(r"\b[ab]\b", lambda found: left.text if found[0] == "a" else right.text, _COMPARES[sign])
+        return spot.write(f"`a {sign} b` is `{_COMPARES[sign]}`", left.start, right.end, words)
+    return f"`a {sign} b` is written `{_COMPARES[sign]}`"
+
+
+def at_operator(spot: Spot) -> Optional[str]:
+    """Behind a value of an expression."""
+    here = spot.here
+    if spot.is_over_line and spot.where == "end":
+        return None
+    compared = _compare(spot) if here.text in ("<", ">", "=", "!") else None
+    if compared:
+        return compared
+    if here.text == "!" or here.text in ("&", "|", "^"):
+        return _logic(here.text, spot)
+    opened = spot.reading.parentheses[-1] if spot.reading.parentheses else None
+    if opened is not None:
+        where = spot.spelled(opened.token.start)
+        if opened.word in ("min", "max", "less", "same") and here.text == ")" and "`,`" in spot.reading.expected:
+            return (f"`{opened.word}` takes two values: write "
+                    f"`{opened.word}({spot.source[opened.token.end:spot.place].strip()}, ..)`")
+        if here.kind == ",":
+            if opened.word == "pick":
+                return "`pick` takes one value: `pick(12)` draws a number from 0 to 11"
+            if opened.word in ("min", "max", "less", "same"):
+                return f"`{opened.word}` takes two values, and `)` stands behind them: `{opened.word}(a, b)`"
+            return "a `,` stands between the two values of `min`, `max`, `less` and `same` alone: take it away"
+        if here.kind in (";", "{", "}", "max", END) or is_statement(here):
+            return f"write the `)` of the `(` at {where}"
+        if here.text == ".":
+            return "values are whole numbers, without a decimal point"
+        if here.kind in (NUMBER, REGISTER, INDEX, "(", *FUNCTIONS):
+            return (f"an operator is missing: write one of `+ - * / %` between `{spot.last.text}` and `{here.text}`, "
+                    "or the `)`")
+    elif here.kind == ")":
+        return "there is no open `(` for this `)`: take it away"
+    if here.text == ".":
+        return "values are whole numbers, without a decimal point"
+    if here.kind == NAME and _logic(here.text, spot):
+        return _logic(here.text, spot)
+    if here.kind in ("less", "same") and spot.last.text != ")":
+        return f"`{here.kind}` stands before its two values: write `{here.kind}({spot.last.text}, {spot.next().text})`"
+    if spot.head == "if" and opened is None:
+        return _behind_condition(spot)
+    if spot.head == "set" and opened is None:
+        if here.kind == NUMBER or here.kind in (REGISTER, INDEX):
+            return f"an operator is missing: write one of `+ - * / %` between `{spot.last.text}` and `{here.text}`"
+        if here.kind == ",":
+            return "a `set` gives one register a value: write a `set` for each"
+        if here.kind == "max":
+            return "a value has no `max`: write `min(E, N)` for the less of two"
+    return None
+
+
+def _logic(word: str, spot: Spot) -> Optional[str]:
+    return {
+        "and": "both are true where their product is above 0: write `*` for `and`",
+        "&": "both are true where their product is above 0: write `*` for `&&`",
+        "or": "one is true where their sum is above 0: write `+` for `or`",
+        "|": "one is true where their sum is above 0: write `+` for `||`",
+        "not": "`not a` is `1 - a` for a condition, and `same(r0, 0)` asks for 0",
+        "!": "`!a` is `1 - a` for a condition, and `same(r0, 0)` asks for 0",
+        "is": "`same` compares: write `same(a, b)`", "equals": "`same` compares: write `same(a, b)`",
+        "eq": "`same` compares: write `same(a, b)`", "lt": "`a < b` is written `less(a, b)`",
+        "gt": "`a > b` is written `less(b, a)`",
+        "mod": "the remainder is `%`: write `%` for `mod`",
+        "div": "a quotient is `/`, rounded down: write `/` for `div`",
+        "then": "the block stands directly behind the condition: write `{` in place of `then`",
+        "^": "there is no power: write `r0 * r0`",
+    }.get(word)
+
+
+def _behind_condition(spot: Spot) -> Optional[str]:
+    here = spot.here
+    if here.text == ":":
+        return "the block stands between `{` and `}`: write `{` in place of the `:`, and its `}`"
+    if here.kind in (NUMBER, REGISTER, INDEX):
+        return f"an operator is missing: write one of `+ - * / %` between `{spot.last.text}` and `{here.text}`"
+    return None
+
+
+def at_value(spot: Spot) -> Optional[str]:
+    """Where a value of an expression is expected."""
+    here, last = spot.here, spot.last
+    if here.kind == PITCH or here.kind == NAME and pitch_at(spot.text) and len(here.text) > 1:
+        found = pitch_at(spot.text)
+        if found and found.write:
+            key = int(Pitch(found.write))
+            return spot.write(f"a value is a number, and the key of `{found.write}` is {key}", spot.place,
+                              spot.place + len(found.wrote.encode()), str(key))
+    if here.kind == NAME:
+        if re.fullmatch(r"r[0-9]+", here.text):
+            return "registers are `r0` to `r7`"
+        if re.fullmatch(r"n[0-9]+", here.text):
+            return "the indices of loops are `n0`, of the innermost one, to `n15`"
+        if here.text in ("random", "rand", "rnd", "rrand", "randint", "choose", "dice", "rand_i", "irand", "one_in"):
+            return "a number at random is `pick(12)`, from 0 to 11"
+        if here.text in ("mod", "and", "or", "not", "div"):
+            return _logic(here.text, spot)
+        if here.text in ("lt", "lesser", "smaller", "below"):
+            return "`less(a, b)` is 1 where a is below b"
+        if here.text in ("eq", "equal", "equals", "is"):
+            return "`same(a, b)` is 1 where they are equal"
+        if here.text in ("gt", "greater", "more", "above"):
+            return "`less(b, a)` is 1 where a is above b"
+        if here.text in ("abs",):
+            return "`max(E, -E)` is the value without its sign"
+        if here.text in ("i", "j", "k", "index", "count", "n", "counter"):
+            return "the index of the innermost loop is `n0`: write `n0`"
+        if here.text in ("true", "false", "yes"):
+            return f"a condition is a number, and true where it is above 0: write `{0 if here.text == 'false' else 1}`"
+        meant = near(here.text, FUNCTIONS)
+        if meant:
+            return f"did you mean `{meant[0]}`?"
+        return "a value is a number, a register `r0` to `r7`, an index as `n0`, or a function as `pick(12)`"
+    if last.kind in ("+", "-", "*", "/", "%") and here.kind in ("*", "/", "+", "%", "="):
+        if last.text == "=" or here.kind == "=":
+            return _compare(spot)
+        if last.text == "*" and here.text == "*":
+            return "there is no power: write `r0 * r0`"
+        return "one operator stands between two values: take one away"
+    if here.kind == "=" and last.kind == "=":
+        return spot.write("a register gets its value by one `=`", spot.place, spot.place + 1, "")
+    if here.text == "!":
+        return _logic("!", spot)
+    if here.kind in (")",):
+        return "a value is missing before the `)`"
+    if here.kind in (";", "{", END, "}"):
+        return f"a value is missing behind `{last.text}`: write a number, or an expression as `r0 + 2`"
+    if here.kind == "+":
+        return "a number has no `+` before it: take it away"
+    if here.kind == "ticks":
+        return "a value is a number of no unit: take `ticks` away"
+    if here.kind == "[":
+        return "an expression has no brackets: write parentheses" if spot.next().kind == NUMBER else None
+    return None
+
+
+def at_function(spot: Spot) -> Optional[str]:
+    """Behind the word of a function."""
+    name = spot.last.text
+    if spot.here.kind in (NUMBER, REGISTER, INDEX) and name == "pick":
+        return spot.write("a function has its values in parentheses", spot.last.end, spot.here.end,
+                          f"({spot.here.text})")
+    form = "pick(12)" if name == "pick" else f"{name}(r0, 3)"
+    return f"a function has its values in parentheses: write `{form}`"
