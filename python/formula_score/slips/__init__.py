@@ -5,12 +5,13 @@ from __future__ import annotations
 import re
 from typing import NamedTuple, Optional
 
+from ..music import KEYWORDS
 from .bytes import at_byte, at_number
 from .places import AT
 from .ranges import known_name, no_ticks, out_of_range, unknown_name
 from .spot import Spot
 from .statement import FORMS, at_statement
-from .tokens import END
+from .tokens import END, INDEX, NAME, PITCH, REGISTER, kind_of
 
 __all__ = ["Told", "told"]
 
@@ -35,14 +36,44 @@ def told(data: bytes, line: int, column: int, number: int) -> Optional[Told]:
         found = _BY_NUMBER[number](spot)
         return Told(*found, place) if found else None
     if number == 1:
-        return Told(_heading_of_byte(spot), at_byte(spot) or "", place)
+        return Told(_heading_of_byte(spot), _word_in_parts(spot) or at_byte(spot) or _ANY_BYTE, place)
     if number == 2:
         return Told(_heading_of_number(spot), at_number(spot) or "", place)
-    cure = at_statement(spot) if spot.where == "statement" else AT[spot.where](spot)
+    rule = at_statement if spot.where == "statement" else AT[spot.where]
+    cure = _doubled(spot) or _word_in_parts(spot) or rule(spot)
     return Told(_heading(spot), cure or _form(spot), spot.last.end if spot.is_over_line else place)
 
 
+_ANY_BYTE = "take it away, or put it and what follows behind `#`"
 _BY_NUMBER = {5: known_name, 6: unknown_name, 7: out_of_range, 8: no_ticks}
+
+
+def _doubled(spot: Spot) -> Optional[str]:
+    """What to do where a word of the language, a comma or a bracket stands twice."""
+    here = spot.here
+    if here.text == spot.last.text and (here.kind in KEYWORDS or here.text in (",", "[")) and not spot.is_over_line:
+        return f"one `{here.text}` is enough: take this one away"
+    return None
+
+
+def _word_in_parts(spot: Spot) -> Optional[str]:
+    """What to do about a word with a capital letter or a blank within it."""
+    begun = spot.last.start if spot.last.is_word and spot.last.end == spot.place else spot.place
+    found = re.match(r"[A-Za-z][A-Za-z0-9_]*", spot.source[begun:])
+    word = found[0] if found else ""
+    if word[1:] != word[1:].lower() and (begun < spot.place or word[:1].islower()):
+        lower = word.lower()
+        if lower in KEYWORDS or lower in spot.names or kind_of(lower) in (PITCH, REGISTER, INDEX):
+            return f"words have small letters alone: write `{lower}`"
+        if begun < spot.place:
+            return f"words have small letters alone: write `{lower}` in place of `{word}`"
+    parts = re.match(r"([a-z][a-z0-9_]*) ([a-z0-9_]+)", spot.rest)
+    if parts and spot.here.kind == NAME or parts and spot.where == "statement":
+        joined = parts[1] + parts[2]
+        if joined in KEYWORDS or joined in spot.names and parts[1] not in spot.names:
+            text = spot.mended(spot.place, spot.place + len(parts[0]), joined)
+            return f"no blank stands within `{joined}`: write `{text or joined}`"
+    return None
 
 
 def _byte_of(data: bytes, line: int, column: int) -> Optional[int]:
@@ -73,7 +104,8 @@ def _with_article(label: str) -> str:
 
 
 def _heading_of_byte(spot: Spot) -> str:
-    found = re.match(r"[A-Za-z][A-Za-z0-9_]*", spot.rest)
+    begun = spot.last.start if spot.last.is_word and spot.last.end == spot.place else spot.place
+    found = re.match(r"[A-Za-z][A-Za-z0-9_]*", spot.source[begun:]) if spot.here.text.isalpha() else None
     if found:
         return f"`{found[0]}` is no word of the language, by its capital letter"
     return f"`{spot.characters(spot.place)}` begins no word of the language"

@@ -6,7 +6,7 @@ import re
 from typing import Optional
 
 from ..midi import DYNAMICS
-from .common import FUNCTIONS
+from .common import FUNCTIONS, computed
 from .foreign import length_at, sum_at
 from .near import near
 from .reading import STATEMENTS
@@ -32,10 +32,12 @@ def at_block(spot: Spot) -> Optional[str]:
         if found:
             return found
     if head == "repeat" and here.kind in ("+", "-", "*", "/", "%"):
-        return "a computed count stands in parentheses, with its `max`: write `repeat (2 + n0) max 16 { .. }`"
+        return _count(spot, spot.last.start)
     if head == "repeat" and (here.text in ("times", "x") or here.text == "*"):
         return f"the block stands directly behind the count: take `{here.text}` away"
-    if head == "gate" and here.kind == "%":
+    if re.match(r"\.[0-9]", spot.rest):
+        return _whole(spot)
+    if head in ("gate", "volume") and here.kind == "%":
         return "percentages are numbers alone: take the `%` away"
     if here.kind in _BLOCKS and not spot.is_over_line:
         return f"a block stands in another: write `{shown} {{ {here.kind} .. {{ .. }} }}`"
@@ -54,7 +56,7 @@ def at_block(spot: Spot) -> Optional[str]:
         return by_index("crescendo")
     if head == "warp" and here.kind == ",":
         return "one shape at a time: write `warp a { warp b { .. } }`"
-    if here.text == "(":
+    if here.text in ("(", "[", "<"):
         return f"the block stands between `{{` and `}}`: write `{shown} {{ .. }}`"
     if here.kind in (";", ",") or here.text == ":":
         return (f"`{spot.last.text if spot.last.text in ('else', 'branch') else head}` holds for a block: write "
@@ -62,6 +64,17 @@ def at_block(spot: Spot) -> Optional[str]:
     if here.kind == END or is_statement(here) or here.kind in (PITCH, "}", "branch", "]"):
         return f"what it holds stands between `{{` and `}}`: write `{shown} {{ .. }}`"
     return None
+
+
+def _whole(spot: Spot) -> str:
+    """A number with a decimal point, where a whole one stands."""
+    found = re.match(r"[0-9]+\.[0-9]+", spot.source[spot.last.start:])
+    value = float(found[0]) if found else 1.0
+    if spot.head in ("gate", "artic") and 0 < value <= 4:
+        return f"numbers have no decimal point, and these are in percent: write `{round(100 * value)}`"
+    if spot.head in ("volume", "loud") and 0 < value <= 1:
+        return f"numbers have no decimal point, and a velocity goes from 1 to 127: write `{max(1, round(127 * value))}`"
+    return f"numbers have no decimal point: write `{max(1, round(value))}`"
 
 
 def _phrase_block(spot: Spot, shown: str) -> Optional[str]:
@@ -83,14 +96,24 @@ def _phrase_block(spot: Spot, shown: str) -> Optional[str]:
     return f"the music of a phrase stands between `{{` and `}}`: write `{shown} {{ .. }}`"
 
 
+def _count(spot: Spot, start: int) -> str:
+    """A computed count without its parentheses."""
+    expression = computed(spot.source[start:start + 200]) or "n0"
+    return f"a computed count stands in parentheses, with its `max`: write `repeat ({expression}) max 16 {{ .. }}`"
+
+
 def at_count(spot: Spot) -> Optional[str]:
     """Behind `repeat`."""
     here = spot.here
+    if here.kind == "-" and spot.next().kind == NUMBER:
+        return "a count goes from 0 to 1,000,000: write `repeat 2 { .. }`"
     if here.kind in (REGISTER, INDEX, *FUNCTIONS, "-"):
-        return "a computed count stands in parentheses, with its `max`: write `repeat (E) max 16 { .. }`"
+        return _count(spot, spot.place)
     if here.text == "{":
         return "a loop has its count: write `repeat 2 { .. }`"
     number = next((each.text for each in spot.after[1:4] if each.kind == NUMBER), "2")
+    if re.match(r"x[0-9]+(?![a-z0-9_])", spot.rest):
+        number = here.text[1:]
     if here.kind == NAME or here.text in ("*", "=", ":", "["):
         if here.text in spot.phrases:
             return f"a loop has its count and a block: write `repeat {number} {{ do {here.text}; }}`"
@@ -158,6 +181,8 @@ def at_branch(spot: Spot) -> Optional[str]:
     here = spot.here
     if here.kind == END:
         return f"write the `}}` of {open_block(spot)}"
+    if here.kind in ("]", ")"):
+        return f"a block ends with `}}`: write `}}` in place of the `{here.text}`"
     if here.kind in (";", ","):
         return "nothing stands between the branches of a `par`: take it away"
     if here.kind == "}":
@@ -248,9 +273,13 @@ def at_entries(spot: Spot) -> Optional[str]:
         return "percentages are numbers alone: take the `%` away"
     if here.kind in (NUMBER, "ticks"):
         return f"commas stand between the entries of a list: write `,` behind `{spot.last.text}`"
+    if re.match(r"[;:|<>.&_!?]\s*(?:[0-9]|ticks\b)", spot.rest) and not re.match(r"\.[0-9]", spot.rest):
+        return f"commas stand between the entries of a list: write `,` in place of the `{here.text}`"
     if here.kind in ("{", ";", ")", "}") or is_statement(here) or here.kind == END:
         opened = next((each for each in reversed(spot.statement) if each.text == "["), spot.last)
         return f"write the `]` of the `[` at {spot.spelled(opened.start)}"
+    if re.match(r"\.[0-9]", spot.rest):
+        return _whole(spot)
     if here.kind in ("-", "to") or here.text == ".":
         return f"a list has each entry for itself: write `{FORMS[head]}`"
     if here.kind in ("*", "+", "/"):

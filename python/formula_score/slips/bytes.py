@@ -15,7 +15,7 @@ from .pitches import is_chord_name
 from .places import AT
 from .reading import STATEMENTS
 from .spot import Spot
-from .statement import at_statement, by_index
+from .statement import at_statement, by_index, letters
 from .tokens import INDEX, NUMBER, PITCH, REGISTER, kind_of
 
 _TYPED = {"–": "-", "—": "-", "−": "-", "×": "*", "÷": "/", "⁄": "/", "；": ";", "，": ",", "｛": "{", "｝": "}", "（": "(",
@@ -26,7 +26,8 @@ _FIELDS = "XTCMLQKVRNOAW"
 _COMMANDS = ("relative", "absolute", "fixed", "score", "version", "language", "header", "paper", "layout", "new",
              "book")
 #: Places that know what is meant by a text in quotes.
-_QUOTED = ("pitch", "length", "amount", "controller", "name", "new name", "slash", "end", "key")
+_QUOTED = ("pitch", "length", "amount", "controller", "name", "new name", "slash", "end", "key", "setting", "entry",
+           "count", "stretch", "most", "ticks", "register")
 
 
 def at_byte(spot: Spot) -> Optional[str]:
@@ -71,6 +72,14 @@ def _capital(spot: Spot) -> Optional[str]:
     word = found[0] if found else spot.rest[:1]
     lower = word.lower()
     pitches = spot.where in ("pitch", "length", "key", "end") or spot.where == "statement"
+    if spot.where == "statement" and re.match(r"[RZ][0-9]*(?![A-Za-z])", spot.rest):
+        return "silence is a `rest`: write `rest 1/4;`"
+    if spot.where == "statement" and re.match(r"[A-G](?:[#b]?[0-9]?\s+[A-G](?![a-z])|[TOLVA-G0-9<>]{4,})", spot.rest):
+        return "each note is a statement of its own, with its octave and its length: write `note c4 1/4;`"
+    if spot.where == "statement" and re.match(r"[TOLV][0-9]+[TOLVA-G]", spot.rest):
+        return "each note is a statement of its own, with its octave and its length: write `note c4 1/4;`"
+    if re.match(r"D\. ?[CS]\.", spot.rest):
+        return by_index("coda")
     if spot.where == "statement" and re.match(rf"[{_FIELDS}]:", spot.rest):
         return _field(word[0], spot.rest)
     if spot.where == "formula" and re.match(rf"[{_FIELDS}]:", spot.rest):
@@ -78,6 +87,8 @@ def _capital(spot: Spot) -> Optional[str]:
     meant = pitch_at(spot.text) if pitches or spot.where == "value" else None
     if meant and meant.write and not (lower in KEYWORDS):
         if spot.where == "statement":
+            if not re.match(r"[A-H](?:[#b]|is|es)?(?:[0-9]|\s+[0-9])", spot.rest):
+                return by_index(lower) or letters(spot)
             return f"a note begins with `note`, and pitches have small letters: write `note {meant.write} 1/4;`"
         if spot.where in ("length", "end") and spot.head in ("note", "play"):
             return ("words have small letters alone, and commas stand between the pitches of a chord: write `, "
@@ -91,6 +102,8 @@ def _capital(spot: Spot) -> Optional[str]:
         return line
     if spot.where == "pitch" and is_chord_name(spot.rest):
         return "a chord is written by its pitches: write `note c4, e4, g4 1/4;`"
+    if spot.where == "statement" and letters(spot):
+        return letters(spot)
     nearest = near(lower, [*STATEMENTS, "shape", "phrase", *spot.names]) if spot.where == "statement" else []
     if nearest:
         return f"did you mean `{nearest[0]}`, in small letters?"
@@ -127,8 +140,9 @@ def _backslash(spot: Spot) -> Optional[str]:
             return "this is a text for LilyPond, and no score: lilypond makes a MIDI file of it"
         return f"commands of LilyPond are none here, and each pitch has its octave: take `\\{word}` away"
     if lower == "repeat":
-        return "a `\\` begins no word: write `repeat 2 { .. }`"
-    if lower in ("key", "clef"):
+        count = re.match(r"\\repeat(?: [a-z]+)? ([0-9]+)", spot.rest)
+        return f"a `\\` begins no word: write `repeat {count[1] if count else 2} {{ .. }}`"
+    if lower == "key":
         return by_index("key_signature")
     if lower in KEYWORDS:
         return f"a `\\` begins no word: write `{lower}`"
@@ -158,7 +172,7 @@ def _mark(spot: Spot, first: str) -> Optional[str]:
     """A mark that is the same wherever it stands."""
     rest = spot.rest
     if first == "|":
-        if rest.startswith("|:") or rest.startswith(":|"):
+        if re.match(r"\|+:|:\|", rest):
             return by_index("volta")
         if spot.where == "operator" or spot.head in ("if", "set"):
             return None
@@ -177,10 +191,8 @@ def _mark(spot: Spot, first: str) -> Optional[str]:
         return "no word has quotes, and other text stands behind `#`: take them away"
     if first in "\"" and spot.where in ("end", "length"):
         return "text stands behind `#`: write `#` before it, behind the statement"
-    if rest.startswith("<<") or rest.startswith(">>"):
+    if re.match(r"<<|>>", rest) and spot.where != "pitch":
         return by_index("voice")
-    if first == "@":
-        return None
     return None
 
 
@@ -197,8 +209,12 @@ def at_number(spot: Spot) -> Optional[str]:
             return spot.write(meant.why, start, start + len(meant.wrote), meant.write)
     if spot.where in ("value", "operator") and kind_of(word) in (REGISTER, INDEX, *FUNCTIONS):
         return f"a product has its `*`: write `{digits} * {word}`"
+    if spot.where == "end" and spot.head == "do" and word in ("x", "times"):
+        return f"a loop plays it more than once: write `repeat {digits} {{ do {spot.last.text}; }}`"
     if spot.where == "count" and word in ("x", "times"):
         return f"the count is a number alone: write `repeat {digits} {{ .. }}`"
+    if word in ("va", "vb", "ma", "mb") and digits in ("8", "15"):
+        return by_index("octave")
     if spot.where == "statement":
         return at_statement(spot) or f"no word begins with a digit: write a letter before `{digits}`"
     if spot.where in ("new name", "name"):
@@ -207,6 +223,8 @@ def at_number(spot: Spot) -> Optional[str]:
         return "a pitch is a letter and then the octave, as `c4`: write `note c4 1/4;`"
     if word in KEYWORDS:
         return f"a blank stands between a number and a word: write `{digits} {word}`"
+    if spot.where in ("length", "denominator") and word in ("ms", "s", "sec", "seconds"):
+        return "a length is a part of a whole note, and no time: at 120 a minute a quarter, `1/4`, is half a second"
     if word in ("ms", "s", "sec", "bpm", "hz", "st", "cents", "percent", "db"):
         return f"numbers have no unit: write `{digits}`"
     return f"a number has digits alone: write `{digits}`, or a blank behind it"

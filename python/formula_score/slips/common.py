@@ -33,13 +33,14 @@ def ended(spot: Spot) -> str:
     return f"write `;` behind `{spot.last.text}`" if text == ".." else f"write `{text}`"
 
 
-def parenthesized(spot: Spot, start: int) -> str:
-    """What is computed without parentheses, from its first byte on."""
-    text = spot.source[start:start + 200]
+def computed(text: str) -> str:
+    """The expression that others would read at the beginning of a text; '' for none."""
     found = re.match(rf"{_OPERAND}(?:\s*[-+*%/]\s*{_OPERAND})*", text)
-    why = "what is computed stands in parentheses"
-    if found:
-        inner = found[0].strip()
-        # the last words may be a length: `note key 60 + 12 1/4`
-        return spot.write(why, start, start + len(found[0]), f"({inner})" + found[0][len(inner):])
-    return why
+    return found[0].strip() if found else ""
+
+
+def parenthesized(spot: Spot, start: int, before: str = "") -> str:
+    """What is computed without parentheses, from its first byte on, and perhaps without a word before it."""
+    inner = computed(spot.source[start:start + 200])
+    why = "what is computed stands in parentheses" + (f", behind `{before.strip()}`" if before else "")
+    return spot.write(why, start, start + len(inner), f"{before}({inner})") if inner else why

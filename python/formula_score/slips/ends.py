@@ -7,13 +7,13 @@ from typing import Callable, Optional
 
 from .common import ended, insert, parenthesized, statement_text, token_before
 from .foreign import length_at, pitch_at, sum_at
-from .lengths import word_behind
+from .marks import mark_behind
 from .near import near
 from .pitches import chord_plus
 from .reading import STATEMENTS
 from .shapes import end_of_shape
 from .spot import Spot, is_statement
-from .statement import by_index, open_block
+from .statement import FORMS, by_index, open_block
 from .tokens import END, NAME, NUMBER, OTHER, PITCH
 from .values import at_operator
 
@@ -58,6 +58,10 @@ def _end_of_sound(spot: Spot) -> Optional[str]:
         begun = spot.statement[[each.start for each in spot.statement].index(slash) - 1].start
     if begun is not None and not spot.is_over_line:
         text = spot.source[begun:begun + 200]
+        if re.match(r"\.(?:\s*\Z|\s+[a-z])", spot.rest):
+            length = length_at(text)
+            return f"a statement ends with `;`: {ended(spot)}" + (
+                f", or `{length.write}` for the length if it is dotted" if length else "")
         for meant in (sum_at(text), length_at(text)):
             if meant and begun + len(meant.wrote) > spot.place:
                 return spot.write(meant.why, begun, begun + len(meant.wrote), meant.write)
@@ -67,7 +71,16 @@ def _end_of_sound(spot: Spot) -> Optional[str]:
         if not any(each.text in ("{", "[") for each in behind) and values:
             return (f"`{here.kind}` holds for a block, and stands round it: write `{here.kind} {values[0]} "
                     f"{{ {statement_text(spot)} }}`")
-    if here.kind in ("+", "-", "*", "/", "%") and not spot.is_over_line:
+    if spot.is_over_line:
+        return None
+    rest = re.match(r"r([0-9]+\.*)?(?![a-z0-9_])", spot.rest)
+    if rest:
+        length = length_at(rest[1] or "4")
+        return f"each statement ends with `;`: write `{statement_text(spot)} rest {length.write if length else '1/4'};`"
+    mark = None if is_statement(here) else mark_behind(spot)
+    if mark:
+        return mark
+    if here.kind in ("+", "*", "/", "%") or here.kind == "-" and spot.next().kind == NUMBER:
         return "a length is one number of parts, as `3/8`, or computed as `ticks (E) max N`"
     if here.kind == ",":
         after = spot.next()
@@ -78,20 +91,18 @@ def _end_of_sound(spot: Spot) -> Optional[str]:
                               after.start + len(found.wrote if found else after.text), f"; note {pitch}")
         if after.kind == "rest" or after.kind == "note":
             return "each statement ends with `;`: write `;` in place of the `,`"
+        if after.kind == NUMBER and head == "note" and spot.next(2).kind != "/" and 1 <= int(after.text) <= 127:
+            return f"the velocity is that of a block: write `volume {after.text} {{ {statement_text(spot)} }}`"
+        if after.kind == NUMBER:
+            return f"a {head} has one length, and `;` behind it: take the second one away"
         return f"a {head} has one length, and `;` behind it: write `;` in place of the `,`"
-    if here.kind == NUMBER and not spot.is_over_line:
-        if spot.next().kind == "/":
+    if here.kind in (NUMBER, "ticks"):
+        if here.kind == "ticks" or spot.next().kind == "/":
             return f"a {head} has one length, and `;` behind it: take the second one away"
         if head == "note" and 1 <= int(here.text) <= 127:
             return f"the velocity is that of a block: write `volume {here.text} {{ {statement_text(spot)} }}`"
         return f"a {head} has one length, and `;` behind it: take the `{here.text}` away"
-    if here.kind == NAME and not spot.is_over_line:
-        found_line = word_behind(spot)
-        if found_line:
-            return found_line
-    if here.kind == "(" and not spot.is_over_line:
-        return by_index("slur")
-    return None
+    return by_index("slur") if here.kind == "(" else None
 
 
 def _end_of_play(spot: Spot) -> Optional[str]:
@@ -122,14 +133,18 @@ def _end_of_do(spot: Spot) -> Optional[str]:
         if spot.next().text == ")":
             return f"a phrase has no arguments: write `do {name};`"
         return f"a phrase has no arguments, and a register hands a value over: write `set r0 = ..; do {name};`"
-    if here.text == "," or here.text == "+" or here.kind == NAME and here.text in spot.phrases:
-        other = here.text if here.kind == NAME else spot.next().text
+    if here.text in (",", "+", "and") or here.kind == NAME and here.text in spot.phrases:
+        other = here.text if here.text in spot.phrases else spot.next().text
+        if here.text == "+" and spot.next().kind == NUMBER:
+            return by_index("transpose")
         if other in spot.phrases or spot.next().kind == NAME:
             return f"one phrase at a time: write `do {name}; do {other};`"
         return "one phrase at a time, and `;` behind it"
     if here.text == "{":
         if name in spot.phrases:
             return f"`do` plays the phrase, and has no block: write `do {name};`"
+        if name in spot.names:
+            return f"`{name}` is a shape: write `warp {name} {{ .. }}`"
         return f"a `phrase` has the block, and `do` plays it: write `phrase {name} {{ .. }} do {name};`"
     if here.text == "-":
         return "names have `_` in place of `-`, here and where the phrase is written"
@@ -147,6 +162,8 @@ def _end_of_message(spot: Spot) -> Optional[str]:
     here, head = spot.here, spot.head
     if spot.is_over_line:
         return None
+    if here.text in ("/", ".") and spot.last.kind == NUMBER and spot.next().kind == NUMBER:
+        return f"a `{head}` has a whole number: write `{FORMS[head]}`"
     if here.kind in ("+", "-", "*", "/", "%"):
         if spot.last.text == ")":
             return "what is computed stands in parentheses, all of it: move the `)` behind it"
@@ -170,11 +187,10 @@ def _end_of_set(spot: Spot) -> Optional[str]:
 
 
 def _end_of_head(spot: Spot) -> Optional[str]:
+    version = spot.last.text if spot.last.text in ("1", "2") else "1"
     if spot.here.text == ".":
-        return "the version is a whole number: write `formula 1;`"
-    if spot.is_over_line or spot.here.kind != OTHER:
-        return "the head ends with `;`: write `formula 1;`"
-    return "the head ends with `;`: write `formula 1;`" if spot.here.text in ":.,!" else None
+        return f"the version is a whole number: write `formula {version};`"
+    return f"the head ends with `;`: write `formula {version};`"
 
 
 def _end_of_skip(spot: Spot) -> Optional[str]:

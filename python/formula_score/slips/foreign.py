@@ -17,7 +17,7 @@ _ACCIDENTALS = {
 }
 _SYLLABLES = {"do": "c", "re": "d", "mi": "e", "fa": "f", "sol": "g", "la": "a", "si": "b", "ti": "b"}
 _MARKS = "|".join(sorted((re.escape(each) for each in _ACCIDENTALS if each), key=len, reverse=True))
-_PITCH = re.compile(rf"([A-Ha-h])[-_]?({_MARKS})?_?(?:([0-9]+)|('+|,+|’+)|)(?![A-Za-z0-9'’])")
+_PITCH = re.compile(rf"([A-Ha-h])(?:[-_]?({_MARKS}))?_?(?:([0-9]+)|('+|,+|’+)|)(?![A-Za-z0-9'’])")
 
 
 class Foreign(NamedTuple):
@@ -40,6 +40,26 @@ def pitch_at(text: str, with_comma: bool = False) -> Optional[Foreign]:
         mark = "s" if named[2] == "#" else named[2]
         write = f"{_SYLLABLES[named[1]]}{mark}{named[3]}"
         return Foreign(named[0], write, "pitches have the letters a to g")
+    behind = re.match(rf"([A-Ha-h])([0-9])({_MARKS})(?![A-Za-z0-9'’])", text)
+    if behind and abs(_ACCIDENTALS[behind[3]]) < 2:
+        mark = {0: "", 1: "s", -1: "b"}[_ACCIDENTALS[behind[3]]]
+        write = f"{'b' if behind[1] in 'hH' else behind[1].lower()}{mark}{behind[2]}"
+        why = "a sharp or a flat stands before the octave"
+        return Foreign(behind[0], write, f"a `#` begins a comment, and {why}" if "#" in behind[3] else why)
+    sign = re.match(r"([\^_=]{1,2})([A-Ga-g])([0-9])(?![A-Za-z0-9'’])", text)
+    if sign and len(set(sign[1])) == len(sign[1]):
+        mark = {"^": "s", "_": "b", "=": ""}[sign[1]]
+        write = f"{sign[2].lower()}{mark}{sign[3]}"
+        return Foreign(sign[0], write, "a sharp is `s`, a flat `b`, and a natural nothing")
+    raised = re.match(r"([A-Ha-h])(s|b)?[\^/]([0-9])(?![0-9/])", text)
+    if raised:
+        joined = pitch_at(f"{raised[1]}{raised[2] or ''}{raised[3]}")
+        return Foreign(raised[0], joined.write, "the octave stands directly behind the letter") if joined else None
+    lowest = re.match(rf"([A-Ga-g])({_MARKS})?-1(?![0-9/])", text)
+    if lowest:
+        key = _STEPS[lowest[1].lower()] + _ACCIDENTALS[lowest[2] or ""]
+        why = "named pitches go from `cb0` to `g9`, and lower ones are a `key`"
+        return Foreign(lowest[0], f"key {max(0, key)}", why)
     found = _PITCH.match(text)
     if not found:
         found = re.match(r"([AaEe])(s)([0-9]*)(?![A-Za-z0-9])()", text)
@@ -57,6 +77,8 @@ def pitch_at(text: str, with_comma: bool = False) -> Optional[Foreign]:
     write = f"{'b' if letter in 'hH' else letter.lower()}{spelled}{octave}"
     key = 12 * (octave + 1) + _STEPS[letter.lower()] + rise
     if spelled is None or not re.fullmatch(r"[a-g][sb]?[0-9]", write):
+        if digits and len(set(digits)) == 1 and not mark:
+            return Foreign(wrote, f"{letter.lower()}{digits[0]}", "a pitch has one digit of octave")
         if not 12 <= key <= 127:
             return Foreign(wrote, "", "named pitches go from `cb0` to `g9`, and lower keys are `key 0` to `key 10`")
         write = str(Pitch(key))
@@ -120,6 +142,9 @@ def length_at(text: str) -> Optional[Foreign]:
     found = re.match(rf"({whole})(t|d|triplet|dotted|th|nd|n)(?![a-z0-9])", text)
     if found and int(found[1]) in _POWERS:
         return _foreign(found[0], _suffixed(Fraction(1, int(found[1])), found[2]), _why_suffix(found[2]))
+    found = re.match(r"([1-9])\.(2|4|8|16|32|64)(?![0-9])", text)
+    if found:
+        return _foreign(found[0], Fraction(int(found[1]), int(found[2])), "a length is written with `/`")
     found = re.match(r"[0-9]*\.[0-9]+", text)
     if found:
         return _foreign(found[0], Fraction(found[0]),
@@ -152,6 +177,9 @@ def _why_suffix(suffix: str) -> str:
 
 def _bare(digits: str) -> Optional[Foreign]:
     number = int(digits)
+    pair = re.fullmatch(r"([1-7])([248])", digits)
+    if pair and number not in (*_POWERS, 12, 24, 48):
+        return Foreign(digits, f"{pair[1]}/{pair[2]}", "a length is a part of a whole note, as `1/4`, or `ticks N`")
     if number in _POWERS:
         return Foreign(digits, f"1/{number}", "a length is a part of a whole note, as `1/4`, or `ticks N`")
     if number > 128:

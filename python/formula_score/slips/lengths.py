@@ -8,6 +8,7 @@ from typing import Optional
 from ..midi import DYNAMICS
 from .common import FUNCTIONS, insert, parenthesized, statement_text
 from .foreign import length_at, pitch_at, sum_at
+from .marks import mark_behind, sounding
 from .near import near
 from .pitches import all_commas, chord_plus
 from .spot import Spot, is_statement
@@ -15,12 +16,19 @@ from .statement import by_index
 from .tokens import END, INDEX, NAME, NUMBER, OTHER, PITCH, REGISTER
 
 #: Words that others write before a length.
+_LENGTH_OR_VALUE = re.compile(r"\([^;{}]*\)")
 _LENGTH_WORDS = ("for", "length", "dur", "duration", "len", "lasting", "l")
 
 
 def at_length(spot: Spot) -> Optional[str]:
     """Where a length is expected."""
     here, head = spot.here, spot.head
+    if here.text == "." and spot.last.kind == NUMBER and spot.last.end == spot.place:
+        return "a key is a whole number, without a decimal point"
+    part = re.match(r"[^\s0-9;/]{1,3} ?/ ?([0-9]+)(?![0-9])", spot.text)
+    if part and here.kind in (OTHER, NAME):
+        return spot.write("a length has a number before its `/`", spot.place,
+                          spot.place + len(part[0].encode()), f"1/{part[1]}")
     if head in ("note", "play") and spot.last.text != "note":
         found = _behind_pitch(spot)
         if found:
@@ -28,21 +36,30 @@ def at_length(spot: Spot) -> Optional[str]:
     meant = sum_at(spot.rest) or length_at(spot.rest)
     if meant and here.kind in (NAME, NUMBER, OTHER, PITCH):
         return write_length(spot, spot.place, meant.wrote, meant.write, meant.why)
+    if here.kind == NAME and near(here.text, ["ticks"]):
+        return "did you mean `ticks`?"
     if head == "rest":
         return _length_of_rest(spot)
     if head == "rhythm":
         return _length_of_rhythm(spot)
     if head == "shape":
         return _length_of_part(spot)
-    if here.kind == NAME and near(here.text, ["ticks"]):
-        return "did you mean `ticks`?"
     if here.kind in (REGISTER, INDEX, *FUNCTIONS):
         return "a computed length is written as ticks: write `ticks (E) max N`"
     if here.kind == "(":
         return length_in_parentheses(spot)
     if here.kind == "/" and spot.next().kind == NUMBER:
-        return spot.write("a length has a number before its `/` too", spot.place, spot.place, "1")
+        return _without_number(spot)
     return None
+
+
+def _without_number(spot: Spot) -> str:
+    """A length that begins with its `/`."""
+    digits = spot.next().text
+    if re.fullmatch(r"[1-9](?:1|2|4|8|16|32|64)", digits):
+        return spot.write("a length has a number before its `/` too", spot.place, spot.next().end,
+                          f"{digits[0]}/{digits[1:]}")
+    return spot.write("a length has a number before its `/` too", spot.place, spot.place, "1")
 
 
 def write_length(spot: Spot, start: int, wrote: str, write: str, why: str) -> str:
@@ -66,6 +83,10 @@ def _behind_pitch(spot: Spot) -> Optional[str]:
     """Behind a pitch, where a comma may stand too."""
     here = spot.here
     pitch = spot.last.text
+    if spot.source[spot.last.end:spot.last.end + 1] == "#" and spot.last.kind == PITCH:
+        meant = pitch_at(f"{pitch}#")
+        if meant:
+            return f"{meant.why}: write `{meant.write}` in place of `{meant.wrote}`"
     if here.kind in (";", "}", END, "rest", "note", "play", "do", "repeat", "par", "rhythm") or (
             is_statement(here) and spot.is_over_line):
         if spot.is_inside("rhythm"):
@@ -73,6 +94,13 @@ def _behind_pitch(spot: Spot) -> Optional[str]:
                               spot.statement[0].start, spot.statement[0].end, "play")
         return insert(spot, f"the length is missing behind `{pitch}`", " 1/4") if here.kind == ";" else (
             f"the length and a `;` are missing behind `{pitch}`: write `{statement_text(spot)[:-1]} 1/4;`")
+    if here.text in DYNAMICS:
+        return (f"the velocity is that of a block: write `volume {DYNAMICS[here.text]} {{ {sounding(spot)} }}`, "
+                "or a comma before a pitch with its octave")
+    if re.match(r"(?:and|plus|with)\s+[a-h]", spot.rest):
+        return spot.write("commas stand between the pitches of a chord", spot.last.end, here.end, ",")
+    if re.match(r"t[0-9]+(?![a-z0-9_])", spot.rest):
+        return write_length(spot, spot.place, here.text, f"ticks {here.text[1:]}", "a length in ticks has its word")
     if here.kind == PITCH or here.kind == "key" or here.kind == NAME and pitch_at(spot.text) and (
             len(here.text) > 1 or here.text not in "he" or spot.next().kind == NUMBER):
         meant = pitch_at(spot.text)
@@ -82,6 +110,12 @@ def _behind_pitch(spot: Spot) -> Optional[str]:
             return f"commas stand between the pitches of a chord: write `{text}`"
         return spot.write("commas stand between the pitches of a chord", spot.last.end, end,
                           f", {meant.write if meant and meant.write else here.text}")
+    if here.text in ("♯", "♭", "♮") or here.kind == OTHER and spot.text[:1] in "♯♭♮":
+        meant = pitch_at(f"{pitch}{spot.text[:1]}")
+        if meant:
+            return f"{meant.why}: write `{meant.write}` in place of `{meant.wrote}`"
+    if here.kind == "/" and spot.statement[-2].text == "key" and spot.next(2).kind in (";", "}", END):
+        return "a number is missing behind `key`: write `note key 60 1/4;`"
     if here.kind in ("+", "-", "*", "/", "%") and spot.statement[-2].text in ("key", "-"):
         return parenthesized(spot, spot.last.start)
     if here.kind == "+":
@@ -93,43 +127,35 @@ def _behind_pitch(spot: Spot) -> Optional[str]:
         if meant:
             return spot.write("the length stands directly behind the pitch", spot.place,
                               spot.place + skip + len(meant.wrote), f" {meant.write}")
-        return spot.write("the length stands directly behind the pitch", spot.place, spot.place + skip, " ")
+        if re.match(r"[:=@]\s*(?:[0-9]+/|ticks)", spot.rest):
+            return spot.write("the length stands directly behind the pitch", spot.place, spot.place + skip, " ")
+        return mark_behind(spot)
     if here.text in ("-", "/", "&", "|", "^", "."):
         if pitch_at(re.sub(r"^[-/&|^.]+\s*", "", spot.text)):
             text = all_commas(spot)
             why = "commas stand between the pitches of a chord"
             return f"{why}: write `{text}`" if text else spot.write(why, spot.place, spot.place + 1, ",")
-        if here.kind == "-":
+        if here.kind == "-" and spot.next().kind == NUMBER:
             return "a computed pitch is `key` and parentheses: write `note key (60 - 2) 1/4;`"
     if here.text == "'" or here.text == "’":
         return "the octave is a digit, and `c4` is middle C: take the `'` away"
-    if here.text == ".":
+    if here.text == "." and not re.match(r"\.(?: ;|[0-9])", spot.rest):
         return by_index("triplet")
     if here.kind == "*" or here.text == "x" and spot.next().kind == NUMBER:
         return (f"the length is missing behind `{pitch}`, and a loop plays a note more than once: write `repeat 4 {{ "
                 f"note c4 1/4; }}`")
     if here.kind in ("volume", "gate", "channel", "loud", "artic") and spot.next().kind == NUMBER:
         return (f"`{here.kind}` holds for a block, and stands round it: write `{here.kind} {spot.next().text} "
-                f"{{ note {pitch} 1/4; }}`")
+                f"{{ {sounding(spot)} }}`")
     if here.kind == NAME:
         if here.text in _LENGTH_WORDS and spot.next().kind in (NUMBER, "=", "ticks"):
             length = spot.next(2) if spot.next().kind == "=" else spot.next()
             return spot.write("the length stands directly behind the pitch", spot.place, length.start, "")
         if length_at(spot.rest) is None and not near(here.text, ["ticks"]):
-            return word_behind(spot)
+            return mark_behind(spot)
+    elif here.text != "(" or not _LENGTH_OR_VALUE.match(spot.rest):
+        return mark_behind(spot)
     return None
-
-
-def word_behind(spot: Spot) -> Optional[str]:
-    word, after = spot.here.text, spot.next()
-    if word in DYNAMICS:
-        return f"the velocity is that of a block: write `volume {DYNAMICS[word]} {{ {statement_text(spot)} }}`"
-    if word in ("velocity", "vel", "vol", "v") and after.kind in (NUMBER, "="):
-        number = after.text if after.kind == NUMBER else spot.next(2).text
-        return f"the velocity is that of a block: write `volume {number} {{ {statement_text(spot)} }}`"
-    if word in ("dotted", "triplet", "t", "d"):
-        return by_index("triplet")
-    return by_index(word)
 
 
 def _length_of_rest(spot: Spot) -> Optional[str]:
@@ -151,7 +177,7 @@ def _length_of_rest(spot: Spot) -> Optional[str]:
     if here.kind in (INDEX, *FUNCTIONS):
         return "a computed length is written as ticks: write `rest ticks (E) max N;`"
     if here.kind == "/" and spot.next().kind == NUMBER:
-        return spot.write("a length has a number before its `/` too", spot.place, spot.place, "1")
+        return _without_number(spot)
     if here.kind in ("=", ",") or here.text == ":":
         return spot.write(f"no `{here.text}` stands there", spot.place, spot.place + 1, " ")
     return by_index(here.text) if here.kind == NAME else None
@@ -185,6 +211,27 @@ def at_slash(spot: Spot) -> Optional[str]:
     start = spot.last.start
     if here.kind == NUMBER and not spot.is_over_line:
         return spot.write("a length has a `/` between its two numbers", spot.last.end, spot.place, "/")
+    if here.kind == "ticks":
+        return write_length(spot, start, spot.source[start:here.end], f"ticks {spot.last.text}",
+                            "the number stands behind `ticks`")
+    product = re.match(r"([0-9]+) ?\* ?([0-9]+) ?/ ?([0-9]+)(?![0-9])", spot.source[start:])
+    if product:
+        return write_length(spot, start, product[0], f"{int(product[1]) * int(product[2])}/{product[3]}",
+                            "lengths are written as one")
+    pair = re.match(r"([0-9]+)([-,|?!&^_;])([0-9]+)(?![0-9/])", spot.source[start:])
+    if pair and pair[2] == "," and spot.head in ("note", "rest") and pair[1] in ("0", "1", "2", "3"):
+        decimal = length_at(f"{pair[1]}.{pair[3]}")
+        if decimal:
+            return write_length(spot, start, pair[0], decimal.write, decimal.why)
+    if pair and pair[2] != ",":
+        return write_length(spot, start, pair[0], f"{pair[1]}/{pair[3]}", "a length has a `/` between its two numbers")
+    if here.kind == NAME and length_at(here.text):
+        part = length_at(here.text)
+        if part and re.fullmatch(r"1/[0-9]+", part.write) and not here.text.startswith("dotted"):
+            return write_length(spot, start, spot.source[start:here.end], f"{spot.last.text}/{part.write[2:]}",
+                                part.why)
+    if here.kind == NAME:
+        return "a length is a part of a whole note, as `1/4`, or `ticks N`"
     meant = length_at(spot.source[start:])
     if meant and start + len(meant.wrote) >= spot.last.end:
         if spot.head == "shape" and here.kind == "by" or here.kind != OTHER or len(meant.wrote) > len(spot.last.text):
@@ -204,7 +251,9 @@ def at_denominator(spot: Spot) -> Optional[str]:
     if meant and len(meant.wrote) > spot.place - start:
         return write_length(spot, start, meant.wrote, meant.write, meant.why)
     if here.kind in (";", "}", ",", "]", "by", END):
-        return f"a number is missing behind the `/`: write `{spot.source[start:spot.last.end]}4`"
+        joined = re.fullmatch(r"([1-9])(2|4|8|16|32|64)", spot.statement[-2].text)
+        write = f"{joined[1]}/{joined[2]}" if joined else f"{spot.statement[-2].text}/4"
+        return write_length(spot, start, spot.source[start:spot.last.end], write, "a number is missing behind the `/`")
     if here.kind in ("(", REGISTER, INDEX, *FUNCTIONS):
         return "a computed length is written as ticks: write `ticks (E) max N`"
     return "a number stands behind the `/` of a length: write `1/4`"

@@ -4,6 +4,8 @@ from __future__ import annotations
 
 from typing import Iterable
 
+from ..music import KEYWORDS
+
 
 def distance(one: str, other: str) -> int:
     """How many letters have to be put in, taken away, changed or swapped with the next one."""
@@ -24,9 +26,11 @@ def near(word: str, words: Iterable[str]) -> list[str]:
     most = 0 if len(word) < 2 else 1 if len(word) < 6 else 2
     found: dict[int, list[str]] = {}
     for each in sorted(set(words)):
+        if any(c.isdigit() for c in word) != any(c.isdigit() for c in each) and len(word) < 5:
+            continue
         if abs(len(each) - len(word)) <= most and len(each) > 1:
             found.setdefault(distance(word, each), []).append(each)
-        elif len(each) > 3 and len(word) > 3 and (word.startswith(f"{each}_") or each.startswith(f"{word}_")):
+        elif each not in KEYWORDS and len(each) > 3 and len(word) > 3 and (word.startswith(f"{each}_") or each.startswith(f"{word}_")):
             found.setdefault(most, []).append(each)
     for amount in range(most + 1):
         if amount in found:

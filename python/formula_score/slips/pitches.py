@@ -5,16 +5,18 @@ from __future__ import annotations
 import re
 from typing import Optional
 
-from ..midi import INSTRUMENTS
 from ..pitch import Pitch
 from .common import FUNCTIONS, parenthesized, token_before
 from .foreign import length_at, pitch_at
 from .near import near
 from .reading import STATEMENTS, reads
 from .spot import Spot, is_statement
-from .statement import FORMS, by_index
+from .statement import FORMS, by_index, instrument
 from .tokens import END, INDEX, NAME, NUMBER, OTHER, PITCH, REGISTER, tokens
 
+_WORDS = {"on": 127, "off": 0, "down": 127, "up": 0, "max": 127, "full": 127, "half": 64, "center": 64, "left": 0,
+          "right": 127, "min": 0}
+_KEY_WORDS = ("midi", "pitch", "k", "number", "keynumber", "midinote", "n", "num", "p")
 _CONTROLS = {"modulation": 1, "mod": 1, "breath": 2, "volume": 7, "vol": 7, "balance": 8, "pan": 10, "panning": 10,
              "expression": 11, "sustain": 64, "pedal": 64, "damper": 64, "reverb": 91, "chorus": 93}
 
@@ -30,21 +32,34 @@ def at_pitch(spot: Spot) -> Optional[str]:
     if here.kind in (REGISTER, INDEX, "pick", "min", "max", "less", "same"):
         if here.text in ("r1", "r2", "r4") and not re.search(rf"\bset\s+{here.text}\b", spot.source):
             return _rest_for_note(spot)
-        if here.kind in (REGISTER, INDEX):
-            return spot.write("a computed pitch is `key` and parentheses", spot.place, here.end, f"key ({here.text})")
-        return "a computed pitch is `key` and parentheses: write `key (` before it, and `)` behind it"
+        return parenthesized(spot, spot.place, "key ")
     if here.kind == NUMBER:
         return _number_for_pitch(spot, commas)
     if here.kind == "ticks" and commas:
         return spot.write("no comma stands before the length", spot.last.start, spot.last.end, "")
+    if here.kind == NAME and near(here.text, ["key"]) and spot.next().kind in ("(", NUMBER):
+        return "did you mean `key`?"
+    apart = re.match(r"([a-g][sb]?) ([0-9])([0-9]+) ?/", spot.rest)
+    if apart and here.kind == NAME:
+        return spot.write("the octave stands directly behind the letter, and the length behind a blank", spot.place,
+                          spot.place + len(apart[0]) - 1, f"{apart[1]}{apart[2]} {apart[3]}")
+    split = re.match(r"([a-g][sb]?[0-9])([0-9]+) ?/", spot.rest)
+    if split and here.kind == NAME:
+        return spot.write("a blank stands between a pitch and its length", spot.place + len(split[1]),
+                          spot.place + len(split[1]), " ")
+    if here.kind == NAME and spot.next().kind == NUMBER and spot.next(2).kind in (NUMBER, ",", "ticks"):
+        joined = pitch_at(here.text + spot.next().text)
+        if joined and joined.write:
+            return spot.write("no blank stands in a pitch", spot.place, spot.next().end, joined.write)
     both = re.match(r"([a-h](?:is|es|s|f|isis|eses)?[',]+)([0-9]+\.*)(?![0-9a-z])", spot.rest)
     if both and here.kind == NAME:
         pitch, length = pitch_at(both[1], True), length_at(both[2])
         if pitch and pitch.write and length:
-            return spot.write("the octave is a digit, and the length a part of a whole note", spot.place,
-                              spot.place + len(both[0]), f"{pitch.write} {length.write}")
+            text = spot.mended(spot.place, spot.place + len(both[0]), f"{pitch.write} {length.write}")
+            if text:
+                return f"the octave is a digit, and the length a part of a whole note: write `{text}`"
     found = pitch_at(spot.text, with_comma=_is_octave(spot))
-    if found and here.kind in (NAME, OTHER, "flat"):
+    if found and here.kind in (NAME, OTHER, "="):
         if not found.write:
             return found.why
         end = spot.place + len(found.wrote.encode())
@@ -82,8 +97,16 @@ def _number_for_pitch(spot: Spot, commas: bool) -> str:
             return f"the pitch stands before the length: write `note {pitch.write} {length};`"
         if head == "note" and spot.next(3).kind in (";", END, "}"):
             return f"a note has its pitch before the length: write `note c4 {length};`, or `rest {length};` for silence"
+    before = spot.statement[-2].kind if commas and len(spot.statement) > 2 else ""
+    if before == PITCH and spot.next().kind in (",", NUMBER, "ticks"):
+        return ("a pitch stands behind a `,`, and a velocity is that of a block: write "
+                f"`volume {here.text} {{ .. }}` round it")
     if int(here.text) > 127:
         return "a pitch stands first, and the length behind it: write `note c4 1/4;`"
+    if len(here.text) == 1 and spot.next().kind != ",":
+        return "a pitch is a letter and then the octave, as `c4`, and a key by its number has `key` before it"
+    if spot.next().kind in ("+", "-", "*", "%"):
+        return parenthesized(spot, spot.place, "key ")
     return spot.write("a key by its number has `key` before it", spot.place, spot.place, "key ")
 
 
@@ -94,6 +117,8 @@ def _no_pitch(spot: Spot) -> Optional[str]:
         return f"a pitch is missing: write {form}"
     if here.text in ("(", "[", "{", "<"):
         return _chord(spot)
+    if here.kind == OTHER and re.match(r"[:@$&.]\s*[a-g][sb]?[0-9](?![a-z0-9])", spot.rest):
+        return spot.write("a pitch has no mark before it", spot.place, spot.place + 1, "")
     if here.text in ('"', "'"):
         found = re.match(r"([\"'])([a-g][sb]?[0-9])\1", spot.rest)
         if found:
@@ -103,6 +128,9 @@ def _no_pitch(spot: Spot) -> Optional[str]:
         return (f"a pitch stands behind `{spot.last.text}`: write {form}, or `note key (60 + 2) 1/4;` where it is "
                 "computed")
     if here.kind == NAME:
+        if here.text in _KEY_WORDS and spot.next().kind in (NUMBER, "="):
+            number = spot.next() if spot.next().kind == NUMBER else spot.next(2)
+            return spot.write("a key by its number has `key` before it", spot.place, number.start, "key ")
         line = _chord_name(spot) or by_index(here.text)
         return line or "a pitch is a letter a to g, then perhaps `s` or `b`, then the octave: write `note c4 1/4;`"
     return None
@@ -185,7 +213,7 @@ def chord_plus(spot: Spot) -> Optional[str]:
 def at_key(spot: Spot) -> Optional[str]:
     """Behind `key`."""
     here = spot.here
-    if here.kind == NAME and re.match(r"[a-g][a-z]* (major|minor|dur|moll)", spot.rest) or here.kind == "=":
+    if here.kind == NAME and re.match(r"[a-g][a-z]* (major|minor|dur|moll)", spot.rest):
         return by_index("key signature")
     found = pitch_at(spot.text)
     if here.kind == PITCH or here.kind == NAME and found and found.write:
@@ -226,19 +254,9 @@ def _named_number(spot: Spot, found: Optional[re.Match[str]]) -> Optional[str]:
     head = spot.head
     name = found[1].lower().replace("_", " ").strip()
     if head == "program":
-        exact = [each for each in INSTRUMENTS if each == name]
-        having = exact or [each for each in INSTRUMENTS if re.search(rf"\b{re.escape(name)}\b", each)]
-        if not having:
-            having = near(name, INSTRUMENTS)
-        first = having[0] if having else "flute"
-        number = INSTRUMENTS.index(first)
-        why = "an instrument is its number in General MIDI, counted from 0"
-        if not having:
-            return f"{why}: 73 is the flute: write `program 73;`"
-        return f"{why}: {number} is the {first}: write `program {number};`"
+        return instrument(name) or "an instrument is its number in General MIDI, counted from 0: write `program 73;`"
     if head == "control":
-        value = {"on": 127, "off": 0, "down": 127, "up": 0, "max": 127, "full": 127, "half": 64, "center": 64,
-                 "left": 0, "right": 127}.get(name.split(" ")[0])
+        value = _WORDS.get(name.split(" ")[0])
         if value is not None:
             return spot.write("a value is a number, 0 to 127", spot.place, spot.place + len(found[0]), str(value))
         return "a value is a number, 0 to 127: write `control 7 100;`"
@@ -253,6 +271,12 @@ def at_controller(spot: Spot) -> Optional[str]:
     found = re.match(r"[\"']?([a-z_]+)[\"']?", spot.rest)
     if found and found[1] in _CONTROLS:
         number = str(_CONTROLS[found[1]])
+        value = _WORDS.get(spot.next().text)
+        given = re.match(r"[\"']?\s*[=:,]\s*([0-9]+)", spot.rest[len(found[0]):])
+        if given:
+            value = int(given[1])
+        if value is not None:
+            return f"controllers and values are numbers: write `control {number} {value};`"
         text = spot.mended(spot.place, spot.place + len(found[0]), number)
         return f"a controller is its number, and {number} is the {found[1]}: write `{text or f'control {number} 100;'}`"
     if here.kind in ("(", REGISTER, INDEX, *FUNCTIONS):

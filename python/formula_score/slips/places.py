@@ -33,7 +33,8 @@ def at_head(spot: Spot) -> Optional[str]:
     found = re.match(r"[A-Za-z]+\s*[:=]?\s*[vV]?([12])\b(?:\.[0-9]+)*\s*;?", spot.rest)
     if found and here.is_word and (near(here.text, ["formula"]) or here.text in ("version", "score", "language")):
         return f"did you mean `formula {found[1]};`?"
-    if here.is_word and near(here.text, ["formula"]):
+    run = re.match(r"[^\s#]{5,9}(?=\s)", spot.rest)
+    if here.is_word and near(here.text, ["formula"]) or run and near(run[0].lower(), ["formula"]):
         return "did you mean `formula 1;`?"
     return f"a score begins with its head: write `formula 1;` before {spot.shown(here)}" if here.kind != OTHER else None
 

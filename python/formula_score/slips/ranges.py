@@ -117,7 +117,14 @@ def no_ticks(spot: Spot) -> Optional[tuple[str, str]]:
     whole = whole_note(spot)
     ticks = Fraction(int(over), int(under)) * whole
     return (f"`{over}/{under}` is {float(ticks):.2f} ticks, and no whole number of them",
-            f"a whole note has {whole:,} ticks, and a length is a whole number of them: write `ticks {round(ticks)}`")
+            f"a length is a whole number of ticks, of which a whole note has {whole:,}: write `{over}/"
+            f"{_divisor(int(over), int(under), whole)}`, or `ticks {round(ticks)}`")
+
+
+def _divisor(over: int, under: int, whole: int) -> int:
+    """The number nearest to `under` by which the ticks can be divided."""
+    return min((each for each in range(1, 2 * under + 1) if over * whole % each == 0),
+               key=lambda each: abs(each - under))
 
 
 def known_name(spot: Spot) -> Optional[tuple[str, str]]:

@@ -10,7 +10,7 @@ from .foreign import length_at, sum_at
 from .lengths import write_length
 from .near import near
 from .spot import Spot
-from .tokens import INDEX, NAME, NUMBER, REGISTER
+from .tokens import END, INDEX, NAME, NUMBER, REGISTER
 
 #: The words that begin a part of a shape.
 PARTS = ("flat", "slope", "pause", "breath")
@@ -32,7 +32,9 @@ def end_of_shape(spot: Spot) -> Optional[str]:
         return f"a `{kind}` has a length alone: take the `by` and its number away"
     if here.kind == "%":
         return "stretches are in thousandths: 1000 is as written, and 2000 half as fast"
-    if here.kind == "." or here.text == "." or here.kind == "/":
+    if here.text in (".", ":", ";", "|") and spot.next().kind in PARTS:
+        return f"commas stand between the parts of a shape: write `,` in place of the `{here.text}`"
+    if here.text in (".", "/") and spot.statement[-2].text in ("by", "to"):
         return thousandths(spot)
     if here.text == "{" and spot.last.kind == NUMBER:
         name = spot.statement[1].text
@@ -107,4 +109,6 @@ def at_to(spot: Spot) -> Optional[str]:
         return spot.write("a `to` stands between the two stretches", spot.place, end, " to ")
     if here.kind == "/" or here.text == ".":
         return thousandths(spot)
-    return insert(spot, "a `slope` goes from one stretch to another, and `flat` has one", " to 1500")
+    if here.kind in (";", ",", "}", "{", END) or spot.is_over_line:
+        return insert(spot, "a `slope` goes from one stretch to another, and `flat` has one", " to 1500")
+    return "the stretches of a `slope` are two numbers of thousandths: write `slope 1/1 by 1000 to 1500`"

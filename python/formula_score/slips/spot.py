@@ -6,7 +6,7 @@ import re
 from functools import cached_property
 from typing import Optional, Sequence
 
-from .reading import STATEMENTS, Reading, read_to_place, reads
+from .reading import STATEMENTS, Reading, There, read_to_place, reads
 from .tokens import END, NAME, OTHER, Token, tokens
 
 #: How many bytes behind the place are looked at.
@@ -142,11 +142,28 @@ class Spot:
         text = self.mended(start, end, new, begun)
         if text:
             return f"{why}: write `{text}`"
+        if not self._goes_on(start, end, new, begun):
+            return why
         old = self.data[start:end].decode("utf-8", "replace").strip()
         place = f"in place of `{old}`" if old else f"behind `{self.last.text}`"
         if not new.strip():
             return f"{why}: take `{old}` away"
         return f"{why}: write `{new.strip()}` {place}"
+
+
+    def _goes_on(self, start: int, end: int, new: str, begun: Optional[int]) -> bool:
+        """Whether the token behind what is written anew may stand there then."""
+        if begun is None:
+            begun = self.statement[0].start if self.statement and self.where != "statement" else start
+        before = self.source[begun:start] + new
+        written = list(tokens(before))[:-1]
+        behind = list(tokens(self.source[end:end + BEHIND]))[:1]
+        reading = Reading([*written, *behind])
+        try:
+            reading.entry()
+        except There:
+            pass
+        return reading.read > len(written)
 
 
 def is_statement(token: Token) -> bool:

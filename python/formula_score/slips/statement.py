@@ -6,12 +6,12 @@ import re
 from typing import Optional
 
 from ..index import musical
-from ..midi import DYNAMICS
+from ..midi import DYNAMICS, INSTRUMENTS
 from .foreign import length_at, pitch_at
 from .near import near
 from .reading import OUTSIDE, STATEMENTS
-from .spot import Spot
-from .tokens import END, INDEX, NAME, NUMBER, OTHER, PITCH, REGISTER, tokens
+from .spot import Spot, is_statement
+from .tokens import END, INDEX, NAME, NUMBER, OTHER, PITCH, REGISTER, kind_of, tokens
 
 #: Words of other languages, and the word here that does it.
 _ELSEWHERE = {
@@ -58,6 +58,18 @@ def by_index(word: str, number: str = "") -> Optional[str]:
     return f"{line.words}: write `{line.write}`" + (f" ({note})" if note else "")
 
 
+def instrument(name: str) -> Optional[str]:
+    """What to write for the name of an instrument, or a part of one."""
+    found = [each for each in INSTRUMENTS if each == name]
+    found = found or [each for each in INSTRUMENTS if re.search(rf"\b{re.escape(name)}\b", each)]
+    found = found or near(name, INSTRUMENTS)
+    if not found:
+        return None
+    number = INSTRUMENTS.index(found[0])
+    return (f"an instrument is its number in General MIDI, counted from 0, and {number} is the {found[0]}: "
+            f"write `program {number};`")
+
+
 def open_block(spot: Spot) -> str:
     """The brace that is open longest, for a person."""
     block = spot.reading.blocks[0]
@@ -92,8 +104,17 @@ def at_statement(spot: Spot) -> Optional[str]:
         return f"`{word}` is a shape: write `warp {word} {{ .. }}`"
     if word in ("division", "formula"):
         return _head_word(word, spot)
+    joined = re.match(r"([a-z]+?)([0-9]+|[a-g][sb]?[0-9])$", word)
+    if joined and joined[1] in STATEMENTS:
+        at = spot.place + len(joined[1])
+        text = spot.mended(at, at, " ", spot.place)
+        return f"a blank stands behind `{joined[1]}`: write `{text or f'{joined[1]} {joined[2]}'}`"
     if after.text == ":" and after.start == here.end and word in ("piano", "violin", "guitar", "flute", "trumpet"):
         return by_index("voice")
+    if after.text in spot.phrases and word not in _ELSEWHERE and spot.next(2).kind in (";", "}", END):
+        return f"a phrase is played by `do`: write `do {after.text};`"
+    if word in DYNAMICS and (after.text == "{" or is_statement(after)):
+        return by_index(word)
     if word in _ELSEWHERE and not (word in ("r", "s", "n") and after.kind == "="):
         return _elsewhere(spot, _ELSEWHERE[word])
     if pitch_at(spot.text) and not (len(word) == 1 and after.kind in ("=", NUMBER) and word not in "abcdefg"):
@@ -102,13 +123,36 @@ def at_statement(spot: Spot) -> Optional[str]:
     if rest:
         return _rest(spot, rest[1])
     number = spot.after[1].text if after.kind == NUMBER else spot.next(2).text if spot.next(2).kind == NUMBER else ""
+    line = musical(word)
+    named = re.match(r"[a-z_]+[\s=:\"'(]+([a-z][a-z _]*[a-z])", spot.rest)
+    if line and line.words == "instrument" and named:
+        return instrument(named[1].replace("_", " ")) or by_index(word)
+    if line and line.words == "instrument" and number and int(number) <= 127:
+        return f"an instrument is a program, counted from 0: write `program {number};`"
     found = by_index(word, number)
     if found:
         return found
+    if len(word) > 3 and any(word == each or re.search(rf"\b{word}\b", each) for each in INSTRUMENTS):
+        return instrument(word)
+    if re.match(r"[a-z0-9_]+\s*(?:\(\s*\))?\s*[:=]?\s*\{", spot.rest) and not near(word, STATEMENTS):
+        return f"music with a name is a `phrase`: write `phrase {word} {{ .. }}`, and play it by `do {word};`"
     if after.kind in ("=",) or (after.text == ":" and spot.next(2).kind == "="):
         return f"only registers, `r0` to `r7`, have values: write `set r0 = ..;` in place of `{word}`"
+    if spot.reading.version == 2 and near(word, ["division"]):
+        return "did you mean `division`?"
     return did_you_mean(spot, [*STATEMENTS, *spot.names, *((*OUTSIDE, "seed") if not spot.reading.blocks else ()),
-                               *(("else",) if spot.last.text == "}" else ())])
+                               *(("else",) if spot.last.text == "}" else ())]) or letters(spot)
+
+
+def letters(spot: Spot) -> Optional[str]:
+    """Notes and commands of one letter each, as ABC and MML have them."""
+    command = re.match(r"([olvt])([0-9]+)(?![a-z0-9_])", spot.rest)
+    if command:
+        return {"o": by_index("octave"), "t": by_index("tempo", command[2]), "v": by_index("velocity"),
+                "l": "each note has its length: write `note c4 1/8;`"}[command[1]]
+    if re.match(r"[A-Ga-gz][A-Ga-gz0-9,'/]{2,}(?![A-Za-z0-9_])", spot.rest):
+        return "each note is a statement of its own, with its octave and its length: write `note e4 1/4;`"
+    return None
 
 
 def did_you_mean(spot: Spot, words: list[str]) -> Optional[str]:
@@ -117,6 +161,9 @@ def did_you_mean(spot: Spot, words: list[str]) -> Optional[str]:
     if not found:
         return None
     fitting = [each for each in found if spot.mended(spot.place, spot.here.end, _used(each, spot))]
+    found = [each for each in found if each[0] == spot.here.text[0]]
+    if not fitting and not found:
+        return None
     return "did you mean " + " or ".join(f"`{_used(each, spot)}`" for each in fitting or found) + "?"
 
 
@@ -137,9 +184,14 @@ def _symbol(spot: Spot) -> Optional[str]:
     if text == "}":
         return "there is no open `{` for this `}`: take it away"
     if text == "{":
-        if spot.next().text == "{" or last == "{" and spot.is_inside("branch"):
+        if last == "{":
+            return "one `{` is enough: take this one and its `}` away"
+        if spot.next().text == "{":
             return by_index("voice")
         return "a block belongs to a word, as in `repeat 2 { .. }`: write that word, or take this `{` and its `}` away"
+    if text in (")", "]") and spot.reading.blocks and lacks_brace(spot):
+        block = spot.reading.blocks[-1]
+        return f"the `{{` at {spot.spelled(block.token.start)}, behind `{block.word}`, ends with `}}`: write `}}` here"
     if text in (")", "]"):
         return f"there is no open `{'(' if text == ')' else '['}` for this `{text}`: take it away"
     if text == "/" and spot.rest[:2] in ("//", "/*"):
@@ -150,8 +202,15 @@ def _symbol(spot: Spot) -> Optional[str]:
         return "a comment begins with `#`, and ends with its line: write `#` in place of the `%`"
     if text == "(" and spot.next().kind == NUMBER and int(spot.next().text) in (2, 3, 4, 5, 6, 7):
         return by_index("triplet")
+    inside = re.match(r"\(\s*([a-z_]+)\s*([0-9]*)", spot.rest)
+    if inside and by_index(inside[1]):
+        return by_index(inside[1], inside[2])
+    if inside and kind_of(inside[1]) in STATEMENTS:
+        return "a statement has no parentheses round it: take the `(` and its `)` away"
     if text == "(":
-        return by_index("slur")
+        return by_index("slur") if spot.last.text == ";" and pitch_at(spot.text[1:].lstrip()) is None else None
+    if spot.rest.startswith("[:"):
+        return by_index("volta")
     if text == "[":
         return ("a chord has no brackets: write `note c4, e4 1/4;`" if pitch_at(spot.text[1:].lstrip()) else
                 "a list stands behind `rhythm`, `artic` or `loud`: write one of them before the `[`")
@@ -167,8 +226,12 @@ def _number(spot: Spot) -> Optional[str]:
         if spot.next(3).kind == PITCH:
             return f"the pitch stands before the length: write `note {spot.next(3).text} {length};`"
         return f"a length stands in a statement: write `rest {length};` for silence, or `note c4 {length};`"
-    if re.match(r"[0-9]+ ?(x|times|\*)(?![a-z0-9_])", spot.rest):
+    if re.match(r"[0-9]+ ?(x|\.?times|\*)(?![a-z0-9_])", spot.rest):
         return f"a loop begins with its word: write `repeat {number} {{ .. }}`"
+    if spot.next().kind in ("repeat", "channel", "volume", "gate", "program", "bend"):
+        return f"the number stands behind its word: write `{spot.next().text} {number}`"
+    if spot.next().kind in STATEMENTS or spot.next().text in spot.phrases:
+        return f"a loop plays something more than once: write `repeat {number} {{ .. }}`"
     if spot.next().text == "{":
         return f"a loop begins with its word: write `repeat {number} {{`"
     if spot.next(1).kind == "/" or 0 <= int(number[:6]) <= 127 and spot.next().kind in (NUMBER, "ticks", ","):
@@ -262,7 +325,7 @@ def _keyword(spot: Spot) -> Optional[str]:
         return (f"parts stand in a shape, and a `warp` plays through it: write `shape rit = {word} ..; warp rit {{ .. "
                 f"}}`")
     if word == "key":
-        if spot.next().kind in (PITCH, NAME) or spot.next().text == "=":
+        if spot.next().kind in (PITCH, NAME) or spot.next().text in ("=", ":"):
             return by_index("key signature")
         return spot.write("a note begins with `note`", spot.place, spot.place, "note ", spot.place)
     if word == "ticks":
@@ -278,7 +341,12 @@ def _elsewhere(spot: Spot, word: str) -> Optional[str]:
         number = next((each.text for each in spot.after[1:4] if each.kind == NUMBER), "4")
         return f"a loop is a `repeat`: write `repeat {number} {{ .. }}`"
     if word == "rest":
-        behind = spot.rest[len(written):].lstrip()
+        behind = re.sub(r"^[\s(]+", "", spot.rest[len(written):])
+        beats = re.match(r"[0-9]*\.?[0-9]+(?![0-9/])", behind)
+        if beats and written in ("sleep", "wait"):
+            found = length_at(str(float(beats[0]) / 4))
+            beat = found.write if found else "1/4"
+            return f"silence is a `rest`, and a beat is mostly a quarter: write `rest {beat};`"
         found = length_at(behind)
         length = re.match(r"[0-9]+ ?/ ?[0-9]+|ticks [0-9]+", behind)
         return f"silence is a `rest`: write `rest {length[0] if length else found.write if found else '1/4'};`"
@@ -288,8 +356,12 @@ def _elsewhere(spot: Spot, word: str) -> Optional[str]:
     if word == "do":
         name = spot.next().text if spot.next().text in spot.phrases else "verse"
         return f"a phrase is played by `do`: write `do {name};`"
+    if word == "set" and re.match(r"[a-z]+\s+[a-z0-9_]+\s*=?\s*\{", spot.rest):
+        name = spot.next().text if spot.next().kind == NAME else "verse"
+        return f"music with a name is a `phrase`: write `phrase {name} {{ .. }}`, and play it by `do {name};`"
     if word == "set":
         return "only registers, `r0` to `r7`, have values: write `set r0 = ..;`"
     if word == "else" and spot.last.text == "}":
         return "a third case is an `if` in the block: write `else { if r1 { .. } }`"
-    return f"`{written}` is `{word}` here: write `{FORMS[word]}`"
+    text = spot.mended(spot.place, spot.here.end, word, spot.place)
+    return f"`{written}` is `{word}` here: write `{text or FORMS[word]}`"

@@ -51,6 +51,8 @@ def at_equals(spot: Spot) -> Optional[str]:
             return ("a shape has no block, and its parts stand behind a `=`: write `shape rit = slope 1/1 by 1000 to "
                     "1500;`")
         return "a `=` and parts stand behind the name: write `shape rit = slope 1/1 by 1000 to 1500;`"
+    if here.kind == ",":
+        return "a `set` gives one register a value: write a `set` for each"
     found = re.match(r"(?::=|<-|([-+*/%])=|\+\+|--|to\b|as\b|:)\s*", spot.rest)
     if found and found[1]:
         register = spot.last.text
@@ -96,6 +98,10 @@ def at_operator(spot: Spot) -> Optional[str]:
         if opened.word in ("min", "max", "less", "same") and here.text == ")" and "`,`" in spot.reading.expected:
             return (f"`{opened.word}` takes two values: write "
                     f"`{opened.word}({spot.source[opened.token.end:spot.place].strip()}, ..)`")
+        if "`,`" in spot.reading.expected and here.kind in (NUMBER, REGISTER, INDEX, "(", *FUNCTIONS):
+            return f"a `,` stands between the two values of `{opened.word}`: write it behind `{spot.last.text}`"
+        if here.kind == NUMBER and spot.next().kind == "/" and spot.head in ("note", "rest"):
+            return f"write the `)` of the `(` at {where}"
         if here.kind == ",":
             if opened.word == "pick":
                 return "`pick` takes one value: `pick(12)` draws a number from 0 to 11"

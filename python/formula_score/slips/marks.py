@@ -1,0 +1,52 @@
+"""What is meant by marks and words of notation behind a pitch or a length."""
+
+from __future__ import annotations
+
+import re
+from typing import Optional
+
+from ..midi import DYNAMICS
+from .common import statement_text
+from .spot import Spot
+from .statement import by_index
+from .tokens import NUMBER
+
+_LENGTH = re.compile(r"[0-9]+ ?/ ?[0-9]+|ticks [0-9]+")
+_VELOCITY = re.compile(r"(?:velocity|vel|vol|volume|v|@)\s*[:=]?\s*([0-9]{1,3})(?![0-9/])")
+#: Marks of articulation and the lines of the index that they stand for.
+_MARKS = (
+    (r"(?:[-^_][.!]|\.)(?![0-9.])", "staccato"), (r"[-^_]?>", "accent"), (r"[-_]?\^", "accent"), (r"-[-_]", "legato"),
+    (r"[-^_]\s*[\"“]", "text"), (r"\((?![^;{}]*\))", "slur"), (r":[0-9]+", "tremolo"), (r"[-^_]?\\", ""),
+)
+
+
+def sounding(spot: Spot) -> str:
+    """The statement as it was read, with the length that stands behind the place, or a quarter."""
+    text = statement_text(spot)
+    if text == ".." or spot.where != "length":
+        return text
+    found = _LENGTH.search(spot.source[spot.place:spot.end_of_statement(spot.place)])
+    return f"{text[:-1]} {found[0] if found else '1/4'};"
+
+
+def mark_behind(spot: Spot) -> Optional[str]:
+    """What a mark or a word behind a pitch or a length means; None where it is none."""
+    found = _VELOCITY.match(spot.rest)
+    if found and 1 <= int(found[1]) <= 127:
+        return f"the velocity is that of a block: write `volume {int(found[1])} {{ {sounding(spot)} }}`"
+    word = re.match(r"[a-z_]+(?![a-z0-9_])", spot.rest)
+    if word and word[0] in DYNAMICS:
+        return f"the velocity is that of a block: write `volume {DYNAMICS[word[0]]} {{ {sounding(spot)} }}`"
+    if word and word[0] in ("t", "d"):
+        return by_index("triplet")
+    if word:
+        return by_index(word[0])
+    for pattern, line in _MARKS:
+        if line and re.match(pattern, spot.rest) and not (spot.here.kind == "-" and spot.next().kind == NUMBER):
+            return by_index(line)
+    inside = re.match(r"[\[(<{]\s*([a-z_]+)", spot.rest)
+    if inside:
+        return by_index(inside[1])
+    if spot.here.text in ("[", "]"):
+        return f"beams are not in the file: take the `{spot.here.text}` away"
+    return None
