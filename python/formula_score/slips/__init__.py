@@ -36,7 +36,8 @@ def told(data: bytes, line: int, column: int, number: int) -> Optional[Told]:
         found = _BY_NUMBER[number](spot)
         return Told(*found, place) if found else None
     if number == 1:
-        return Told(_heading_of_byte(spot), _word_in_parts(spot) or at_byte(spot) or _ANY_BYTE, place)
+        general = "" if spot.where == "statement" else _form(spot)
+        return Told(_heading_of_byte(spot), _word_in_parts(spot) or at_byte(spot) or general or _ANY_BYTE, place)
     if number == 2:
         return Told(_heading_of_number(spot), at_number(spot) or "", place)
     rule = at_statement if spot.where == "statement" else AT[spot.where]

@@ -37,6 +37,8 @@ def at_block(spot: Spot) -> Optional[str]:
         return f"the block stands directly behind the count: take `{here.text}` away"
     if re.match(r"\.[0-9]", spot.rest):
         return _whole(spot)
+    if re.match(r"\.\.+ ?[0-9]|-[0-9]|->", spot.rest) and head == "volume":
+        return by_index("crescendo")
     if head in ("gate", "volume") and here.kind == "%":
         return "percentages are numbers alone: take the `%` away"
     if here.kind in _BLOCKS and not spot.is_over_line:
@@ -54,7 +56,7 @@ def at_block(spot: Spot) -> Optional[str]:
         return f"the number of `{head}` is written, and never computed: write `{FORMS[head]}`"
     if head == "volume" and here.kind == "to":
         return by_index("crescendo")
-    if head == "warp" and here.kind == ",":
+    if head == "warp" and here.kind == "," and spot.next().kind == NAME:
         return "one shape at a time: write `warp a { warp b { .. } }`"
     if here.text in ("(", "[", "<"):
         return f"the block stands between `{{` and `}}`: write `{shown} {{ .. }}`"
@@ -74,7 +76,7 @@ def _whole(spot: Spot) -> str:
         return f"numbers have no decimal point, and these are in percent: write `{round(100 * value)}`"
     if spot.head in ("volume", "loud") and 0 < value <= 1:
         return f"numbers have no decimal point, and a velocity goes from 1 to 127: write `{max(1, round(127 * value))}`"
-    return f"numbers have no decimal point: write `{max(1, round(value))}`"
+    return "numbers have no decimal point: write a whole number"
 
 
 def _phrase_block(spot: Spot, shown: str) -> Optional[str]:
@@ -99,7 +101,9 @@ def _phrase_block(spot: Spot, shown: str) -> Optional[str]:
 def _count(spot: Spot, start: int) -> str:
     """A computed count without its parentheses."""
     expression = computed(spot.source[start:start + 200]) or "n0"
-    return f"a computed count stands in parentheses, with its `max`: write `repeat ({expression}) max 16 {{ .. }}`"
+    most = re.match(r"\s*max\s+([0-9]+)", spot.source[start + len(expression):])
+    return ("a computed count stands in parentheses, with its `max`: write "
+            f"`repeat ({expression}) max {most[1] if most else 16} {{ .. }}`")
 
 
 def at_count(spot: Spot) -> Optional[str]:
@@ -146,6 +150,8 @@ def at_name(spot: Spot) -> Optional[str]:
     if here.text in ('"', "'"):
         found = re.match(r"[\"']([a-z][a-z0-9_]*)[\"']", spot.rest)
         return f"a name has no quotes: write `{head} {found[1]}{';' if head == 'do' else ' { .. }'}`" if found else None
+    if here.kind == PITCH and head == "do":
+        return f"`do` plays a phrase, and `{here.text}` is a pitch: write `note {here.text} 1/4;`"
     if here.kind in (PITCH, REGISTER, INDEX):
         return (f"a name is no keyword, pitch, register or index, and `{here.text}` is one: give the "
                 f"{'phrase' if head == 'do' else 'shape'} another name")
@@ -163,8 +169,8 @@ def at_new_name(spot: Spot) -> Optional[str]:
     here, head = spot.here, spot.head
     form = "phrase verse { .. }" if head == "phrase" else "shape rit = slope 1/1 by 1000 to 1500;"
     if here.kind in (PITCH, REGISTER, INDEX):
-        kind = {PITCH: "pitch", REGISTER: "register", INDEX: "index of a loop"}[here.kind]
-        return f"`{here.text}` is a {kind}, and names nothing: choose another name, as `part_{here.text}`"
+        kind = {PITCH: "a pitch", REGISTER: "a register", INDEX: "the index of a loop"}[here.kind]
+        return f"`{here.text}` is {kind}, and names nothing: choose another name, as `part_{here.text}`"
     if here.is_word and here.kind != NAME:
         return f"`{here.text}` is a word of the language, and names nothing: choose another name, as `my_{here.text}`"
     if here.kind == NUMBER:
@@ -254,7 +260,10 @@ def at_entry(spot: Spot) -> Optional[str]:
                 "no comma stands behind the last entry: take it away")
     if here.kind == ",":
         return "an entry is missing before this `,`: write it, or take the `,` away"
-    if here.kind in ("(", REGISTER, INDEX, *FUNCTIONS, "-"):
+    if here.kind == "-":
+        low, high = (1, 127) if head == "loud" else (0, 400)
+        return f"the entries of `{head}` go from {low} to {high}: write `{FORMS[head]}`"
+    if here.kind in ("(", REGISTER, INDEX, *FUNCTIONS):
         return f"the entries of a list are written numbers, and never computed: write `{FORMS[head]}`"
     return f"a list has numbers alone: write `{FORMS[head]}`"
 

@@ -27,7 +27,7 @@ _COMMANDS = ("relative", "absolute", "fixed", "score", "version", "language", "h
              "book")
 #: Places that know what is meant by a text in quotes.
 _QUOTED = ("pitch", "length", "amount", "controller", "name", "new name", "slash", "end", "key", "setting", "entry",
-           "count", "stretch", "most", "ticks", "register")
+           "count", "stretch", "most", "ticks", "register", "version", "formula")
 
 
 def at_byte(spot: Spot) -> Optional[str]:
@@ -176,6 +176,10 @@ def _mark(spot: Spot, first: str) -> Optional[str]:
             return by_index("volta")
         if spot.where == "operator" or spot.head in ("if", "set"):
             return None
+        if spot.where == "length" and pitch_at(spot.text[1:].lstrip()):
+            return None
+        if re.match(r"\|+ ?[12](?![0-9/])", rest):
+            return by_index("volta")
         bars = re.match(r"\|[]|:]?", rest)
         line = musical("bar")
         note = line.note.replace("*", "") if line else ""

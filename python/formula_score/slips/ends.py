@@ -49,6 +49,19 @@ def at_end(spot: Spot) -> Optional[str]:
     return None
 
 
+_ROUND = ("volume", "gate", "channel")
+
+
+def _block_round(spot: Spot) -> Optional[str]:
+    """What to do about the word of a block that stands behind what it should hold."""
+    behind = spot.after[1:4]
+    values = [each.text for each in behind if each.kind == NUMBER]
+    if any(each.text == "{" for each in behind) or not values:
+        return None
+    word = spot.here.kind
+    return f"`{word}` holds for a block, and stands round it: write `{word} {values[0]} {{ {statement_text(spot)} }}`"
+
+
 def _end_of_sound(spot: Spot) -> Optional[str]:
     """Behind the length of a note or a rest."""
     here, head = spot.here, spot.head
@@ -65,14 +78,17 @@ def _end_of_sound(spot: Spot) -> Optional[str]:
         for meant in (sum_at(text), length_at(text)):
             if meant and begun + len(meant.wrote) > spot.place:
                 return spot.write(meant.why, begun, begun + len(meant.wrote), meant.write)
-    if here.kind in ("volume", "gate", "channel", "artic", "loud") and not spot.is_over_line:
-        behind = spot.after[1:4]
-        values = [each.text for each in behind if each.kind == NUMBER]
-        if not any(each.text in ("{", "[") for each in behind) and values:
-            return (f"`{here.kind}` holds for a block, and stands round it: write `{here.kind} {values[0]} "
-                    f"{{ {statement_text(spot)} }}`")
+    if here.kind in _ROUND and not spot.is_over_line and _block_round(spot):
+        return _block_round(spot)
     if spot.is_over_line:
         return None
+    if here.kind in ("loud", "volume") and spot.next().kind in (";", "}", END):
+        return by_index("dynamics")
+    if here.text in ("+", "&", "and", "then", "|", ">", "-") and is_statement(spot.next()):
+        return f"each statement ends with `;`: {ended(spot)}, and take the `{here.text}` away"
+    if re.match(r"x ?[0-9]+(?![a-z0-9_])|(?:twice|times)\b", spot.rest):
+        count = re.match(r"x ?([0-9]+)", spot.rest)
+        return f"a loop plays it more than once: write `repeat {count[1] if count else 2} {{ {statement_text(spot)} }}`"
     rest = re.match(r"r([0-9]+\.*)?(?![a-z0-9_])", spot.rest)
     if rest:
         length = length_at(rest[1] or "4")
@@ -123,6 +139,10 @@ def _end_of_do(spot: Spot) -> Optional[str]:
     here, name = spot.here, spot.last.text
     if spot.is_over_line:
         return None
+    if here.kind == NUMBER and spot.next().kind == "/":
+        return f"a phrase has its own lengths: write `do {name};`"
+    if here.kind in _ROUND and _block_round(spot):
+        return _block_round(spot)
     if here.kind == NUMBER or here.text in ("*",) or here.text == "x":
         number = here.text if here.kind == NUMBER else spot.next().text
         count = number if number.isdigit() else "4"

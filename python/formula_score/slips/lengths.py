@@ -116,6 +116,9 @@ def _behind_pitch(spot: Spot) -> Optional[str]:
             return f"{meant.why}: write `{meant.write}` in place of `{meant.wrote}`"
     if here.kind == "/" and spot.statement[-2].text == "key" and spot.next(2).kind in (";", "}", END):
         return "a number is missing behind `key`: write `note key 60 1/4;`"
+    signed = re.match(r"[-+*=]\s*([0-9]+ ?/ ?[0-9]+|ticks [0-9]+)\s*[;}]", spot.rest)
+    if signed:
+        return spot.write("a length has no sign", spot.place, spot.next().start, "")
     if here.kind in ("+", "-", "*", "/", "%") and spot.statement[-2].text in ("key", "-"):
         return parenthesized(spot, spot.last.start)
     if here.kind == "+":
@@ -178,9 +181,11 @@ def _length_of_rest(spot: Spot) -> Optional[str]:
         return "a computed length is written as ticks: write `rest ticks (E) max N;`"
     if here.kind == "/" and spot.next().kind == NUMBER:
         return _without_number(spot)
+    if here.kind in ("-", "+") and spot.next().kind == NUMBER:
+        return spot.write("a length has no sign", spot.place, spot.next().start, "")
     if here.kind in ("=", ",") or here.text == ":":
         return spot.write(f"no `{here.text}` stands there", spot.place, spot.place + 1, " ")
-    return by_index(here.text) if here.kind == NAME else None
+    return None
 
 
 def _length_of_rhythm(spot: Spot) -> Optional[str]:
@@ -192,6 +197,8 @@ def _length_of_rhythm(spot: Spot) -> Optional[str]:
         return "a rhythm has lengths alone: write `rhythm [1/4] { play c4; play e4; }`"
     if here.kind == ",":
         return "a length is missing before this `,`: write it, or take the `,` away"
+    if re.match(r"r[0-9]*(?![a-z0-9_])|rest\b|skip\b", spot.rest):
+        return "a rhythm has lengths alone, and `skip` takes one in silence: write `rhythm [1/4, 1/8] { play c4; skip; }`"
     if here.kind in ("(", REGISTER, INDEX, *FUNCTIONS, "pick"):
         return "the lengths of a rhythm are written, and never computed: write `rhythm [1/4, 1/8] { .. }`"
     return "a rhythm has lengths alone: write `rhythm [1/4, 1/8] { .. }`"
@@ -233,6 +240,9 @@ def at_slash(spot: Spot) -> Optional[str]:
     if here.kind == NAME:
         return "a length is a part of a whole note, as `1/4`, or `ticks N`"
     meant = length_at(spot.source[start:])
+    if spot.head == "shape" and here.kind in ("by", ",", ";", "}", END):
+        number = spot.last.text
+        return f"a length is a part of a whole note: write `{number}/1` for {number} of them, or `1/{number}`"
     if meant and start + len(meant.wrote) >= spot.last.end:
         if spot.head == "shape" and here.kind == "by" or here.kind != OTHER or len(meant.wrote) > len(spot.last.text):
             return write_length(spot, start, meant.wrote, meant.write, meant.why)

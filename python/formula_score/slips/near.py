@@ -30,7 +30,8 @@ def near(word: str, words: Iterable[str]) -> list[str]:
             continue
         if abs(len(each) - len(word)) <= most and len(each) > 1:
             found.setdefault(distance(word, each), []).append(each)
-        elif each not in KEYWORDS and len(each) > 3 and len(word) > 3 and (word.startswith(f"{each}_") or each.startswith(f"{word}_")):
+        elif each not in KEYWORDS and min(len(each), len(word)) > 3 and (
+                word.startswith(f"{each}_") or each.startswith(f"{word}_")):
             found.setdefault(most, []).append(each)
     for amount in range(most + 1):
         if amount in found:

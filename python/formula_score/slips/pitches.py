@@ -25,7 +25,8 @@ def at_pitch(spot: Spot) -> Optional[str]:
     """Where a pitch is expected."""
     here, head = spot.here, spot.head
     commas = spot.last.text == ","
-    if here.kind == NAME and here.text in spot.names and not pitch_at(spot.text):
+    if here.kind == NAME and here.text in spot.names and (
+            not pitch_at(spot.text) or head == "play" and spot.next().kind == ";"):
         return f"`{here.text}` is a phrase: write `do {here.text};`" if here.text in spot.phrases else None
     if here.kind == NAME and re.fullmatch(r"r[0-9]*|rest|silence|pause", here.text) or here.kind == "rest":
         return _rest_for_note(spot)
@@ -88,6 +89,8 @@ def _rest_for_note(spot: Spot) -> str:
 
 def _number_for_pitch(spot: Spot, commas: bool) -> str:
     here, head = spot.here, spot.head
+    if head == "play" and spot.next().kind == "/":
+        return "`play` takes its length from the `rhythm` round it: write `play c4;`, or `note c4 1/4;`"
     if spot.next().kind == "/" and commas:
         return spot.write("no comma stands before the length", spot.last.start, spot.last.end, "")
     if spot.next().kind == "/" and spot.next(2).kind == NUMBER:
@@ -167,6 +170,8 @@ def _chord(spot: Spot) -> str:
     if pitches and not left and found:
         return spot.write("the pitches of a chord stand between commas, without brackets", spot.place,
                           spot.place + len(found[0].encode()), ", ".join(pitches) + " ")
+    if begin == "(" and re.match(r"\(\s*(?:key|note)\b", spot.rest):
+        return "a note has no parentheses round its pitch: take the `(` and its `)` away"
     if begin == "(":
         if found and not re.search(r"[a-g][sb]?[0-9]\b", inner):
             return spot.write("a computed pitch is `key` and parentheses", spot.place, spot.place, "key ")
@@ -240,10 +245,11 @@ def at_amount(spot: Spot) -> Optional[str]:
         found = _named_number(spot, re.match(r"([a-z0-9_]+(?: [a-z0-9]+)*)", spot.rest))
         if found:
             return found
+    form = "note key 60 1/4;" if spot.where == "key" else FORMS.get(head, "")
     if here.kind in (";", "}", END):
-        return f"a number is missing: write `{FORMS[head]}`" if head in FORMS else None
+        return f"a number is missing: write `{form}`"
     if here.kind == "[" or here.kind == "{":
-        return f"one number stands there: write `{FORMS.get(head, 'note key 60 1/4;')}`"
+        return f"one number stands there, without brackets: write `{form}`"
     return None
 
 
@@ -252,6 +258,9 @@ def _named_number(spot: Spot, found: Optional[re.Match[str]]) -> Optional[str]:
     if found is None:
         return None
     head = spot.head
+    quoted = pitch_at(spot.rest.strip("\"'"))
+    if spot.where == "key" and spot.here.text in ("\"", "'") and quoted and quoted.write:
+        return f"a pitch by its name has no `key`, and no quotes: write `note {quoted.write} 1/4;`"
     name = found[1].lower().replace("_", " ").strip()
     if head == "program":
         return instrument(name) or "an instrument is its number in General MIDI, counted from 0: write `program 73;`"

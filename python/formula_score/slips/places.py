@@ -26,6 +26,11 @@ def at_seed(spot: Spot) -> Optional[str]:
 def at_head(spot: Spot) -> Optional[str]:
     """Where `formula` or its version is expected."""
     here = spot.here
+    later = re.search(r"(?:^|[\s;])formula\s*([12])\s*;", spot.rest)
+    if spot.where == "formula" and later and not near(here.text, ["formula"]):
+        if re.match(r"//|/\*|--|%|[\"'“„«]|[A-Za-z ]+:", spot.text):
+            return "a comment begins with `#`, and other text stands in one: write `#` before it"
+        return f"the head stands first: move `formula {later[1]};` before {spot.shown(here)}"
     if spot.where == "version":
         return "the version stands behind `formula`: write `formula 1;`"
     if here.kind == END:

@@ -32,7 +32,7 @@ def end_of_shape(spot: Spot) -> Optional[str]:
         return f"a `{kind}` has a length alone: take the `by` and its number away"
     if here.kind == "%":
         return "stretches are in thousandths: 1000 is as written, and 2000 half as fast"
-    if here.text in (".", ":", ";", "|") and spot.next().kind in PARTS:
+    if here.text in (".", ":", ";", "|", "and", "then", "+") and spot.next().kind in PARTS:
         return f"commas stand between the parts of a shape: write `,` in place of the `{here.text}`"
     if here.text in (".", "/") and spot.statement[-2].text in ("by", "to"):
         return thousandths(spot)
@@ -78,6 +78,8 @@ def at_by(spot: Spot) -> Optional[str]:
     if here.kind in ("=", "*") or here.text in (":", "@") or here.kind == NAME and spot.next().kind == NUMBER:
         end = spot.place + len(here.text)
         return spot.write("a `by` stands before the stretch", spot.place, end, "by")
+    if here.kind == "," and spot.next().kind == "by":
+        return spot.write("no comma stands before `by`", spot.place, spot.place + 1, "")
     start = next((each.start for each in reversed(spot.statement[:-1]) if each.kind == NUMBER), None)
     if start is not None and here.kind in ("+", "-") or here.text == "." and start is not None:
         for meant in (sum_at(spot.source[start:]), length_at(spot.source[start:])):
@@ -109,6 +111,8 @@ def at_to(spot: Spot) -> Optional[str]:
         return spot.write("a `to` stands between the two stretches", spot.place, end, " to ")
     if here.kind == "/" or here.text == ".":
         return thousandths(spot)
+    if here.kind == "," and spot.next().kind == "to":
+        return spot.write("no comma stands before `to`", spot.place, spot.place + 1, "")
     if here.kind in (";", ",", "}", "{", END) or spot.is_over_line:
         return insert(spot, "a `slope` goes from one stretch to another, and `flat` has one", " to 1500")
     return "the stretches of a `slope` are two numbers of thousandths: write `slope 1/1 by 1000 to 1500`"

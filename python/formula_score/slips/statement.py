@@ -24,7 +24,8 @@ _ELSEWHERE = {
     "let": "set", "var": "set", "int": "set", "const": "set", "assign": "set",
     "cc": "control", "controller": "control", "ctrl": "control", "pc": "program", "prog": "program",
     "midichannel": "channel", "chan": "channel", "ch": "channel", "parallel": "par", "simultaneous": "par",
-    "together": "par", "both": "par", "curve": "shape", "envelope": "shape", "when": "if", "unless": "if",
+    "together": "par", "both": "par", "fork": "par", "split": "par", "ppq": "division", "tpqn": "division",
+    "resolution": "division", "curve": "shape", "envelope": "shape", "when": "if", "unless": "if",
     "elif": "else", "elseif": "else", "elsif": "else", "otherwise": "else", "tone": "note", "pitch": "note",
     "n": "note", "noteon": "note", "note_on": "note", "random_seed": "seed", "randomize": "seed", "srand": "seed",
     "use_random_seed": "seed", "articulation": "artic", "dynamics_list": "loud", "quantize": "gate",
@@ -117,6 +118,8 @@ def at_statement(spot: Spot) -> Optional[str]:
         return by_index(word)
     if word in _ELSEWHERE and not (word in ("r", "s", "n") and after.kind == "="):
         return _elsewhere(spot, _ELSEWHERE[word])
+    if len(word) == 1 and after.kind == NAME and musical(after.text):
+        return by_index(after.text)
     if pitch_at(spot.text) and not (len(word) == 1 and after.kind in ("=", NUMBER) and word not in "abcdefg"):
         return _pitch(spot)
     rest = re.match(r"r([0-9]+)(?![a-z0-9_])", spot.rest)
@@ -129,13 +132,18 @@ def at_statement(spot: Spot) -> Optional[str]:
         return instrument(named[1].replace("_", " ")) or by_index(word)
     if line and line.words == "instrument" and number and int(number) <= 127:
         return f"an instrument is a program, counted from 0: write `program {number};`"
+    second = re.match(r"[a-z_]+\W*[0-9]+\s*(?:to|-|\.\.|->)\s*([0-9]+)", spot.rest)
+    if line and line.words == "tempo" and second:
+        return by_index("accelerando")
     found = by_index(word, number)
     if found:
         return found
     if len(word) > 3 and any(word == each or re.search(rf"\b{word}\b", each) for each in INSTRUMENTS):
         return instrument(word)
-    if re.match(r"[a-z0-9_]+\s*(?:\(\s*\))?\s*[:=]?\s*\{", spot.rest) and not near(word, STATEMENTS):
-        return f"music with a name is a `phrase`: write `phrase {word} {{ .. }}`, and play it by `do {word};`"
+    behind_if = spot.last.text == "}" and spot.reading.closed.word == "if"
+    if re.match(r"[a-z0-9_]+\s*(?:\(\s*\))?\s*[:=]?\s*\{", spot.rest) and not behind_if and not near(
+            word, STATEMENTS):
+        return f"if `{word}` is a name, write `phrase {word} {{ .. }}`, and play it by `do {word};`"
     if after.kind in ("=",) or (after.text == ":" and spot.next(2).kind == "="):
         return f"only registers, `r0` to `r7`, have values: write `set r0 = ..;` in place of `{word}`"
     if spot.reading.version == 2 and near(word, ["division"]):
@@ -225,7 +233,8 @@ def _number(spot: Spot) -> Optional[str]:
         length = f"{number}/{spot.next(2).text}"
         if spot.next(3).kind == PITCH:
             return f"the pitch stands before the length: write `note {spot.next(3).text} {length};`"
-        return f"a length stands in a statement: write `rest {length};` for silence, or `note c4 {length};`"
+        return (f"a length stands in a statement, and a time signature is not in the file: write `rest {length};` for "
+                f"silence, or `note c4 {length};`")
     if re.match(r"[0-9]+ ?(x|\.?times|\*)(?![a-z0-9_])", spot.rest):
         return f"a loop begins with its word: write `repeat {number} {{ .. }}`"
     if spot.next().kind in ("repeat", "channel", "volume", "gate", "program", "bend"):
@@ -245,6 +254,9 @@ def _value(spot: Spot) -> Optional[str]:
         return _pitch(spot)
     if here.kind == INDEX:
         return "`n0` to `n15` are the indices of loops, and stand in an expression: `note key (60 + n0) 1/4;`"
+    written = re.match(r"r([0-9]+ ?/ ?[0-9]+)", spot.rest)
+    if written:
+        return f"a rest is written `rest {written[1]};`"
     if after.kind in ("=", "+", "-", "*", "/", "%") or after.text == ":":
         found = re.match(r"(r[0-7]) ?([-+*/%])= ?", spot.rest)
         if found:
@@ -337,6 +349,10 @@ def _keyword(spot: Spot) -> Optional[str]:
 
 def _elsewhere(spot: Spot, word: str) -> Optional[str]:
     written = spot.here.text
+    if word == "division" and spot.reading.version == 2 and spot.reading.read == 3:
+        return f"did you mean `{spot.mended(spot.place, spot.here.end, 'division') or 'division 96;'}`?"
+    if word == "division":
+        return _head_word(word, spot)
     if word == "repeat":
         number = next((each.text for each in spot.after[1:4] if each.kind == NUMBER), "4")
         return f"a loop is a `repeat`: write `repeat {number} {{ .. }}`"
@@ -361,6 +377,8 @@ def _elsewhere(spot: Spot, word: str) -> Optional[str]:
         return f"music with a name is a `phrase`: write `phrase {name} {{ .. }}`, and play it by `do {name};`"
     if word == "set":
         return "only registers, `r0` to `r7`, have values: write `set r0 = ..;`"
+    if word == "else" and spot.last.text == "}" and spot.next().text == "{":
+        return "an `if` has its other case behind `else`: write `else { .. }`"
     if word == "else" and spot.last.text == "}":
         return "a third case is an `if` in the block: write `else { if r1 { .. } }`"
     text = spot.mended(spot.place, spot.here.end, word, spot.place)

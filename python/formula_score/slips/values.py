@@ -47,6 +47,9 @@ def at_equals(spot: Spot) -> Optional[str]:
     if spot.head == "shape":
         if here.kind in ("flat", "slope", "pause", "breath"):
             return insert(spot, "a `=` stands before the parts of a shape", " =")
+        if here.kind in (NAME, "-") and re.match(r"[-a-z0-9_ ]{1,30}=", spot.rest):
+            name = re.sub(r"[^a-z0-9_]+", "_", spot.source[spot.last.start:].split("=")[0].strip())
+            return f"a name is one word, of letters, digits and `_`: write `shape {name} = ..`"
         if here.text == "{":
             return ("a shape has no block, and its parts stand behind a `=`: write `shape rit = slope 1/1 by 1000 to "
                     "1500;`")
@@ -98,6 +101,9 @@ def at_operator(spot: Spot) -> Optional[str]:
         if opened.word in ("min", "max", "less", "same") and here.text == ")" and "`,`" in spot.reading.expected:
             return (f"`{opened.word}` takes two values: write "
                     f"`{opened.word}({spot.source[opened.token.end:spot.place].strip()}, ..)`")
+        if "`,`" in spot.reading.expected and here.text in (";", ":", ".") and re.match(
+                r".\s*-?(?:[0-9]+|[rn][0-9]+)\s*\)", spot.rest):
+            return f"a `,` stands between the two values of `{opened.word}`: write it in place of the `{here.text}`"
         if "`,`" in spot.reading.expected and here.kind in (NUMBER, REGISTER, INDEX, "(", *FUNCTIONS):
             return f"a `,` stands between the two values of `{opened.word}`: write it behind `{spot.last.text}`"
         if here.kind == NUMBER and spot.next().kind == "/" and spot.head in ("note", "rest"):
@@ -117,6 +123,8 @@ def at_operator(spot: Spot) -> Optional[str]:
                     "or the `)`")
     elif here.kind == ")":
         return "there is no open `(` for this `)`: take it away"
+    if here.text == "?":
+        return "a value has no two cases: write `if E { set r0 = 5; } else { set r0 = 6; }`"
     if here.text == ".":
         return "values are whole numbers, without a decimal point"
     if here.kind == NAME and _logic(here.text, spot):
@@ -128,6 +136,8 @@ def at_operator(spot: Spot) -> Optional[str]:
     if spot.head == "set" and opened is None:
         if here.kind == NUMBER or here.kind in (REGISTER, INDEX):
             return f"an operator is missing: write one of `+ - * / %` between `{spot.last.text}` and `{here.text}`"
+        if here.kind == "," and spot.next().kind in (";", END, "}"):
+            return "a statement ends with `;` alone: take the `,` away"
         if here.kind == ",":
             return "a `set` gives one register a value: write a `set` for each"
         if here.kind == "max":
