@@ -15,7 +15,7 @@ from formula_score import BarError, CommandError, Meter, Refused, ScoreError, me
 from .program import PROGRAM, needs_program
 
 REFUSED = 37
-PLACE = "score:2:11: a length `a/b` that is no whole number of ticks, as `1/7` (fault 8)"
+PLACE = "score:2:11: `1/7` is 274.29 ticks, and no whole number of them (fault 8)"
 LONGEST = 120
 
 

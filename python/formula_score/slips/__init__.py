@@ -5,7 +5,7 @@ from __future__ import annotations
 import re
 from typing import NamedTuple, Optional
 
-from ..music import KEYWORDS
+from ..nodes import KEYWORDS
 from .bytes import at_byte, at_number
 from .places import AT
 from .ranges import known_name, no_ticks, out_of_range, unknown_name

@@ -7,7 +7,7 @@ from typing import Optional
 
 from ..index import musical
 from ..midi import DYNAMICS
-from ..music import KEYWORDS
+from ..nodes import KEYWORDS
 from .common import FUNCTIONS
 from .foreign import length_at, pitch_at
 from .near import near

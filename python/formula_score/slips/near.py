@@ -4,7 +4,7 @@ from __future__ import annotations
 
 from typing import Iterable
 
-from ..music import KEYWORDS
+from ..nodes import KEYWORDS
 
 
 def distance(one: str, other: str) -> int:
