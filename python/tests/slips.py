@@ -302,14 +302,17 @@ SLIPS = (
          "`seed` stands once, directly behind the head of the score or its division: move it there"),
     Slip("note c4 1/4; | note e4 1/4;", "note c4 1/4; note e4 1/4;", "1:14", 1,
          "`|` begins no word of the language",
-         "take the `|` away: a bar line is not in the file: a comment says which bar it is, or a phrase is one"),
+         "take the `|` away: a bar line is not in the file: a comment counts bars, and `scripts/score bars` checks "
+         "it, and tells the tick of a bar"),
     Slip("note c4 1/4 || note e4 1/4;", "note c4 1/4; note e4 1/4;", "1:13", 1,
          "`|` begins no word of the language",
-         "take the `||` away: a bar line is not in the file: a comment says which bar it is, or a phrase is one"),
+         "take the `||` away: a bar line is not in the file: a comment counts bars, and `scripts/score bars` checks "
+         "it, and tells the tick of a bar"),
     Slip("|: note c4 1/4; :|", "repeat 2 { note c4 1/4; }", "1:1", 1,
          "`|` begins no word of the language",
-         "repeat, first and second ending: write `repeat 2 { note c4 1/4; if n0 { note g4 1/4; } else { note e4 "
-         "1/4; } }` (`n0` is 0 the first time)"),
+         "repeat, first and second ending: write `repeat 2 { note c4 3/4; if n0 { note g4 1/4; } else { note e4 "
+         "1/4; } } # bars 1 to 2` (`n0` is 0 the first time; bars count as they are played, a repeat of one bar "
+         "twice)"),
     Slip("note c4 1/2~; note c4 1/8;", "note c4 5/8;", "1:12", 1,
          "`~` begins no word of the language",
          "tie: write `note c4 5/8;` (both lengths as one, over a bar line too)"),
@@ -329,7 +332,7 @@ SLIPS = (
     Slip("time 3/4; note c4 1/4;", "note c4 1/4;", "1:1", 3,
          "`time` begins no statement",
          "time signature: write `note c4 1/4; note e4 1/4; note g4 1/4;` (not in the file: lengths say all, as of a "
-         "bar of 3/4 here. `Meter` of `python/README.md` counts bars)"),
+         "bar of 3/4 here. `scripts/score bars --meter 3/4` counts bars, and so does `Meter` of `python/README.md`)"),
     Slip("tempo 90; note c4 1/4;", "shape tempo_90 = flat 500/1 by 1333; warp tempo_90 { note c4 1/4; }", "1:1", 3,
          "`tempo` begins no statement",
          "a tempo is a `warp` round the piece, by 120,000 divided by the tempo: write `shape tempo_90 = flat 500/1 "
@@ -361,8 +364,9 @@ SLIPS = (
          "staccato: write `gate 50 { note c4 1/4; note d4 1/4; }` (half of each length sounds)"),
     Slip("volta 1 { note c4 1/4; }", "repeat 2 { if same(n0, 0) { note c4 1/4; } }", "1:1", 3,
          "`volta` begins no statement",
-         "repeat, first and second ending: write `repeat 2 { note c4 1/4; if n0 { note g4 1/4; } else { note e4 "
-         "1/4; } }` (`n0` is 0 the first time)"),
+         "repeat, first and second ending: write `repeat 2 { note c4 3/4; if n0 { note g4 1/4; } else { note e4 "
+         "1/4; } } # bars 1 to 2` (`n0` is 0 the first time; bars count as they are played, a repeat of one bar "
+         "twice)"),
     Slip("transpose 5 { note c4 1/4; }", "note key (60 + 5) 1/4;", "1:1", 3,
          "`transpose` begins no statement",
          "transpose: write `phrase tune { note key (r0 + 60) 1/4; note key (r0 + 64) 1/4; } do tune; set r0 = 5; do "

@@ -93,11 +93,13 @@ def _count(spot: Spot) -> Optional[tuple[str, str]]:
     return None
 
 
-def _length(spot: Spot, over: str) -> tuple[str, str]:
+def _length(spot: Spot, over: str) -> Optional[tuple[str, str]]:
     commas = _count(spot)
     if commas:
         return commas
-    under = spot.next(2).text if spot.next().text == "/" else "1"
+    if spot.next().text != "/" or spot.next(2).kind != NUMBER:
+        return None
+    under = spot.next(2).text
     if int(under) == 0:
         return f"`{over}/{under}` is no length", "the number behind the `/` is not 0: write `1/4`"
     whole = whole_note(spot)

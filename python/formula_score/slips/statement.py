@@ -302,7 +302,7 @@ def _keyword(spot: Spot) -> Optional[str]:
     word = spot.here.text
     if word == "formula":
         return _head_word(word, spot)
-    if word in OUTSIDE:
+    if word in OUTSIDE and spot.reading.blocks:
         if lacks_brace(spot):
             return f"a `{word}` stands outside all blocks: write before it the `}}` of {open_block(spot)}"
         return f"a `{word}` stands outside all blocks: move it before `{spot.reading.blocks[0].word}`"
