@@ -35,7 +35,7 @@ def at_block(spot: Spot) -> Optional[str]:
         return _count(spot, spot.last.start)
     if head == "repeat" and (here.text in ("times", "x") or here.text == "*"):
         return f"the block stands directly behind the count: take `{here.text}` away"
-    if re.match(r"\.[0-9]", spot.rest):
+    if re.match(r"\.[0-9]|,[0-9]+\s*\{", spot.rest):
         return _whole(spot)
     if re.match(r"\.\.+ ?[0-9]|-[0-9]|->", spot.rest) and head == "volume":
         return by_index("crescendo")
@@ -70,8 +70,8 @@ def at_block(spot: Spot) -> Optional[str]:
 
 def _whole(spot: Spot) -> str:
     """A number with a decimal point, where a whole one stands."""
-    found = re.match(r"[0-9]+\.[0-9]+", spot.source[spot.last.start:])
-    value = float(found[0]) if found else 1.0
+    found = re.match(r"[0-9]+[.,][0-9]+", spot.source[spot.last.start:])
+    value = float(found[0].replace(",", ".")) if found else 1.0
     if spot.head in ("gate", "artic") and 0 < value <= 4:
         return f"numbers have no decimal point, and these are in percent: write `{round(100 * value)}`"
     if spot.head in ("volume", "loud") and 0 < value <= 1:

@@ -45,7 +45,7 @@ def at_byte(spot: Spot) -> Optional[str]:
     if text.startswith("♩") and re.match(r"♩\s*=\s*[0-9]+", text):
         number = re.match(r"♩\s*=\s*([0-9]+)", text)
         return by_index("tempo", number[1] if number else "")
-    if first in _SIGNS:
+    if first in _SIGNS and spot.where in ("length", "pitch", "entry"):
         return f"a length is a part of a whole note: write `{_SIGNS[first]}` in place of `{first}`"
     if first in "\u00a0\u2003\u2002\u2009\u202f\u3000\u200b\ufeff\u200e\u2028":
         return "this is a blank of another kind, or none that is seen: write a plain blank in its place"
@@ -72,6 +72,8 @@ def _capital(spot: Spot) -> Optional[str]:
     word = found[0] if found else spot.rest[:1]
     lower = word.lower()
     pitches = spot.where in ("pitch", "length", "key", "end") or spot.where == "statement"
+    if spot.where == "end" and spot.last.kind == NUMBER and spot.last.end == spot.place:
+        return AT["end"](spot)
     if spot.where == "statement" and re.match(r"[RZ][0-9]*(?![A-Za-z])", spot.rest):
         return "silence is a `rest`: write `rest 1/4;`"
     if spot.where == "statement" and re.match(r"[A-G](?:[#b]?[0-9]?\s+[A-G](?![a-z])|[TOLVA-G0-9<>]{4,})", spot.rest):

@@ -70,7 +70,7 @@ def _end_of_sound(spot: Spot) -> Optional[str]:
     if slash is not None and begun is None:
         begun = spot.statement[[each.start for each in spot.statement].index(slash) - 1].start
     if begun is not None and not spot.is_over_line:
-        text = spot.source[begun:begun + 200]
+        text = spot.source[begun:begun + 200].lower()
         if re.match(r"\.(?:\s*\Z|\s+[a-z])", spot.rest):
             length = length_at(text)
             return f"a statement ends with `;`: {ended(spot)}" + (

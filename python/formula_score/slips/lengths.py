@@ -198,7 +198,8 @@ def _length_of_rhythm(spot: Spot) -> Optional[str]:
     if here.kind == ",":
         return "a length is missing before this `,`: write it, or take the `,` away"
     if re.match(r"r[0-9]*(?![a-z0-9_])|rest\b|skip\b", spot.rest):
-        return "a rhythm has lengths alone, and `skip` takes one in silence: write `rhythm [1/4, 1/8] { play c4; skip; }`"
+        return ("a rhythm has lengths alone, and `skip` takes one in silence: write "
+                "`rhythm [1/4, 1/8] { play c4; skip; }`")
     if here.kind in ("(", REGISTER, INDEX, *FUNCTIONS, "pick"):
         return "the lengths of a rhythm are written, and never computed: write `rhythm [1/4, 1/8] { .. }`"
     return "a rhythm has lengths alone: write `rhythm [1/4, 1/8] { .. }`"
