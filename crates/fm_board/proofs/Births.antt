@@ -23,17 +23,25 @@ use Rattle.fm_strand.proofs.ValidLemmas.{lines-valid}
 use Rattle.fm_strand.specs.declared.strand.Strand.{Strand}
 use Rattle.fm_strand.specs.Strand as strands
 use Rattle.fm_strand.specs.Calls.{IsBegun}
+use Rattle.fm_strand.specs.Course.{steps_of}
+use Rattle.std.specs.Prelude.{All}
+use Rattle.std.proofs.lemmas.List.Elements.{All-nil}
 use Rattle.fm_core.specs.declared.sight.Sight.{Sight as Look}
 use Rattle.fm_board.specs.declared.about.About.{About}
 use Rattle.fm_board.specs.declared.room.Room.{Room}
 use Rattle.fm_board.specs.declared.view.Hold.{Hold}
+use Rattle.fm_board.specs.declared.view.Log.{Log}
 use Rattle.fm_board.specs.declared.view.Mind.{Mind}
 use Rattle.fm_board.specs.declared.view.View.{View}
 use Rattle.fm_board.specs.Answers.{IsBerth}
 use Rattle.fm_board.specs.Starting.{predecessors_of}
 use Rattle.fm_board.specs.Starting as answers
-use Rattle.fm_board.specs.Plays.{Begins, Marked, Place, spotted, starts}
-use Rattle.fm_board.specs.Seats.{IsOurs, Sight, carried, is_over}
+use Rattle.fm_core.specs.declared.step.Step.TheVariants.{Start}
+use Rattle.fm_board.specs.Runs.{Extends}
+use Rattle.fm_board.specs.Minds.{did, spotted, turned}
+use Rattle.fm_board.specs.Plays.{Begins, Marked, Place, Tells, starts}
+use Rattle.fm_board.specs.Seats.{IsOurs, Sight, carried}
+use Rattle.fm_board.specs.View.{is_over}
 use Rattle.fm_board.specs.StandsFor.{StandsForSome}
 use Rattle.fm_board.specs.View.{holding, lines_of, processes, waiting}
 use Rattle.fm_board.specs.Words.{IsSpoken, spell, word_at}
@@ -60,10 +68,11 @@ still_true (y ∷ ys) (suc i) zero e = e
 still_true (y ∷ ys) (suc i) (suc j) e = still_true ys i j e
 
 -- a predecessor that was found ended is marked, and those before it stay marked
-pub marked_more : (m m' : Mind) (ps : List ℕ) (n c r : ℕ) (t : Tag) (v : View) → is_ended t ≡ true → get_or ps n 0 < length m.over
-    → ((i : ℕ) → i < n → get_or m.over (get_or ps i 0) false ≡ true) → m' ≡ spotted m (get_or ps n 0) t c r v
+pub marked_more : (m m' : Mind) (ps : List ℕ) (n c r : ℕ) (t : Tag) (v : View) (xs : Log) → is_ended t ≡ true
+    → get_or ps n 0 < length m.over
+    → ((i : ℕ) → i < n → get_or m.over (get_or ps i 0) false ≡ true) → m' ≡ spotted m (get_or ps n 0) t c r v xs
     → (i : ℕ) → i < n + 1 → get_or m'.over (get_or ps i 0) false ≡ true
-marked_more m m' ps n c r t v ended near marked is i less =
+marked_more m m' ps n c r t v xs ended near marked is i less =
     ap (λ (y : Mind). get_or y.over (get_or ps i 0) false) is
     ∙ (ap (λ (b : Bool). get_or (set m.over (get_or ps n 0) b) (get_or ps i 0) false) ended
     ∙ dite (ℕ_discrete i n)
@@ -86,6 +95,8 @@ ours_still t a x y ours table view room = record {
   table = table ∙ ours.table;
   plan = ap (λ (v : View). v.plan) view ∙ ours.plan;
   room = room ∙ ours.room;
+  lead = ap (λ (v : View). v.lead) view ∙ ours.lead;
+  seats = ap (λ (v : View). v.seats) view ∙ ours.seats;
 }
 
 -- a word that is not 0 is of no unborn process
@@ -158,9 +169,9 @@ none_waits p h none_computed =
 pub begun_berth : (a : About) (t : TableId) (p : ℕ) (m m1 : Place) (r : Room) (s : Strand) (x : Sight) → IsOurs t a x → m.0 ≡ x.mind
     → (hit : Begins m p m1)
     → r ≡ hit.stock → s.process ≡ p → strands.InCourse a.plan s → strands.clock_of a.plan s ≡ start (plan_lines a.plan) p
-    → strands.rest a.plan s ≡ (line (plan_lines a.plan) p).events
+    → strands.rest a.plan s ≡ (line (plan_lines a.plan) p).events → strands.steps_left a.plan s ≡ steps_of a.plan p
     → IsBerth a p hit.hold (record { process = p; strand = s; outbox = r.outbox }) × (hit.hold.clock ≡ start (plan_lines a.plan) p)
-begun_berth a t p m m1 r s x ours is hit room process course clock whole =
+begun_berth a t p m m1 r s x ours is hit room process course clock whole steps =
     let starts_there : hit.hold.clock ≡ start (plan_lines a.plan) p =
     hit.clock ∙ ap (λ (q : PlanParts). start (plan_lines q) p) (ap (λ (y : Mind). y.view.plan) is ∙ ours.plan) in
     let none_yet : waiting a.plan hit.hold ≡ [] = none_waits a.plan hit.hold hit.computed in
@@ -178,6 +189,8 @@ begun_berth a t p m m1 r s x ours is hit room process course clock whole =
           rises = subst Rises (sym none_yet) tt;
           fresh = hit.fresh;
           over = λ e. let no = hit.was_ended in absurd (cc);
+          left = steps ∙ sym (hit.left ∙ ap (λ (q : PlanParts). steps_of q p) (ap (λ (y : Mind). y.view.plan) is ∙ ours.plan));
+          early = subst (All (λ e. e.time ≤ hit.hold.clock)) (sym none_yet) (All-nil (λ e. e.time ≤ hit.hold.clock));
         };
         process = refl;
       },
@@ -192,8 +205,9 @@ pub begun_as : (a : About) (t t1 t2 t3 : TableId) (p : ℕ) (m m1 m2 : Place) (o
     → answers.Begins a x p (record { process = p; strand = s; outbox = r.outbox }) (record { table = t3; mind = m2.0 })
 begun_as a t t1 t2 t3 p m m1 m2 o r s x ours hit now e f begun k2 k1 seen =
     let minds : m.0 ≡ x.mind = ap (λ (y : Sight). y.mind) seen in
+    let logs : m1.0.log ≡ m2.0.log = ap (λ (y : Place). y.0.log) (sym now) in
     let room : r ≡ hit.stock = same_some r hit.stock (sym e ∙ f) in
-    let berth = begun_berth a t p m m1 r s x ours minds hit room begun.process begun.course begun.clock begun.events in
+    let berth = begun_berth a t p m m1 r s x ours minds hit room begun.process begun.course begun.clock begun.events begun.steps in
     record {
       hold = hit.hold;
       is = record {
@@ -204,10 +218,14 @@ begun_as a t t1 t2 t3 p m m1 m2 o r s x ours hit now e f begun k2 k1 seen =
         none = none_waits a.plan hit.hold hit.computed;
         at = berth.1;
       };
+      tells = subst (λ (y : Mind). Tells y p Unborn 0) minds hit.tells;
       sight = λ i. record {
         table = (k2 ∙ (k1 ∙ ap (λ (y : Sight). y.table) seen)) i;
         mind = (ap (λ (y : Place). y.0) now ∙ (hit.mind
-            ∙ (ap (λ (n : ℕ). spotted m.0 p Out n 0 (holding m.0.view hit.hold)) (sym hit.clock)
-            ∙ ap (λ (y : Mind). spotted y p Out hit.hold.clock 0 (holding y.view hit.hold)) minds))) i;
+            ∙ (ap (λ (n : ℕ). turned (spotted m.0 p Out n 0 (holding m.0.view hit.hold) (did m.0 (Start m.0.view.number p) m1.0.log.seen)))
+            (sym hit.clock)
+            ∙ (λ j. turned (spotted (minds j) p Out hit.hold.clock 0 (holding (minds j).view hit.hold)
+            (did (minds j) (Start (minds j).view.number p) (logs j).seen)))))) i;
       };
+      extends = subst (λ (y : Mind × Log). Extends y.0.view.number y.0.log y.1) (λ i. (minds i, logs i)) hit.extends;
     }

@@ -1,5 +1,5 @@
 -- Claims and gives keep the rule.
-use Rattle.std.proofs.Common.{◌≡◌, ℕ, ◌-◌, ◌<◌, ◌≤◌, List, ◌∷◌, length, get_or, set, take, drop, true, false, Option, Some, None, refl, sym, ap, ◌∙◌, subst, inl, arith, eqb, eq-eqb, ne_eqb, get_or-set_same}
+use Rattle.std.proofs.Common.{◌≡◌, ℕ, ◌-◌, ◌<◌, ◌≤◌, List, [], ◌∷◌, ◌++◌, length, get_or, set, take, drop, true, false, Option, Some, None, refl, sym, ap, ◌∙◌, subst, inl, arith, eqb, eq-eqb, ne_eqb, get_or-set_same}
 use Rattle.std.specs.Prelude.{◌&&◌, nat_eq}
 use mathlib.Core.Option.{some, none}
 use lib.ListN.{get_elem?}
@@ -27,15 +27,21 @@ use Rattle.fm_strand.specs.Strand.{steps_left}
 use Rattle.fm_board.specs.declared.about.About.{About}
 use Rattle.fm_board.specs.declared.room.Room.{Room}
 use Rattle.fm_board.specs.declared.view.Hold.{Hold}
+use Rattle.fm_board.specs.declared.view.Log.{Log}
 use Rattle.fm_board.specs.declared.view.Mind.{Mind}
 use Rattle.fm_board.specs.Calls.{HasGiven, IsHold}
-use Rattle.fm_board.specs.Plays.{Finds, Hands, Place, claims, spotted}
-use Rattle.fm_board.specs.StandsFor.{AtHome, HoldsIn, IsHoldOf, IsSeat, IsViewOf, Shown, StandsFor, StandsForSome, StrandAt, Table, count, setting}
+use Rattle.fm_board.specs.Minds.{did, spotted, turned}
+use Rattle.fm_board.specs.Plays.{Finds, Hands, Place, claims}
+use Rattle.std.specs.Prelude.{All}
+use Rattle.fm_board.specs.StandsFor.{AtHome, Going, HoldsIn, IsHoldOf, IsSeat, IsViewOf, Shown, StandsFor, StandsForSome, StrandAt, Table, count, setting}
 use Rattle.fm_board.specs.View.{holding, waiting}
 use Rattle.fm_board.specs.Words.{spell, spelt, word_at}
 use Rattle.fm_board.proofs.Frames.{halt_other, halt_stays, Leaves, cell_moves, goes_out, no_word, places_stay, reseated, word_moves, written_stays}
+use Rattle.fm_board.proofs.Goings.{alone_on, goes_with, one_same, seen_known}
 use Rattle.fm_board.proofs.Looking.{tells}
-use Rattle.fm_board.proofs.Looks.{finds, lined, looks_on, says, sees_now, valid_of}
+use Rattle.fm_board.proofs.Runs.{begins_all, extends_on, extends_still, runs_on, runs_still}
+use Rattle.fm_board.proofs.Looks.{finds, found_tells, lined, says, sees_now, turned_seat, valid_of}
+use Rattle.fm_board.proofs.Found.{saw}
 
 pub same_some : {A : Type 0} (x y : A) → Some x ≡ Some y → x ≡ y
 same_some x y e = cc
@@ -106,6 +112,7 @@ module _ (a : About) (s : Table) (k : StandsForSome a s) (p id : ℕ) (m : Place
     was_ended = is_ended c.tag;
     recorded = false;
     written = 0;
+    left = k.going.left p;
   }
 
   here : get_or (set h.cells p (claimed c id)) p unborn ≡ claimed c id
@@ -121,6 +128,8 @@ module _ (a : About) (s : Table) (k : StandsForSome a s) (p id : ℕ) (m : Place
   view : IsViewOf a h' id (holding m.0.view hold)
   view = record {
     plan = seat.is.plan;
+    lead = seat.is.lead;
+    seats = seat.is.seats;
     number = seat.is.number;
     holds = (
       omega (arith, leaves.cells, inside),
@@ -132,14 +141,18 @@ module _ (a : About) (s : Table) (k : StandsForSome a s) (p id : ℕ) (m : Place
     paced = seat.is.paced;
   }
 
-  mine : IsSeat a h' id (spotted m.0 p c.tag c.clock (get_or s.words (word_at p) 0) (holding m.0.view hold))
-  mine = sees_now a h' id p m.0 (holding m.0.view hold) seat.here view seat.room
+  abbrev xs : Log
+  xs = did m.0 (Claim m.0.view.number p) (k.history.steps ++ Claim id p ∷ [])
+
+  mine : IsSeat a h' id (turned (spotted m.0 p c.tag c.clock (get_or s.words (word_at p) 0) (holding m.0.view hold) xs))
+  mine = turned_seat a h' id (spotted m.0 p c.tag c.clock (get_or s.words (word_at p) 0) (holding m.0.view hold) xs)
+      (sees_now a h' id p m.0 (holding m.0.view hold) seat.here view seat.room
       (λ e. let z = seat.zero e in
       record { lines = z.lines; due = z.due; visited = z.visited; gathered = z.gathered; released = z.released; published = z.published })
       seat.wide
       (λ q. let on = leaves.clock q in let known = seat.known q in omega arith)
       (λ q e. leaves.over q (seat.over q e))
-      c.tag c.clock (get_or s.words (word_at p) 0) (leaves.clock p) (leaves.over p)
+      c.tag c.clock (get_or s.words (word_at p) 0) xs (leaves.clock p) (leaves.over p))
 
   is_hold : IsHold m.0.view.plan m.0.room p hold strand_of.0 home.0.outbox
   is_hold = record {
@@ -152,13 +165,25 @@ module _ (a : About) (s : Table) (k : StandsForSome a s) (p id : ℕ) (m : Place
         ((tells (setting a) h (valid_of a).lines k.sound).rises p);
     fresh = refl;
     over = λ e. ap (λ (q : PlanParts). steps_left q strand_of.0) seat.is.plan ∙ strand_of.3 e;
+    left = ap (λ (q : PlanParts). steps_left q strand_of.0) seat.is.plan ∙ k.going.home p home.0 strand_of.0 home.1 strand_of.1;
+    early = subst (λ (q : PlanParts). All (λ e. e.time ≤ c.clock) (waiting q hold)) (sym seat.is.plan) (k.going.early p inside);
   }
+
+  going : (ws : List ℕ) → Going a (record {
+    words = ws;
+    homes = set s.homes p none;
+    views = set s.views id (turned (spotted m.0 p c.tag c.clock (get_or s.words (word_at p) 0) (holding m.0.view hold) xs));
+  }) h'
+  going ws = goes_with a s h k.going id m.0
+      (turned (spotted m.0 p c.tag c.clock (get_or s.words (word_at p) 0) (holding m.0.view hold) xs)) at ws p hold h'
+      (one_same a h h' p (claimed c id) refl inside refl (tag_is.3 ∙ sym tag_is.1) refl) refl refl refl
+      (seen_known a m.0 k.going.left p c.tag seat.is.plan (k.going.known id m.0 at) (λ b. k.going.born p inside b))
 
   -- the exchange hands out the process
   pub claim_wins : (old new slots : ℕ) → new ≡ spell (claimed_tag c.tag) c.clock id → get_or s.words (word_at p) 0 ≡ old
       → Won a s p id old new slots m new
   claim_wins old new slots is_new found =
-      let w : Mind = spotted m.0 p c.tag c.clock (get_or s.words (word_at p) 0) (holding m.0.view hold) in
+      let w : Mind = turned (spotted m.0 p c.tag c.clock (get_or s.words (word_at p) 0) (holding m.0.view hold) xs) in
       let allowed = may_claim (setting a) h id p seat.here inside
       (free (setting a) h id (subst (HoldsIn h id) holds seat.is.holds)) can in
       let shown : Shown (claimed c id) = record {
@@ -191,6 +216,12 @@ module _ (a : About) (s : Table) (k : StandsForSome a s) (p id : ℕ) (m : Place
             homes = set s.homes p none;
             views = set s.views id w;
           }) h') (sym is_new) stands;
+          history = runs_on a s.views h k.history id m.0 w at (Claim id p) allowed refl
+              (ap (λ (n : ℕ). m.0.log.mine ++ Claim n p ∷ []) seat.is.number) (begins_all (k.history.steps ++ Claim id p ∷ []));
+          going = going (set s.words (word_at p) new);
+          alone = alone_on a s id m.0 w (set s.words (word_at p) new) (set s.homes p none) at k.stands.views.made
+              (λ _ _ inside_now. absurd (let n = ap (λ (q : PlanParts). length q.programs) seat.is.plan in
+              omega (arith, inside_now, n)));
         },
         λ q e. let same : p ≡ q = omega (arith, e) in (
           (λ _ t clock n small spells.
@@ -203,40 +234,16 @@ module _ (a : About) (s : Table) (k : StandsForSome a s) (p id : ℕ) (m : Place
                 is = is_hold;
                 was_ended = refl;
                 clock = refl;
+                behind = k.going.known id m.0 at p near;
+                tells = found_tells a s k id p m.0 at seat inside;
                 mind = refl;
+                extends = extends_on a s.views h k.history id m.0 w at (Claim id p) refl
+                    (ap (λ (n : ℕ). m.0.log.mine ++ Claim n p ∷ []) seat.is.number) refl m.0.view.number seat.is.number;
                 out = ap (λ (o : Option Strand). (p, Some (record { strand = o; outbox = home.0.outbox })) ∷ m.1) strand_of.1;
               })),
           (λ n. absurd (n found)),
         ),
       )
-
--- the seat's view, with what it found of a process that is as it was
-pub saw : (a : About) (s : Table) (k : StandsForSome a s) (p id : ℕ) (m : Mind) (cs : List (ℕ × Option Room))
-    → get_elem? s.views id ≡ some m
-    → p < length k.core.cells
-    → StandsForSome a (stepped s (word_at p) (get_or s.words (word_at p) 0) id cs
-    (spotted m p (cell k.core p).tag (cell k.core p).clock (get_or s.words (word_at p) 0) m.view) keeps)
-saw a s k p id m cs at inside =
-    let h : State = k.core in
-    let seat = k.stands.views.viewed id m at in
-    let l : Leaves h h id = record {
-      desks = refl;
-      cells = refl;
-      desk = λ j n. refl;
-      held = λ j q n. refl;
-      hold = λ j q n e. refl;
-      clock = λ q. omega arith;
-      over = λ q e. e;
-      zero = λ n. record { due = refl; visited = refl; gather = refl; released = refl; floor = refl };
-    } in
-    let mine = sees_now a h id p m m.view seat.here seat.is seat.room seat.zero seat.wide seat.known seat.over (cell h p).tag
-    (cell h p).clock (get_or s.words (word_at p) 0) (omega arith) (λ e. e) in
-    record {
-      core = h;
-      sound = k.sound;
-      stands = looks_on a s k (word_at p) id m (spotted m p (cell h p).tag (cell h p).clock (get_or s.words (word_at p) 0) m.view) cs h at
-          refl refl refl l refl refl mine;
-    }
 
 -- a claim is the core's claim where the word is the expected one, and none else
 pub claims_of : (a : About) (slots id p clock n old new : ℕ) (t : Tag) (m : Place) → m.0.view.holds ≡ None → p < count a → n ≤ 16
@@ -254,15 +261,16 @@ claims_of a slots id p clock n old new t m holds near small_n can is_old is_new 
     let spells : new ≡ spell (claimed_tag (cell h p).tag) (cell h p).clock id =
     is_new ∙ (λ i. spell (claimed_tag (sym is.0 i)) (sym is.1 i) (seat.is.number i)) in
     claim_wins a s k p id m at holds near can' old new slots spells found)
-    (λ other. (
-      spotted m.0 p (cell h p).tag (cell h p).clock (get_or s.words (word_at p) 0) m.0.view,
+    (λ other.
+    let w : Mind = spotted m.0 p (cell h p).tag (cell h p).clock (get_or s.words (word_at p) 0) m.0.view m.0.log in (
+      w,
       keeps,
       tt,
-      saw a s k p id m.0 m.1 at inside,
+      saw a s k p id m.0 m.1 m.0.log at inside (runs_still a s.views h k.history id m.0 w at refl),
       λ q e. let same : p ≡ q = omega (arith, e) in (
         (λ found. absurd (other found)),
-        (λ _. subst (λ (z : ℕ). Finds m z (get_or s.words (word_at p) 0) (λ t c. m.0.view)
-            (spotted m.0 p (cell h p).tag (cell h p).clock (get_or s.words (word_at p) 0) m.0.view, m.1)) same
-            (finds a s k id p m.0 m.1 (λ t c. m.0.view) seat inside)),
+        (λ _. subst (λ (z : ℕ). Finds m z (get_or s.words (word_at p) 0) (λ t c. m.0.view) (λ t. m.0.log) (w, m.1)) same
+            (finds a s k id p m.0 m.1 (λ t c. m.0.view) (λ t. m.0.log) at seat inside
+            (extends_still a s.views h k.history id m.0 w at refl m.0.view.number))),
       ),
     ))

@@ -1,5 +1,5 @@
 -- Words that a seat finds one after the other.
-use Rattle.std.proofs.Common.{◌≡◌, ℕ, zero, suc, ◌+◌, ◌<◌, ◌≤◌, List, [], ◌∷◌, ◌++◌, length, take, get_or, set, max, map, Bool, true, false, None, refl, sym, ap, ◌∙◌, subst, arith, get_or-set_same}
+use Rattle.std.proofs.Common.{◌≡◌, ℕ, ◌+◌, ◌<◌, ◌≤◌, List, [], ◌∷◌, ◌++◌, length, take, get_or, set, max, map, Bool, true, false, None, refl, sym, ap, ◌∙◌, subst, arith, get_or-set_same}
 use Rattle.std.proofs.lemmas.List.{take_all, take_more}
 use Rattle.atomic_table.specs.Seated.{TableId}
 use Rattle.fm_core.proofs.Elements.{take_none}
@@ -9,34 +9,28 @@ use Rattle.fm_program.specs.Parts.{PlanParts, process_program}
 use Rattle.fm_program.specs.Process.{plan_lines}
 use Rattle.fm_board.specs.declared.about.About.{About}
 use Rattle.fm_board.specs.declared.seen.Seen.{Seen}
+use Rattle.fm_board.specs.declared.view.Log.{Log}
 use Rattle.fm_board.specs.declared.view.Mind.{Mind}
 use Rattle.fm_board.specs.declared.view.View.{View}
 use Rattle.fm_board.specs.Answers.{Found}
+use Rattle.fm_board.specs.Minds.{recalled}
 use Rattle.fm_board.specs.Plays.{Marked}
 use Rattle.fm_board.specs.Seats.{IsOurs, Sight}
 use Rattle.fm_board.specs.Starting.{EndsFound, FindsEnd, FindsEnds, HasSeen, IsFirstLive, predecessors_of}
 use Rattle.fm_board.specs.View.{lines_of, processes}
+use Rattle.fm_board.proofs.Knowing.{found_knows, knows_none, knows_then}
 use Rattle.fm_board.proofs.Births.{greatest_more, marked_more, ours_still, waits_are, waits_below}
 
--- ---- what a seat knows of each process grows
-
-grown : (xs : List ℕ) (i j c : ℕ) → get_or xs i 0 ≤ c → get_or xs j 0 ≤ get_or (set xs i c) j 0
-grown [] i j c on = omega arith
-grown (x ∷ xs) zero zero c on = on
-grown (x ∷ xs) zero (suc j) c on = omega arith
-grown (x ∷ xs) (suc i) zero c on = omega arith
-grown (x ∷ xs) (suc i) (suc j) c on = grown xs i j c on
-
-still : (xs : List Bool) (i j : ℕ) (b : Bool) → (get_or xs i false ≡ true → b ≡ true) → get_or xs j false ≡ true
-    → get_or (set xs i b) j false ≡ true
-still [] i j b stays e = e
-still (x ∷ xs) zero zero b stays e = stays e
-still (x ∷ xs) zero (suc j) b stays e = e
-still (x ∷ xs) (suc i) zero b stays e = e
-still (x ∷ xs) (suc i) (suc j) b stays e = still xs i j b stays e
+-- ---- what a seat knows grows
 
 pub seen_none : (x : Sight) → HasSeen x x
-seen_none x = record { table = refl; view = refl; made = refl; room = refl; known = λ q. omega arith; over = λ q e. e }
+seen_none x = record {
+  table = refl;
+  view = refl;
+  made = refl;
+  room = refl;
+  knows = knows_none x.mind;
+}
 
 pub seen_then : (x y z : Sight) → HasSeen x y → HasSeen y z → HasSeen x z
 seen_then x y z before after = record {
@@ -44,22 +38,19 @@ seen_then x y z before after = record {
   view = after.view ∙ before.view;
   made = after.made ∙ before.made;
   room = after.room ∙ before.room;
-  known = λ q. let a = before.known q in let b = after.known q in omega arith;
-  over = λ q e. after.over q (before.over q e);
+  knows = knows_then x.mind y.mind z.mind before.knows after.knows;
 }
 
 -- a word that is found and is no look
-pub seen_found : (x y : Sight) (q : ℕ) (s : Seen) → Found x q s x.mind.view y → HasSeen x y
-seen_found x y q s found =
+pub seen_found : (x y : Sight) (q : ℕ) (s : Seen) (xs : Log) → Found x q s x.mind.view xs y → HasSeen x y
+seen_found x y q s xs found =
     let is = ap (λ (z : Sight). z.mind) found.sight in
     record {
       table = ap (λ (z : Sight). z.table) found.sight;
       view = ap (λ (m : Mind). m.view) is;
       made = ap (λ (m : Mind). m.made) is;
       room = ap (λ (m : Mind). m.room) is;
-      known = λ p. subst (λ (m : Mind). get_or x.mind.known p 0 ≤ get_or m.known p 0) (sym is)
-          (grown x.mind.known q p s.clock found.tells.on);
-      over = λ p e. ap (λ (m : Mind). get_or m.over p false) is ∙ still x.mind.over q p (is_ended s.tag) found.tells.still e;
+      knows = found_knows x q s x.mind.view xs y found;
     }
 
 -- ---- the predecessors of a process
@@ -82,7 +73,7 @@ waits_seen a t x p ps ours is = waits_are a p ps is ∙ ap (λ (q : PlanParts). 
 -- a predecessor is found before its end, those before it at their ends
 pub first_live : (a : About) (t : TableId) (x y z : Sight) (p q n : ℕ) (ps : List ℕ) (s : Seen) → IsOurs t a x
     → ps ≡ (process_program a.plan p).predecessors → n < length ps → FindsEnds x (take n ps) y → HasSeen x y → q ≡ get_or ps n 0
-    → Found y q s y.mind.view z → is_ended s.tag ≡ false → IsFirstLive x p q s z
+    → Found y q s y.mind.view (recalled y.mind q z.mind.log.seen s.tag) z → is_ended s.tag ≡ false → IsFirstLive x p q s z
 first_live a t x y z p q n ps s ours waits less are seen is found live =
     let lists = waits_seen a t x p ps ours waits in
     record {
@@ -92,7 +83,7 @@ first_live a t x y z p q n ps s ours waits less are seen is found live =
       before = y;
       finds = subst (λ (qs : List ℕ). FindsEnds x (take n qs) y) lists are;
       live = record { found = found; live = live };
-      seen = seen_then x y z seen (seen_found y z q s found);
+      seen = seen_then x y z seen (seen_found y z q s (recalled y.mind q z.mind.log.seen s.tag) found);
     }
 
 -- what is known once so many predecessors were found ended, the last of these ends at a tick
@@ -112,7 +103,8 @@ found_none a x ps = record {
 
 -- one more is found ended
 pub found_one : (a : About) (t : TableId) (x y z : Sight) (p n tick : ℕ) (ps : List ℕ) (s : Seen) → IsOurs t a x → p < processes x.mind.view
-    → ps ≡ (process_program a.plan p).predecessors → n < length ps → FoundSoFar a x ps n tick y → Found y (get_or ps n 0) s y.mind.view z
+    → ps ≡ (process_program a.plan p).predecessors → n < length ps → FoundSoFar a x ps n tick y
+    → Found y (get_or ps n 0) s y.mind.view (recalled y.mind (get_or ps n 0) z.mind.log.seen s.tag) z
     → length y.mind.over ≡ processes y.mind.view → is_ended s.tag ≡ true → FoundSoFar a x ps (n + 1) (max tick s.clock) z
 found_one a t x y z p n tick ps s ours there waits less far found wide ended =
     let below = waits_below a p n ps waits less in
@@ -123,8 +115,8 @@ found_one a t x y z p n tick ps s ours there waits less far found wide ended =
     found.tells.end ended ∙ ap (λ (q : PlanParts). (line (plan_lines q) (get_or ps n 0)).end) plans in
     record {
       finds = finds_more x y z ps n less far.finds (record { seen = s; found = found; ended = ended });
-      seen = seen_then x y z far.seen (seen_found y z (get_or ps n 0) s found);
-      marked = marked_more y.mind z.mind ps n _ _ _ _ ended near far.marked (ap (λ (v : Sight). v.mind) found.sight);
+      seen = seen_then x y z far.seen (seen_found y z (get_or ps n 0) s (recalled y.mind (get_or ps n 0) z.mind.log.seen s.tag) found);
+      marked = marked_more y.mind z.mind ps n _ _ _ _ _ ended near far.marked (ap (λ (v : Sight). v.mind) found.sight);
       latest = (λ k. max (far.latest k) (clock k)) ∙ sym (greatest_more (λ q. (line (plan_lines a.plan) q).end) ps n less);
     }
 
@@ -157,9 +149,10 @@ pub idle_seen : (x y : Sight) → x.mind.view.holds ≡ None → HasSeen x y →
 idle_seen x y idle seen = ap (λ (v : View). v.holds) seen.view ∙ idle
 
 -- a process that was found ended is marked so
-pub marked_now : (x y : Sight) (p : ℕ) (s : Seen) → Found x p s x.mind.view y → is_ended s.tag ≡ true → p < length x.mind.over
+pub marked_now : (x y : Sight) (p : ℕ) (s : Seen) (xs : Log) → Found x p s x.mind.view xs y → is_ended s.tag ≡ true
+    → p < length x.mind.over
     → get_or y.mind.over p false ≡ true
-marked_now x y p s found ended near =
+marked_now x y p s xs found ended near =
     ap (λ (z : Sight). get_or z.mind.over p false) found.sight
     ∙ (ap (λ (b : Bool). get_or (set x.mind.over p b) p false) ended ∙ get_or-set_same x.mind.over p true false near)
 

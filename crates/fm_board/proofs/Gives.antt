@@ -1,5 +1,5 @@
 -- A give keeps the rule.
-use Rattle.std.proofs.Common.{◌≡◌, ◌≢◌, ◌⊎◌, ℕ, ◌+◌, ◌-◌, ◌<◌, ◌≤◌, List, ◌∷◌, ◌++◌, length, get_or, set, take, drop, Bool, true, false, Option, Some, refl, sym, ap, ◌∙◌, subst, inl, inr, arith, eqb-true, ne_eqb, get_or-set_same, append-nil}
+use Rattle.std.proofs.Common.{◌≡◌, ◌≢◌, ◌⊎◌, ℕ, ◌+◌, ◌-◌, ◌^◌, ◌<◌, ◌≤◌, List, [], ◌∷◌, ◌++◌, length, get_or, set, take, drop, Bool, true, false, Option, Some, refl, sym, ap, ◌∙◌, subst, inl, inr, arith, eqb-true, ne_eqb, get_or-set_same, append-nil}
 use Rattle.std.specs.Prelude.{◌&&◌, ◌||◌, nat_eq, not, if◌then◌else◌, slice_set}
 use Rattle.std.proofs.lemmas.List.{length-drop, length-take}
 use mathlib.Core.Option.{some, none}
@@ -9,7 +9,7 @@ use Rattle.fm_line.specs.declared.line.Line.{Line}
 use Rattle.fm_line.specs.Line.{line}
 use Rattle.fm_core.proofs.Booleans.{both, clash, right_false, left_false}
 use Rattle.fm_core.proofs.Elements.{or_set, take_none}
-use Rattle.fm_core.proofs.Given.{given_ended, given_not_held, given_not_unborn}
+use Rattle.fm_core.proofs.Given.{given_ended, given_not_held, given_not_unborn, take_le}
 use Rattle.fm_core.proofs.GiveTests.{may_give}
 use Rattle.fm_core.proofs.Keeps as core
 use Rattle.fm_core.specs.Effects.{after, given, visits_by_give}
@@ -19,26 +19,40 @@ use Rattle.fm_core.specs.Taking.{count_due, is_due, outbox}
 use Rattle.fm_core.specs.Taking as taking
 use Rattle.fm_core.specs.declared.cell.Cell.{Cell}
 use Rattle.fm_core.specs.declared.due.Due.{Due}
+use Rattle.fm_core.specs.declared.step.Step.{Step}
 use Rattle.fm_core.specs.declared.step.Step.TheVariants.{Give}
 use Rattle.fm_core.specs.declared.tag.Tag.{Tag}
 use Rattle.fm_buffer.specs.Outbox.{EventQueue}
 use Rattle.fm_program.specs.Process.{plan_lines}
 use Rattle.fm_strand.specs.declared.strand.Strand.{Strand}
-use Rattle.fm_strand.specs.Strand.{clock_of}
+use Rattle.fm_strand.specs.Strand.{clock_of, steps_left}
+use Rattle.fm_strand.specs.Course.{steps_of}
+use Rattle.std.specs.Prelude.{All}
+use Rattle.std.proofs.lemmas.List.Elements.{All-append, All-drop, All-weaker}
+use Rattle.fm_msg.specs.Event.{TimedMessage}
+use Rattle.fm_program.specs.Parts.{PlanParts}
+use Rattle.fm_board.specs.Knowing.{Knows}
+use Rattle.fm_strand.proofs.WholeLemmas.{end-late}
+use Rattle.std.proofs.lemmas.List.{length-set}
+use Rattle.fm_board.proofs.Goings.{alone_on, back_home, changes, put_left, put_less, put_same}
 use Rattle.fm_board.specs.declared.about.About.{About}
 use Rattle.fm_board.specs.declared.room.Room.{Room}
 use Rattle.fm_board.specs.declared.view.Hold.{Hold}
+use Rattle.fm_board.specs.declared.view.Log.{Log}
 use Rattle.fm_board.specs.declared.view.Mind.{Mind}
 use Rattle.fm_board.specs.Calls as calls
 use Rattle.fm_board.specs.Given.{MayGiveAll}
-use Rattle.fm_board.specs.Plays.{GivesBack, Place, gives_back, noticed}
-use Rattle.fm_board.specs.StandsFor.{AtHome, IsSeat, IsSightOfZero, IsViewOf, Shown, StandsFor, StandsForSome, Table, count, setting}
-use Rattle.fm_board.specs.View.{gave}
+use Rattle.fm_board.specs.Minds.{did, noticed}
+use Rattle.fm_board.specs.Plays.{GivesBack, Place, gives_back}
+use Rattle.fm_board.specs.StandsFor.{AtHome, Going, HoldsIn, IsSeat, IsSightOfZero, IsViewOf, Shown, StandsFor, StandsForSome, Table, count, setting}
+use Rattle.fm_board.specs.View.{gave, giving, is_over, must_take, takes_of, waiting, waits_of}
 use Rattle.fm_board.specs.Words.{spell, spelt, word_at}
 use Rattle.fm_board.proofs.Frames.{halt_other, halt_stays, Leaves, cell_moves, comes_home, no_word, places_stay, reseated, word_moves, written_stays}
 use Rattle.fm_board.proofs.Giving.{allowed}
+use Rattle.fm_board.specs.Runs.{Extends}
+use Rattle.fm_board.proofs.Runs.{begins_all, extends_on, runs_on}
 use Rattle.fm_board.proofs.Looks.{lined, sees_now, valid_of}
-use Rattle.fm_board.proofs.Spellings.{one_word, yes_or_no}
+use Rattle.fm_board.proofs.Spellings.{one_word, set_or_same, yes_or_no}
 use Rattle.fm_board.proofs.Views as views
 
 same_some : {A : Type 0} (x y : A) → Some x ≡ Some y → x ≡ y
@@ -136,6 +150,8 @@ module _ (a : About) (s : Table) (k : StandsForSome a s) (p id : ℕ) (m : Mind)
   view : IsViewOf a h' id (gave m.view)
   view = record {
     plan = seat.is.plan;
+    lead = seat.is.lead;
+    seats = seat.is.seats;
     number = seat.is.number;
     holds = λ j lt. or_set (λ (x : Cell). held_by id x ≡ false) h.cells p j home unborn inside
         (λ _. left_false (is_held home.tag) (nat_eq 0 id) free_now) (λ n. only j (omega (arith, leaves.cells, lt)) n);
@@ -153,9 +169,107 @@ module _ (a : About) (s : Table) (k : StandsForSome a s) (p id : ℕ) (m : Mind)
 
   at_home : AtHome a p home (brought t box)
   at_home = record {
-    strand = (all.strand, (λ e. may.over (sym ends_is ∙ (sym ended_is ∙ e))));
+    strand = (all.strand, (λ e. may.over (sym ends_is ∙ (sym ended_is ∙ e))), given_not_unborn a.room left all.ends);
     box = λ i. record { room = may.room i; events = all.home i };
     recorded = sym all.recorded ∙ sym ended_is;
+  }
+
+  -- the steps of all seats then
+  abbrev pub all_steps : List Step
+  all_steps = k.history.steps ++ Give id p all.taken all.computed now all.ends ∷ []
+
+  -- and the seat's log
+  abbrev xs : Log
+  xs = did m (giving m.view p (length box.events) now) all_steps
+
+  takes_are : takes_of m.view m.view.holds ≡ all.taken
+  takes_are = ap (takes_of m.view) all.is_hold ∙ sym all.takes
+
+  counts_are : length box.events + takes_of m.view m.view.holds - waits_of m.view m.view.holds ≡ all.computed
+  counts_are =
+      let waits = ap (waits_of m.view) all.is_hold ∙ ap length all.waits in
+      let few : all.taken ≤ c.computed - c.taken = rw all.allowed.take (take_le (setting a) h id p) in
+      let fits = k.sound.fits p inside in
+      let below = fits.taken in
+      let within = fits.computed in
+      let long = waiting_is in
+      let first = length-take (c.computed - c.taken) (drop c.taken l.events) in
+      let second = length-drop c.taken l.events in
+      let takes = takes_are in
+      omega (arith, waits, few, below, within, long, first, second, takes)
+
+  steps_are : xs.mine ≡ m.log.mine ++ Give id p all.taken all.computed now all.ends ∷ []
+  steps_are =
+      let over : is_over m.view.holds ≡ all.ends = ap is_over all.is_hold ∙ sym all.is_ends in
+      λ i. m.log.mine ++ Give (seat.is.number i) p (takes_are i) (counts_are i) now (over i) ∷ []
+
+  held_left : may.h.left ≡ k.going.left p
+  held_left = k.going.held id m at may.h may.is ∙ ap k.going.left may.process
+
+  few : steps_left a.plan t ≤ steps_of a.plan p
+  few =
+      let course = may.strand.course.numbers in
+      subst (λ (j : ℕ). steps_left a.plan t ≤ steps_of a.plan j) may.strand.process (omega (arith, course))
+
+  less : steps_left a.plan t ≤ k.going.left p
+  less = let fewer = may.fewer in let is = held_left in omega (arith, fewer, is)
+
+  -- what waited when the seat was handed the process is what the core says
+  waited : waiting a.plan may.h ≡ outbox l c
+  waited =
+      (λ i. waiting (sym seat.is.plan i) (same_some may.h all.hold (sym may.is ∙ all.is_hold) i)) ∙ all.waits
+
+  -- and it is not after the clock of then, nor what was put after that of now
+  soon : All (λ e. e.time ≤ now) (outbox l home)
+  soon =
+      let old : All (λ e. e.time ≤ now) (waiting a.plan may.h) =
+      subst (All (λ e. e.time ≤ now)) (sym waited)
+      (All-weaker (λ (e : TimedMessage). e.time ≤ c.clock) (λ (e : TimedMessage). e.time ≤ now)
+      (λ e early. let on = all.allowed.on in omega (arith, on, early)) (outbox l c) (k.going.early p inside)) in
+      subst (All (λ e. e.time ≤ now)) (sym may.events ∙ all.home)
+      (All-append (λ (e : TimedMessage). e.time ≤ now) (drop (must_take m.view may.h) (waiting a.plan may.h)) may.put
+      (All-drop (λ (e : TimedMessage). e.time ≤ now) (must_take m.view may.h) (waiting a.plan may.h) old) may.before)
+
+  none_else : (j : ℕ) (u : Mind) (x : Hold) → j ≢ id → get_elem? s.views j ≡ some u → u.view.holds ≡ Some x → x.process ≢ p
+  none_else j u x n there holds same =
+      let o : HoldsIn h j (Some x) = subst (HoldsIn h j) holds (k.stands.views.viewed j u there).is.holds in
+      let held : held_by j c ≡ true = ap (λ (z : ℕ). held_by j (cell h z)) (sym same) ∙ o.1 in
+      let seats = both (is_held c.tag) (nat_eq c.seat j) held in
+      n (sym (eqb-true c.seat j seats.1) ∙ eqb-true c.seat id mine_now.1)
+
+  pub going : (tag : Tag) (ws : List ℕ) → Going a (record {
+    words = ws;
+    homes = set s.homes p (some (Some (brought t box)));
+    views = set s.views id (noticed m p tag now (steps_left a.plan t) (gave m.view) xs);
+  }) h'
+  going tag ws =
+      changes a s h k.going id m (noticed m p tag now (steps_left a.plan t) (gave m.view) xs) at ws
+      (set s.homes p (some (Some (brought t box)))) p (steps_left a.plan t) home h' refl inside (given_not_unborn a.room left all.ends)
+      few less soon (back_home a s h k.going p (steps_left a.plan t) (brought t box) t refl refl) (λ x e. absurd (cc)) none_else
+      (λ j lt. set_or_same m.left p (steps_left a.plan t) 0 (λ i n. i < count a → put_left k.going.left p (steps_left a.plan t) i ≤ n)
+      (λ i near. let one = put_less k.going.left p (steps_left a.plan t) i less in let two = k.going.known id m at i near in
+      omega (arith, one, two))
+      (λ near. let is = put_same k.going.left p (steps_left a.plan t) p refl in omega (arith, is)) j lt)
+
+  -- the seat knows no less then
+  pub knows : (tag : Tag) → is_ended tag ≡ is_ended home.tag
+      → Knows m (noticed m p tag now (steps_left a.plan t) (gave m.view) xs)
+  knows tag same = record {
+    left = set_or_same m.left p (steps_left a.plan t) 0 (λ j n. n ≤ get_or m.left j 0) (λ j. omega arith)
+        (let fewer = less in let known = k.going.known id m at p near in omega (arith, fewer, known));
+    known = set_or_same m.known p now 0 (λ j n. get_or m.known j 0 ≤ n) (λ j. omega arith)
+        (let on = all.allowed.on in let known = seat.known p in omega (arith, on, known));
+    over = set_or_same m.over p (is_ended tag) false (λ j b. get_or m.over j false ≡ true → b ≡ true) (λ j e. e)
+        (λ e. same ∙ (ended_is ∙ all.allowed.stays (seat.over p e)));
+    wide = λ n w. record {
+      left = length-set m.left p (steps_left a.plan t) ∙ w.left;
+      known = length-set m.known p now ∙ w.known;
+      over = length-set m.over p (is_ended tag) ∙ w.over;
+      low = set_or_same m.known p now 0 (λ j n. n ≤ 2 ^ 40) w.low
+          (let late = end-late a.plan t may.strand.course in let top = ((valid_of a).lines.ends t.process).0 in
+          omega (arith, late, top));
+    };
+    made = refl;
   }
 
   -- the rule after the store
@@ -163,22 +277,33 @@ module _ (a : About) (s : Table) (k : StandsForSome a s) (p id : ℕ) (m : Mind)
       → StandsForSome a (record {
         words = set s.words (word_at p) new;
         homes = set s.homes p (some (Some (brought t box)));
-        views = set s.views id (noticed m p tag now (gave m.view));
+        views = set s.views id (noticed m p tag now (steps_left a.plan t) (gave m.view) xs);
       })
   stands tag new same is_new =
-      let w : Mind = noticed m p tag now (gave m.view) in
-      let mine : IsSeat a h' id w = sees_now a h' id p m (gave m.view) seat.here view seat.room zero_sees seat.wide
+      let w : Mind = noticed m p tag now (steps_left a.plan t) (gave m.view) xs in
+      let allowed_now = may_give (setting a) h id p all.taken all.computed now all.ends all.allowed in
+      let sees = sees_now a h' id p m (gave m.view) seat.here view seat.room zero_sees seat.wide
       (λ q. let on = leaves.clock q in let known = seat.known q in omega arith)
       (λ q e. leaves.over q (seat.over q e))
-      tag now m.last (let clock = ap (λ (x : Cell). x.clock) here in omega arith)
+      tag now m.last xs (let clock = ap (λ (x : Cell). x.clock) here in omega arith)
       (λ e. ap (λ (x : Cell). is_ended x.tag) here ∙ (sym same ∙ e)) in
+      let mine : IsSeat a h' id w = record {
+        here = sees.here;
+        is = sees.is;
+        room = sees.room;
+        zero = sees.zero;
+        wide = sees.wide;
+        known = sees.known;
+        over = sees.over;
+      } in
       let shown : Shown home = record {
         idle = λ e. refl;
         unborn = λ e. absurd (clash (is_unborn home.tag) e (given_not_unborn a.room left all.ends));
       } in record {
         core = h';
-        sound = core.keeps (setting a) h (Give id p all.taken all.computed now all.ends) (valid_of a) k.sound
-            (may_give (setting a) h id p all.taken all.computed now all.ends all.allowed);
+        sound = core.keeps (setting a) h (Give id p all.taken all.computed now all.ends) (valid_of a) k.sound allowed_now;
+        history = runs_on a s.views h k.history id m w at (Give id p all.taken all.computed now all.ends) allowed_now refl steps_are
+            (begins_all all_steps);
         stands = subst (λ (n : ℕ). StandsFor a (record {
           words = set s.words (word_at p) n;
           homes = set s.homes p (some (Some (brought t box)));
@@ -193,7 +318,17 @@ module _ (a : About) (s : Table) (k : StandsForSome a s) (p id : ℕ) (m : Mind)
           halt = halt_stays a s.words (set s.words (word_at p) (spelt home)) s.views id m w at
               (halt_other a s.words p (spelt home) near) refl k.stands.halt;
         });
+        going = going tag (set s.words (word_at p) new);
+        alone = alone_on a s id m w (set s.words (word_at p) new) (set s.homes p (some (Some (brought t box)))) at k.stands.views.made
+            (λ _ _ inside_now. absurd (let n = ap (λ (q : PlanParts). length q.programs) seat.is.plan in
+            omega (arith, inside_now, n)));
       }
+
+  -- its log goes on
+  pub extended : (tag : Tag) → Extends m.view.number m.log (noticed m p tag now (steps_left a.plan t) (gave m.view) xs).log
+  extended tag =
+      extends_on a s.views h k.history id m (noticed m p tag now (steps_left a.plan t) (gave m.view) xs) at
+      (Give id p all.taken all.computed now all.ends) refl steps_are refl m.view.number seat.is.number
 
   -- the word that a give stores spells the process at home
   pub spells : (new : ℕ) → new ≡ spell (given_tag a.room (may.h.recorded || may.h.was_ended) (length box.events)) now 0 → new ≡ spelt home
@@ -208,17 +343,26 @@ gives_at : (a : About) (slots id p new : ℕ) (m : Mind) (cs : List (ℕ × Opti
 gives_at a slots id p new m cs t box may fits near is_new s k sized at small =
     let tag : Tag = given_tag a.room (may.h.recorded || may.h.was_ended) (length box.events) in
     let spells_it = spells a s k p id m at near t box may fits new is_new in
-    let same = one_word _ _ _ _ 0 0 (omega arith) (omega arith) (sym is_new ∙ spells_it) in (
-      noticed m p tag (clock_of a.plan t) (gave m.view),
+    let same = one_word _ _ _ _ 0 0 (omega arith) (omega arith) (sym is_new ∙ spells_it) in
+    let log : Log = did m (giving m.view p (length box.events) (clock_of a.plan t)) (all_steps a s k p id m at near t box may fits) in (
+      noticed m p tag (clock_of a.plan t) (steps_left a.plan t) (gave m.view) log,
       gives,
       tt,
       stands a s k p id m at near t box may fits tag new (ap is_ended same.0) spells_it,
       λ q t' c' n e small_n says.
           let is = one_word tag t' (clock_of a.plan t) c' 0 n (omega arith) small_n (sym is_new ∙ says) in
           let here : p ≡ q = omega (arith, e) in
-          subst (λ (y : ℕ × Tag × ℕ). GivesBack (m, (p, Some (brought t box)) ∷ cs) y.0 y.1 y.2
-          (noticed m p tag (clock_of a.plan t) (gave m.view), cs))
-          (λ i. (here i, is.0 i, is.1 i)) (record { mind = refl; out = refl }),
+          subst (λ (y : ℕ × Tag × ℕ). GivesBack (m, (p, Some (brought t box)) ∷ cs) y.0 y.1 y.2 (
+            noticed m p tag (clock_of a.plan t) (steps_left a.plan t) (gave m.view) log,
+            cs,
+          ))
+          (λ i. (here i, is.0 i, is.1 i)) (record {
+            mind = ap (λ (q : PlanParts). noticed m p tag (clock_of a.plan t) (steps_left q t) (gave m.view) log)
+                (sym (k.stands.views.viewed id m at).is.plan);
+            knows = knows a s k p id m at near t box may fits tag (ap is_ended same.0);
+            extends = extended a s k p id m at near t box may fits tag;
+            out = refl;
+          }),
     )
 
 pub gives_of : (a : About) (slots id p new : ℕ) (m : Place) (cs : List (ℕ × Option Room)) (t : Strand) (box : EventQueue)

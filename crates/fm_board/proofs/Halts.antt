@@ -1,5 +1,5 @@
 -- Halting and heeding change nothing of the core.
-use Rattle.std.proofs.Common.{◌≡◌, ◌≢◌, ℕ, List, length, get_or, set, true, refl, sym, ap, ◌∙◌, subst, ⊎_elim, inr, arith, length-set, get_or-set_other}
+use Rattle.std.proofs.Common.{◌≡◌, ◌≢◌, ℕ, List, length, get_or, set, true, refl, sym, ap, ◌∙◌, subst, ⊎_elim, inr, arith, length-set, get_or-set_same, get_or-set_other}
 use Rattle.std.specs.Prelude.{nat_eq}
 use mathlib.Core.Option.{some, none}
 use lib.ListN.{get_elem?}
@@ -8,11 +8,15 @@ use Rattle.atomic_table.proofs.Lists.{at_set}
 use Rattle.fm_core.specs.State.{State}
 use Rattle.fm_board.specs.declared.about.About.{About}
 use Rattle.fm_board.specs.declared.view.Mind.{Mind}
-use Rattle.fm_board.specs.Plays.{Place, halts, heeds, viewing}
+use Rattle.fm_board.specs.Minds.{viewing}
+use Rattle.fm_board.specs.Plays.{Place, halts, heeds}
 use Rattle.fm_board.specs.StandsFor.{IsSeat, StandsForSome, count, halt_at}
 use Rattle.fm_board.specs.Words.{place_at, word_at}
 use Rattle.fm_board.proofs.Frames.{Leaves, places_stay, reseated, written_stays}
+use Rattle.std.proofs.lemmas.List.{set-get_or}
+use Rattle.fm_board.proofs.Goings.{alone_still, goes_on, same_cells}
 use Rattle.fm_board.proofs.Looks.{lined, looks_on}
+use Rattle.fm_board.proofs.Runs.{runs_still}
 
 pub same_core : (h : State) (id : ℕ) → Leaves h h id
 same_core h id = record {
@@ -34,7 +38,15 @@ heeds_of a slots id m s k sized at small =
     let w : Mind = viewing m.0 (record m.0.view { heeded = nat_eq (get_or s.words (halt_at a) 0) 1 }) in
     let mine : IsSeat a h id w = record {
       here = seat.here;
-      is = record { plan = seat.is.plan; number = seat.is.number; holds = seat.is.holds; sweep = seat.is.sweep; paced = seat.is.paced };
+      is = record {
+        plan = seat.is.plan;
+        lead = seat.is.lead;
+        seats = seat.is.seats;
+        number = seat.is.number;
+        holds = seat.is.holds;
+        sweep = seat.is.sweep;
+        paced = seat.is.paced;
+      };
       room = seat.room;
       zero = λ e. let z = seat.zero e in record {
         lines = z.lines;
@@ -56,6 +68,11 @@ heeds_of a slots id m s k sized at small =
         sound = k.sound;
         stands = looks_on a s k (halt_at a) id m.0 w m.1 h at refl refl refl
             (same_core h id) refl refl mine;
+        history = runs_still a s.views h k.history id m.0 w at refl;
+        going = goes_on a s h k.going id m.0 w at (set s.words (halt_at a) (get_or s.words (halt_at a) 0)) h (same_cells a h h refl)
+            (λ x e. (x, e, refl, refl)) (k.going.known id m.0 at);
+        alone = alone_still a s id m.0 w (set s.words (halt_at a) (get_or s.words (halt_at a) 0)) s.homes at k.stands.views.made k.alone
+            refl refl refl (λ j lt. ap (λ (ws : List ℕ). get_or ws (word_at j) 0) (set-get_or s.words (halt_at a) 0));
       },
       (refl, refl),
     )
@@ -69,7 +86,15 @@ halts_of a slots id m number s k sized at small =
     let w : Mind = viewing m.0 (record m.0.view { halted = true }) in
     let mine : IsSeat a h id w = record {
       here = seat.here;
-      is = record { plan = seat.is.plan; number = seat.is.number; holds = seat.is.holds; sweep = seat.is.sweep; paced = seat.is.paced };
+      is = record {
+        plan = seat.is.plan;
+        lead = seat.is.lead;
+        seats = seat.is.seats;
+        number = seat.is.number;
+        holds = seat.is.holds;
+        sweep = seat.is.sweep;
+        paced = seat.is.paced;
+      };
       room = seat.room;
       zero = λ e. let z = seat.zero e in record {
         lines = z.lines;
@@ -107,10 +132,15 @@ halts_of a slots id m number s k sized at small =
           views = reseated a h h id (same_core h id) s.views m.0 w at refl mine k.stands.views;
           wrote = written_stays a s.words ws s.views id m.0 w at
               (places_stay s.words (halt_at a) 1 (λ p i few e. absurd (omega (arith, e, few)))) (λ x e. inr e) k.stands.wrote;
-          halt = λ one u e. ⊎_elim
-              (λ (y : (0 ≡ id) × (w ≡ u)). ap (λ (z : Mind). z.view.halted) (sym y.1))
+          halt = λ u e. ap (λ (n : ℕ). nat_eq n 1)
+              (get_or-set_same s.words (halt_at a) 1 0 (let many = q.many in omega (arith, many))) ∙ ⊎_elim
+              (λ (y : (0 ≡ id) × (w ≡ u)). ap (λ (z : Mind). z.view.halted) y.1)
               (λ (y : (0 ≢ id) × (get_elem? s.views 0 ≡ some u)). absurd (y.0 (sym zero_is))) (at_set s.views id 0 w u e);
         };
+        history = runs_still a s.views h k.history id m.0 w at refl;
+        going = goes_on a s h k.going id m.0 w at ws h (same_cells a h h refl) (λ x e. (x, e, refl, refl)) (k.going.known id m.0 at);
+        alone = alone_still a s id m.0 w ws s.homes at k.stands.views.made k.alone refl refl refl
+            (λ j lt. get_or-set_other s.words (halt_at a) (word_at j) 1 0 (λ e. absurd (omega (arith, e, lt))));
       },
       (refl, refl),
     )

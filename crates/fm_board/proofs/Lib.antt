@@ -1,21 +1,29 @@
 pub mod Frames
+pub mod Runs
 pub mod Releasing
 pub mod Giving
 pub mod Looking
 pub mod Views
 pub mod Spellings
 pub mod Looks
+pub mod Loads
 pub mod Claims
+pub mod Found
 pub mod Gives
 pub mod Later
 pub mod Publishing
 pub mod Openings
+pub mod Splitting
+pub mod Stocks
+pub mod Played
 pub mod Tokens
+pub mod OneState
 pub mod Steps
 pub mod Returns
 pub mod Starts
 pub mod Births
 pub mod Records
+pub mod Writes
 pub mod Recordings
 pub mod Halts
 pub mod Recalls
@@ -26,3 +34,5 @@ pub mod Sweeping
 pub mod Advancing
 pub mod Taking
 mod Numerals
+pub mod Goings
+pub mod Knowing

@@ -1,24 +1,17 @@
 -- Looks and paces keep the rule.
-use Rattle.std.proofs.Common.{◌≡◌, ◌≢◌, ◌⊎◌, ℕ, ◌+◌, ◌^◌, ◌<◌, ◌≤◌, List, length, get_or, set, true, false, Option, refl, sym, ap, ◌∙◌, subst, inl, inr, arith, eq-eqb, ne_eqb, length-set}
-use Rattle.std.specs.Prelude.{◌&&◌, ◌||◌, nat_eq, if◌then◌else◌, slice_set}
-use mathlib.Core.Option.{some, none}
+use Rattle.std.proofs.Common.{◌≡◌, ◌⊎◌, ℕ, ◌^◌, ◌<◌, ◌≤◌, List, length, get_or, set, true, false, Option, refl, sym, ap, ◌∙◌, subst, inl, inr, arith, eq-eqb, length-set, None}
+use Rattle.std.specs.Prelude.{nat_eq}
+use mathlib.Core.Option.{some}
 use lib.ListN.{get_elem?}
 use Rattle.std.proofs.lemmas.List.{set-get_or}
-use Rattle.atomic_table.specs.Table.{Allows, keeps, step, stepped}
+use Rattle.atomic_table.specs.Table.{keeps, stepped}
 use Rattle.fm_line.specs.Line.{line}
-use Rattle.fm_core.proofs.Booleans.{or_left, or_right}
-use Rattle.fm_core.proofs.Keeps as core
-use Rattle.fm_core.proofs.May.{may_look, may_pace}
-use Rattle.fm_core.specs.Effects.{after, visits_by_look}
+use Rattle.fm_core.proofs.Booleans.{and_true}
 use Rattle.fm_core.specs.Invariant.{ValidSetting}
-use Rattle.fm_core.specs.State.{Desk, State, cell, desk}
-use Rattle.fm_core.specs.Sweep.{swept}
-use Rattle.fm_core.specs.Sweep as sweep
-use Rattle.fm_core.specs.Tags.{has_nothing, is_ended, is_held, is_unborn}
+use Rattle.fm_core.specs.State.{State, cell}
+use Rattle.fm_core.specs.Tags.{is_ended, is_held, is_unborn}
 use Rattle.fm_core.specs.declared.cell.Cell.{Cell}
 use Rattle.fm_core.specs.declared.floor.Floor.{Floor}
-use Rattle.fm_core.specs.declared.sight.Sight.{Sight}
-use Rattle.fm_core.specs.declared.step.Step.TheVariants.{Look, Pace}
 use Rattle.fm_core.specs.declared.tag.Tag.{Tag}
 use Rattle.fm_program.proofs.Lines.{plan-lines-length}
 use Rattle.fm_program.specs.Parts.{PlanParts}
@@ -26,17 +19,23 @@ use Rattle.fm_program.specs.Process.{plan_lines}
 use Rattle.fm_strand.proofs.ValidLemmas.{lines-valid}
 use Rattle.fm_board.specs.declared.about.About.{About}
 use Rattle.fm_board.specs.declared.room.Room.{Room}
+use Rattle.fm_board.specs.declared.view.Log.{Log}
 use Rattle.fm_board.specs.declared.view.Mind.{Mind}
 use Rattle.fm_board.specs.declared.view.View.{View}
-use Rattle.fm_board.specs.Plays.{Finds, Place, Tells, looks, paces, spotted, viewing}
-use Rattle.fm_board.specs.StandsFor.{halt_at, Housed, IsSeat, IsSightOfZero, IsViewOf, Spelt, StandsFor, StandsForSome, Table, count, setting}
-use Rattle.fm_board.specs.View.{InTurn, looked}
+use Rattle.fm_board.specs.Minds.{spotted}
+use Rattle.fm_board.specs.Plays.{Finds, Tells}
+use Rattle.fm_board.specs.StandsFor.{HoldsIn, Housed, IsSeat, IsSightOfZero, IsViewOf, Spelt, StandsFor, StandsForSome, Table, count, halt_at, setting}
+use Rattle.fm_board.specs.Minds as seat_minds
 use Rattle.fm_board.specs.Words.{IsWord, spell, word_at, place_at}
-use Rattle.fm_board.proofs.Frames.{halt_stays, Leaves, SameForZero, desk_moves, reseated, written_stays}
+use Rattle.fm_board.proofs.Frames.{halt_stays, Leaves, reseated, written_stays}
+use Rattle.fm_strand.specs.Course.{steps_of}
+use Rattle.std.proofs.lemmas.Bool.{both_ways}
+use mathlib.Core.Logic.{dite}
+use native.Mathlib.Decide.{ℕ_discrete}
+use Rattle.fm_core.specs.State.{held_by}
 use Rattle.fm_board.proofs.Looking.{tells}
-use Rattle.fm_board.proofs.Spellings.{one_floor, one_word, set_or_same, upper_low, yes_or_no}
-use Rattle.fm_board.proofs.Views.{looks_zero}
-use Rattle.fm_board.proofs.Views as views
+use Rattle.fm_board.specs.Runs.{Extends}
+use Rattle.fm_board.proofs.Spellings.{one_word, set_or_same, upper_low, yes_or_no}
 
 -- the setting of a board is valid
 pub valid_of : (a : About) → ValidSetting (setting a)
@@ -84,28 +83,73 @@ module _ (a : About) (s : Table) (k : StandsForSome a s) where
   says p lt t c n small e =
       one_word (cell h p).tag t (cell h p).clock c (cell h p).seat n (few p lt) small (sym (k.stands.words.spelt p lt) ∙ e)
 
+  -- where there is no other seat, and this one holds nothing, nobody holds a process
+  pub none_out : (id p : ℕ) (m : Mind) → get_elem? s.views id ≡ some m → IsSeat a h id m → p < length h.cells → m.made ≡ 1
+      → m.view.number ≡ 0 → m.view.holds ≡ None → is_held (cell h p).tag ≡ false
+  none_out id p m at seat lt one first none_held = by_case (yes_or_no (is_held (cell h p).tag))
+    where
+      zero_is : id ≡ 0
+      zero_is = sym seat.is.number ∙ first
+
+      many : length s.views ≡ 1
+      many = sym (k.stands.views.made m (subst (λ (j : ℕ). get_elem? s.views j ≡ some m) zero_is at)) ∙ one
+
+      free : (j : ℕ) → j < length h.desks → held_by j (cell h p) ≡ false
+      free j below = dite (ℕ_discrete j 0)
+          (λ e. subst (λ (i : ℕ). held_by i (cell h p) ≡ false) (zero_is ∙ sym e) (subst (HoldsIn h id) none_held seat.is.holds p lt))
+          (λ d. (k.stands.views.unmade j (omega (arith, many, d)) below).free p lt)
+
+      by_case : (is_held (cell h p).tag ≡ true) ⊎ (is_held (cell h p).tag ≡ false) → is_held (cell h p).tag ≡ false
+      by_case (inr free_now) = free_now
+      by_case (inl held) =
+          let no = free (cell h p).seat (k.sound.seated p lt held) in
+          let held_by_it : held_by (cell h p).seat (cell h p) ≡ true =
+          and_true (is_held (cell h p).tag) (nat_eq (cell h p).seat (cell h p).seat) held (eq-eqb (cell h p).seat (cell h p).seat refl) in
+          absurd (both_ways (held_by (cell h p).seat (cell h p)) no held_by_it)
+
+  -- an unborn process has more steps left than its program has, and the seat knows of no fewer
+  pub more_left : (id p : ℕ) (m : Mind) → get_elem? s.views id ≡ some m → p < length h.cells → is_unborn (cell h p).tag ≡ true
+      → steps_of a.plan p < get_or m.left p 0
+  more_left id p m at lt is =
+      let all = k.going.unborn p lt is in
+      let known = k.going.known id m at p (let n = lined in omega (arith, n, lt)) in omega (arith, all, known)
+
   -- what the word of a process tells a seat
-  pub found_tells : (id p : ℕ) (m : Mind) → IsSeat a h id m → p < length h.cells → Tells m p (cell h p).tag (cell h p).clock
-  found_tells id p m seat lt =
+  pub found_tells : (id p : ℕ) (m : Mind) → get_elem? s.views id ≡ some m → IsSeat a h id m → p < length h.cells
+      → Tells m p (cell h p).tag (cell h p).clock
+  found_tells id p m at seat lt =
       let known = tells (setting a) h (valid_of a).lines k.sound in
       record {
         on = seat.known p;
         still = seat.over p;
         end = λ ended. known.end p lt ended ∙ sym (ap (λ (q : PlanParts). (line (plan_lines q) p).end) seat.is.plan);
         done = λ zero_is done. let z = seat.zero (sym seat.is.number ∙ zero_is) in known.done p lt (sym z.published ∙ done);
+        unborn = λ is. let all = more_left id p m at lt is in subst (λ (q : PlanParts). steps_of q p < get_or m.left p 0)
+            (sym seat.is.plan) all;
+        low = low p lt;
+        alone = λ one first none_held. none_out id p m at seat lt one first none_held;
       }
 
-  pub finds : (id p : ℕ) (m : Mind) (cs : List (ℕ × Option Room)) (f : Tag → ℕ → View) → IsSeat a h id m → p < length h.cells
-      → Finds (m, cs) p (get_or s.words (word_at p) 0) f
-      (spotted m p (cell h p).tag (cell h p).clock (get_or s.words (word_at p) 0) (f (cell h p).tag (cell h p).clock), cs)
-  finds id p m cs f seat lt = record {
+  pub finds : (id p : ℕ) (m : Mind) (cs : List (ℕ × Option Room)) (f : Tag → ℕ → View) (g : Tag → Log)
+      → get_elem? s.views id ≡ some m → IsSeat a h id m → p < length h.cells
+      → Extends m.view.number m.log (g (cell h p).tag)
+      → Finds (m, cs) p (get_or s.words (word_at p) 0) f g (
+        spotted m p (cell h p).tag (cell h p).clock (get_or s.words (word_at p) 0) (f (cell h p).tag (cell h p).clock) (g (cell h p).tag),
+        cs,
+      )
+  finds id p m cs f g at seat lt extends = record {
     word = is_word p lt;
     out = refl;
     wide = seat.wide ∙ ap (λ (q : PlanParts). length q.programs) (sym seat.is.plan);
+    same = λ one first here. let zero_is : id ≡ 0 = sym seat.is.number ∙ first in
+        let n = lined in
+        ap (λ (j : ℕ). get_or s.words (word_at j) 0) (sym here)
+        ∙ k.alone m (subst (λ (j : ℕ). get_elem? s.views j ≡ some m) zero_is at) one (omega (arith, here, lt, n));
     mind = λ t c n small e. let is = says p lt t c n small e in
-        λ i. spotted m p (is.0 i) (is.1 i) (get_or s.words (word_at p) 0) (f (is.0 i) (is.1 i));
+        λ i. spotted m p (is.0 i) (is.1 i) (get_or s.words (word_at p) 0) (f (is.0 i) (is.1 i)) (g (is.0 i));
     tells = λ t c n small e. let is = says p lt t c n small e in
-        subst (λ (y : Tag × ℕ). Tells m p y.0 y.1) (λ i. (is.0 i, is.1 i)) (found_tells id p m seat lt);
+        subst (λ (y : Tag × ℕ). Tells m p y.0 y.1) (λ i. (is.0 i, is.1 i)) (found_tells id p m at seat lt);
+    extends = extends;
   }
 
   -- a step that leaves the processes and the floor
@@ -129,9 +173,9 @@ module _ (a : About) (s : Table) (k : StandsForSome a s) where
 pub sees_now : (a : About) (h : State) (id p : ℕ) (m : Mind) (v : View) → id < length h.desks → IsViewOf a h id v → m.room ≡ a.room
     → (id ≡ 0 → IsSightOfZero (setting a) h v) → length m.over ≡ count a → ((q : ℕ) → get_or m.known q 0 ≤ (cell h q).clock)
     → ((q : ℕ) → get_or m.over q false ≡ true → is_ended (cell h q).tag ≡ true)
-    → (t : Tag) (c r : ℕ) → c ≤ (cell h p).clock → (is_ended t ≡ true → is_ended (cell h p).tag ≡ true)
-    → IsSeat a h id (spotted m p t c r v)
-sees_now a h id p m v here is room zero wide known over t c r clock ended = record {
+    → (t : Tag) (c r : ℕ) (l : Log) → c ≤ (cell h p).clock → (is_ended t ≡ true → is_ended (cell h p).tag ≡ true)
+    → IsSeat a h id (spotted m p t c r v l)
+sees_now a h id p m v here is room zero wide known over t c r l clock ended = record {
   here = here;
   is = is;
   room = room;
@@ -141,98 +185,14 @@ sees_now a h id p m v here is room zero wide known over t c r clock ended = reco
   over = set_or_same m.over p (is_ended t) false (λ q b. b ≡ true → is_ended (cell h q).tag ≡ true) over ended;
 }
 
-turned : (v : View) (p : ℕ) (xs : List Sight) → v.sweep ≡ xs → InTurn v p
-    → (nat_eq p 0 || nat_eq p (length xs) || nat_eq (p + 1) (length xs)) ≡ true
-turned v p xs same turn = by_case turn.turn
-  where
-    by_case : (p ≡ 0) ⊎ ((p ≡ length v.sweep) ⊎ (p + 1 ≡ length v.sweep))
-        → (nat_eq p 0 || nat_eq p (length xs) || nat_eq (p + 1) (length xs)) ≡ true
-    by_case (inl e) = or_left _ _ (or_left _ _ (eq-eqb p 0 e))
-    by_case (inr (inl e)) = or_left _ _ (or_right _ _ (eq-eqb p (length xs) (e ∙ ap length same)))
-    by_case (inr (inr e)) = or_right _ _ (eq-eqb (p + 1) (length xs) (e ∙ ap length same))
-
--- a look is the core's look
-pub looks_of : (a : About) (slots id p : ℕ) (m : Place) → p < count a → InTurn m.0.view p
-    → Allows (StandsForSome a) slots id m (word_at p) (λ n. n) (looks (step slots (word_at p) 0 0 none) m)
-looks_of a slots id p m near turn s k sized at small =
-    let h : State = k.core in
-    let seat = k.stands.views.viewed id m.0 at in
-    let in_range : p < length h.cells = omega (arith, lined a s k, near) in
-    let c : Cell = cell h p in
-    let allowed = may_look (setting a) h id p seat.here in_range (turned m.0.view p (desk h id).sweep seat.is.sweep turn) in
-    let v : View = looked m.0.view p c.tag c.clock in
-    let word : ℕ = get_or s.words (word_at p) 0 in
-    let w : Mind = spotted m.0 p c.tag c.clock word v in
-    let h' : State = after (setting a) h (Look id p) in
-    let d : Desk = record (desk h id) { sweep = swept (desk h id).sweep p (sweep.sighted (setting a) h (desk h id).sweep p) } in
-    let same : 0 ≢ id → SameForZero h h' = (λ n. record {
-      due = refl;
-      visited = ap (λ b. if b && has_nothing c.tag then slice_set h.visited p true else h.visited) (ne_eqb id 0 (λ e. n (sym e)));
-      gather = refl;
-      released = refl;
-      floor = refl;
-    }) in
-    let l : Leaves h h' id = desk_moves h id d h.floor h.due (visits_by_look h id p) h.gather h.released same in
-    let mine : IsSeat a h' id w = sees_now a h' id p m.0 v (omega (arith, l.desks, seat.here))
-    (views.looks a h id m.0.view seat.is seat.here p) seat.room
-    (λ e. subst (λ (n : ℕ). IsSightOfZero (setting a) (after (setting a) h (Look n p)) v) (sym e)
-    (looks_zero a h m.0.view (subst (λ (n : ℕ). IsViewOf a h n m.0.view) e seat.is) (seat.zero e) p))
-    seat.wide seat.known seat.over c.tag c.clock word (omega arith) (λ e. e) in (
-      w,
-      keeps,
-      tt,
-      record {
-        core = h';
-        sound = core.keeps (setting a) h (Look id p) (valid_of a) k.sound allowed;
-        stands = looks_on a s k (word_at p) id m.0 w m.1 h' at refl refl refl l refl refl mine;
-      },
-      λ q e. subst (λ (z : ℕ). Finds m z (get_or s.words (word_at p) 0) (looked m.0.view z) (w, m.1)) (omega (arith, e))
-          (finds a s k id p m.0 m.1 (looked m.0.view p) seat in_range),
-    )
-
--- a pace is the core's pace
-pub paces_of : (a : About) (slots id : ℕ) (m : Place) → Allows (StandsForSome a) slots id m 0 (λ n. n) (paces (step slots 0 0 0 none) m)
-paces_of a slots id m s k sized at small =
-    let h : State = k.core in
-    let seat = k.stands.views.viewed id m.0 at in
-    let allowed = may_pace (setting a) h id seat.here in
-    let h' : State = after (setting a) h (Pace id) in
-    let d : Desk = record (desk h id) { paced = h.floor } in
-    let v : View = record m.0.view { paced = h.floor } in
-    let w : Mind = viewing m.0 v in
-    let l : Leaves h h' id = desk_moves h id d h.floor h.due h.visited h.gather h.released
-    (λ n. record { due = refl; visited = refl; gather = refl; released = refl; floor = refl }) in
-    let mine : IsSeat a h' id w = record {
-      here = omega (arith, l.desks, seat.here);
-      is = views.paces a h id m.0.view seat.is seat.here;
-      room = seat.room;
-      zero = λ e. let z = seat.zero e in
-          record {
-            lines = z.lines;
-            due = z.due;
-            visited = z.visited;
-            gathered = z.gathered;
-            released = z.released;
-            published = z.published;
-          };
-      wide = seat.wide;
-      known = seat.known;
-      over = seat.over;
-    } in (
-      w,
-      keeps,
-      tt,
-      record {
-        core = h';
-        sound = core.keeps (setting a) h (Pace id) (valid_of a) k.sound allowed;
-        stands = looks_on a s k 0 id m.0 w m.1 h' at refl refl refl l refl refl mine;
-      },
-      record {
-        floor = h.floor;
-        low = k.stands.words.low;
-        word = k.stands.words.floor;
-        out = refl;
-        mind = λ f small_f e. ap (λ (g : Floor). viewing m.0 (record m.0.view { paced = g }))
-            (one_floor h.floor f k.stands.words.low small_f (sym k.stands.words.floor ∙ e));
-      },
-    )
+-- nor does it matter that the seat changed the word
+pub turned_seat : (a : About) (h : State) (id : ℕ) (m : Mind) → IsSeat a h id m → IsSeat a h id (seat_minds.turned m)
+turned_seat a h id m q = record {
+  here = q.here;
+  is = q.is;
+  room = q.room;
+  zero = q.zero;
+  wide = q.wide;
+  known = q.known;
+  over = q.over;
+}

@@ -1,41 +1,33 @@
 -- A new board stands for the opening, and so does one with a seat more.
-use Rattle.std.proofs.Common.{◌≡◌, ◌≢◌, ◌⊎◌, ℕ, zero, suc, ◌+◌, ◌-◌, ◌*◌, ◌<◌, ◌≤◌, List, [], ◌∷◌, ◌++◌, length, map, get_or, set, replicate, Bool, true, false, Option, Some, None, refl, sym, ap, ◌∙◌, subst, ⊎_elim, inl, inr, arith, length-set, length-append, get_or-set_same, get_or-set_other}
+use Rattle.std.proofs.Common.{◌≡◌, ◌≢◌, ◌⊎◌, ℕ, zero, suc, ◌+◌, ◌-◌, ◌*◌, ◌<◌, ◌≤◌, List, [], ◌∷◌, ◌++◌, length, map, get_or, set, replicate, Bool, true, false, Option, Some, refl, sym, ap, ◌∙◌, subst, ⊎_elim, inl, inr, arith, length-set, get_or-set_same, get_or-set_other}
+use Rattle.std.specs.Prelude.{nat_eq}
 use mathlib.Core.Option.{some, some-ne-none, some-injective}
 use lib.ListN.{get_elem?}
-use Rattle.std.proofs.lemmas.List.{length-replicate, length-map, get_or_append_left}
-use native.Mathlib.Decide.{ℕ_discrete}
-use mathlib.Core.Logic.{dite}
-use Rattle.atomic_table.specs.Seated.{TableId}
-use Rattle.fm_msg.specs.Event.{TimedMessage}
-use Rattle.fm_line.specs.Line.{greatest, line, start}
-use Rattle.fm_buffer.specs.Outbox.{EventQueue}
+use Rattle.std.proofs.lemmas.List.{length-replicate, length-map}
+use Rattle.fm_line.specs.Line.{line}
 use Rattle.fm_core.specs.Taking.{outbox}
-use Rattle.fm_program.specs.Fit.{PartsFit}
 use Rattle.fm_program.specs.Parts.{PlanParts}
-use Rattle.fm_strand.proofs.ValidLemmas.{lines-valid}
-use Rattle.fm_strand.specs.declared.strand.Strand.{Strand}
-use Rattle.fm_strand.specs.Strand.{InCourse, clock_of, rest}
-use Rattle.fm_board.specs.Seats.{AreOthers, AreRooms, IsFirst, Sight}
-use Rattle.atomic_table.specs.Table.{Splits, opening}
-use Rattle.atomic_table.proofs.Lists.{at_last, at_longer, at_set}
+use Rattle.fm_strand.specs.Course.{steps_of}
+use Rattle.std.specs.Prelude.{All}
+use Rattle.std.proofs.lemmas.List.Elements.{All-nil}
+use Rattle.atomic_table.specs.Table.{opening}
 use Rattle.fm_core.proofs.Elements.{same_all, take_none}
 use Rattle.fm_core.proofs.Opening.{opening_sound}
 use Rattle.fm_core.specs.State.{State, cell, cell_in, no_desk, root, unborn}
 use Rattle.fm_core.specs.State as state
-use Rattle.fm_core.specs.Tags.{is_ended, is_unborn}
+use Rattle.fm_core.specs.Tags.{is_unborn}
 use Rattle.fm_core.specs.declared.cell.Cell.{Cell}
 use Rattle.fm_program.proofs.Lines.{plan-lines-length}
 use Rattle.fm_program.specs.Process.{plan_lines}
 use Rattle.fm_board.specs.declared.about.About.{About}
 use Rattle.fm_board.specs.declared.room.Room.{Room}
 use Rattle.fm_board.specs.declared.view.Mind.{Mind}
-use Rattle.fm_board.specs.Plays.{first_mind, fresh, newest, one_more}
-use Rattle.fm_board.specs.StandsFor.{halt_at, AtHome, IsSeat, IsStocked, Shown, StandsForSome, StrandAt, count, setting}
+use Rattle.fm_board.specs.Minds.{all_lefts, first_mind, lefts_from}
+use Rattle.fm_board.specs.StandsFor.{AtHome, Going, IsSeat, IsStocked, Shown, StandsForSome, count, halt_at, setting}
 use Rattle.fm_board.specs.Words.{spelt, word_at}
-use Rattle.fm_board.proofs.Frames.{halt_stays, at_below, written_stays}
 use Rattle.fm_board.proofs.Looks.{valid_of}
 
-at_opening : (P : ℕ → Cell → Type 0) (n : ℕ) → P 0 root → ((q : ℕ) → P (suc q) unborn) → (p : ℕ)
+pub at_opening : (P : ℕ → Cell → Type 0) (n : ℕ) → P 0 root → ((q : ℕ) → P (suc q) unborn) → (p : ℕ)
     → P p (cell_in (root ∷ replicate (n - 1) unborn) p)
 at_opening P n a b zero = a
 at_opening P n a b (suc q) = subst (P (suc q)) (sym (same_all (n - 1) q unborn)) (b q)
@@ -49,18 +41,81 @@ only_one : (a b : Mind) (j : ℕ) → get_elem? (a ∷ []) j ≡ some b → (j �
 only_one a b zero e = (refl, some-injective a b e)
 only_one a b (suc j) e = absurd (some-ne-none b (sym e))
 
-snoc_cases : (l : List Mind) (a b : Mind) (j : ℕ) → get_elem? (l ++ a ∷ []) j ≡ some b
+pub snoc_cases : (l : List Mind) (a b : Mind) (j : ℕ) → get_elem? (l ++ a ∷ []) j ≡ some b
     → (get_elem? l j ≡ some b) ⊎ ((j ≡ length l) × (a ≡ b))
 snoc_cases [] a b zero e = inr (refl, some-injective a b e)
 snoc_cases [] a b (suc j) e = absurd (some-ne-none b (sym e))
 snoc_cases (x ∷ xs) a b zero e = inl e
 snoc_cases (x ∷ xs) a b (suc j) e = ⊎_elim (λ t. inl t) (λ (t : (j ≡ length xs) × (a ≡ b)). inr (ap suc t.0, t.1)) (snoc_cases xs a b j e)
 
-none_known : (n p : ℕ) → ◌≡◌ {A = ℕ} (get_or (replicate n 0) p 0) 0
+pub none_known : (n p : ℕ) → ◌≡◌ {A = ℕ} (get_or (replicate n 0) p 0) 0
 none_known n p = same_all n p 0
 
-none_over : (n p : ℕ) → ◌≡◌ {A = Bool} (get_or (replicate n false) p false) false
+pub none_over : (n p : ℕ) → ◌≡◌ {A = Bool} (get_or (replicate n false) p false) false
 none_over n p = same_all n p false
+
+-- the steps that are left of the processes of a new board
+abbrev first_left : About → ℕ → ℕ
+first_left a zero = steps_of a.plan 0
+first_left a (suc j) = steps_of a.plan (suc j) + 1
+
+lefts_at : (p : PlanParts) (k n j : ℕ) → j < n → get_or (lefts_from p k n) j 0 ≡ steps_of p (k + j) + 1
+lefts_at p k zero j lt = absurd (omega arith)
+lefts_at p k (suc n) zero lt = ap (λ (z : ℕ). steps_of p z + 1) (omega arith)
+lefts_at p k (suc n) (suc j) lt =
+    lefts_at p (suc k) n j (omega (arith, lt)) ∙ ap (λ (z : ℕ). steps_of p z + 1) (omega arith)
+
+-- a new seat knows of no fewer
+pub fresh_left : (p : PlanParts) (j : ℕ) → j < length p.programs → steps_of p j < get_or (all_lefts p) j 0
+unfolding all_lefts
+fresh_left p j lt =
+    let is = lefts_at p 0 (length p.programs) j lt in
+    let at = ap (steps_of p) (let z : 0 + j ≡ j = omega arith in z) in omega (arith, is, at)
+
+-- and it has a number for each process
+pub length-lefts : (p : PlanParts) → length (all_lefts p) ≡ length p.programs
+unfolding all_lefts
+length-lefts p = go 0 (length p.programs)
+  where
+    go : (k n : ℕ) → length (lefts_from p k n) ≡ n
+    go k zero = refl
+    go k (suc n) = let r = go (suc k) n in omega (arith, r)
+
+map_back : {A : Type 0} (xs : List A) (j : ℕ) (x : A) → get_elem? (map some xs) j ≡ some (some x) → get_elem? xs j ≡ some x
+map_back [] j x e = absurd (some-ne-none (some x) (sym e))
+map_back (y ∷ ys) zero x e = some-injective (some y) (some x) e
+map_back (y ∷ ys) (suc j) x e = map_back ys j x e
+
+first_going : (a : About) (rooms : List (Option Room)) → IsStocked a rooms → (ws : List ℕ) (h : State)
+    → h.cells ≡ root ∷ replicate (length (plan_lines a.plan) - 1) unborn
+    → Going a (record { words = ws; homes = map some rooms; views = first_mind a ∷ [] }) h
+first_going a rooms stocked ws h cells = record {
+  left = first_left a;
+  home = λ j stock x there is. let one = stocked.first j stock x (map_back rooms j (Some stock) there) is in
+      one.1 ∙ ap (first_left a) (sym one.0);
+  held = λ j v e x holds. let no = ap (λ (y : Mind). y.view.holds) (only_one (first_mind a) v j e).1 ∙ holds in absurd (cc);
+  known = λ j v e p lt. subst (λ (y : Mind). first_left a p ≤ get_or y.left p 0) (only_one (first_mind a) v j e).1 (few p lt);
+  most = λ p lt. by_number p;
+  born = λ p lt. subst (λ (cs : List Cell). is_unborn (cell_in cs p).tag ≡ false → first_left a p ≤ steps_of a.plan p) (sym cells)
+      (at_opening (λ p c. is_unborn c.tag ≡ false → first_left a p ≤ steps_of a.plan p) (length (plan_lines a.plan))
+      (λ b. omega arith) (λ q b. absurd (cc)) p);
+  unborn = λ p lt. subst (λ (cs : List Cell). is_unborn (cell_in cs p).tag ≡ true → steps_of a.plan p < first_left a p) (sym cells)
+      (at_opening (λ p c. is_unborn c.tag ≡ true → steps_of a.plan p < first_left a p) (length (plan_lines a.plan))
+      (λ b. absurd (cc)) (λ q b. omega arith) p);
+  early = λ p lt. subst (λ (cs : List Cell). All (λ e. e.time ≤ (cell_in cs p).clock) (outbox (line (plan_lines a.plan) p) (cell_in cs p)))
+      (sym cells)
+      (at_opening (λ p c. All (λ e. e.time ≤ c.clock) (outbox (line (plan_lines a.plan) p) c)) (length (plan_lines a.plan))
+      (subst (All (λ e. e.time ≤ 0)) (sym (take_none (line (plan_lines a.plan) 0).events)) (All-nil (λ e. e.time ≤ 0)))
+      (λ q. subst (All (λ e. e.time ≤ 0)) (sym (take_none (line (plan_lines a.plan) (suc q)).events)) (All-nil (λ e. e.time ≤ 0))) p);
+}
+  where
+    by_number : (p : ℕ) → first_left a p ≤ steps_of a.plan p + 1
+    by_number zero = omega arith
+    by_number (suc p) = omega arith
+
+    few : (p : ℕ) → p < count a → first_left a p ≤ get_or (all_lefts a.plan) p 0
+    few zero lt = let is = fresh_left a.plan 0 lt in omega (arith, is)
+    few (suc p) lt = let is = fresh_left a.plan (suc p) lt in omega (arith, is)
 
 -- a new board stands for the opening
 pub opens : (a : About) (rooms : List (Option Room)) → IsStocked a rooms
@@ -109,6 +164,8 @@ opens a rooms stocked =
                 here = rw length-replicate crew;
                 is = record {
                   plan = refl;
+                  lead = refl;
+                  seats = refl;
                   number = refl;
                   holds = λ p lt. bare 0 p;
                   sweep = rw (same_all a.seats 0 no_desk) refl;
@@ -131,151 +188,17 @@ opens a rooms stocked =
           made = λ v e. ap (λ (y : Mind). y.made) (sym (only_one (first_mind a) v 0 e).1);
         };
         wrote = λ j v x i e holds. let no = ap (λ (y : Mind). y.view.holds) (only_one (first_mind a) v j e).1 ∙ holds in absurd (cc);
-        halt = λ one v e. let zero_there = nothing (halt_at a) (λ e. absurd (omega (arith, e, lined, some_line))) in
-            absurd (omega (arith, one, zero_there));
+        halt = λ v e. ap (λ (z : ℕ). nat_eq z 1) (nothing (halt_at a) (λ e. absurd (omega (arith, e, lined, some_line))))
+            ∙ ap (λ (y : Mind). y.view.halted) (only_one (first_mind a) v 0 e).1;
       };
-    }
-
--- seat 0 makes a seat
-pub splits : (a : About) (id : ℕ) (m : Mind) → m.view.number ≡ 0 → m.made < a.seats → Splits (StandsForSome a) id m (one_more m) (newest m)
-splits a id m first more s k at =
-    let h : State = k.core in
-    let st = k.stands in
-    let seat = st.views.viewed id m at in
-    let zero_is : id ≡ 0 = sym seat.is.number ∙ first in
-    let below = at_below s.views id m at in
-    let made : m.made ≡ length s.views = st.views.made m (subst (λ (j : ℕ). get_elem? s.views j ≡ some m) zero_is at) in
-    let crew = st.crew in
-    let left : Mind = one_more m in
-    let right : Mind = newest m in
-    let bare = st.views.unmade m.made (omega arith) (omega arith) in
-    let newly : IsSeat a h m.made right = record {
-      here = omega arith;
-      is = record {
-        plan = seat.is.plan;
-        number = refl;
-        holds = bare.free;
-        sweep = sym (ap (λ (d : state.Desk). d.sweep) bare.desk);
-        paced = sym (ap (λ (d : state.Desk). d.paced) bare.desk);
+      history = record {
+        steps = [];
+        legal = tt;
+        ends = refl;
+        made = λ j v e. ap (λ (y : Mind). y.log.mine) (sym (only_one (first_mind a) v j e).1);
+        none = λ j long. refl;
+        seen = λ j v e. ([], ap (λ (y : Mind). y.log.seen ++ []) (only_one (first_mind a) v j e).1);
       };
-      room = seat.room;
-      zero = λ e. absurd (omega arith);
-      wide = length-replicate (length m.view.plan.programs) false ∙ ap (λ (q : PlanParts). length q.programs) seat.is.plan;
-      known = λ p. let none_yet = none_known (length m.view.plan.programs) p in omega arith;
-      over = λ p yes. let no = none_over (length m.view.plan.programs) p in absurd (cc);
-    } in
-    let older : IsSeat a h id left = record {
-      here = seat.here;
-      is = seat.is;
-      room = seat.room;
-      zero = seat.zero;
-      wide = seat.wide;
-      known = seat.known;
-      over = seat.over;
-    } in
-    let l = length-append (set s.views id left) (right ∷ []) in
-    let n = length-set s.views id left in
-    record {
-      core = h;
-      sound = k.sound;
-      stands = record {
-        crew = st.crew;
-        words = st.words;
-        homes = st.homes;
-        views = record {
-          viewed = λ j u e. ⊎_elim
-              (λ (x : get_elem? (set s.views id left) j ≡ some u). ⊎_elim
-              (λ (y : (j ≡ id) × (left ≡ u)). subst (λ (z : ℕ × Mind). IsSeat a h z.0 z.1) (λ i. (sym y.0 i, y.1 i)) older)
-              (λ (y : (j ≢ id) × (get_elem? s.views j ≡ some u)). st.views.viewed j u y.1) (at_set s.views id j left u x))
-              (λ (x : (j ≡ length (set s.views id left)) × (right ≡ u)). let at_end : m.made ≡ j = made ∙ sym (x.0 ∙ n) in
-              subst (λ (z : ℕ × Mind). IsSeat a h z.0 z.1) (λ i. (at_end i, x.1 i)) newly)
-              (snoc_cases (set s.views id left) right u j e);
-          unmade = λ j long lt. let longer : suc (length s.views) ≤ j = omega arith in st.views.unmade j (omega arith) lt;
-          made = λ u e. ⊎_elim
-              (λ (x : get_elem? (set s.views id left) 0 ≡ some u). ⊎_elim
-              (λ (y : (0 ≡ id) × (left ≡ u)). let is = ap (λ (z : Mind). z.made) y.1 in omega arith)
-              (λ (y : (0 ≢ id) × (get_elem? s.views 0 ≡ some u)). absurd (y.0 (sym zero_is))) (at_set s.views id 0 left u x))
-              (λ (x : (0 ≡ length (set s.views id left)) × (right ≡ u)). let zero_long = x.0 in absurd (omega arith))
-              (snoc_cases (set s.views id left) right u 0 e);
-        };
-        halt = λ one u e. ⊎_elim
-            (λ (y : get_elem? (set s.views id left) 0 ≡ some u). halt_stays a s.words s.words s.views id m left at refl refl st.halt one u
-            y)
-            (λ (y : (0 ≡ length (set s.views id left)) × (right ≡ u)). let zero_long = y.0 in absurd (omega arith))
-            (snoc_cases (set s.views id left) right u 0 e);
-        wrote = λ j u x i e holds less few. ⊎_elim
-            (λ (y : get_elem? (set s.views id left) j ≡ some u).
-            written_stays a s.words s.words s.views id m left at (λ p q r. refl) (λ z h. inr h) st.wrote j u x i y holds less few)
-            (λ (y : (j ≡ length (set s.views id left)) × (right ≡ u)). let no = ap (λ (z : Mind). z.view.holds) y.1 ∙ holds in absurd (cc))
-            (snoc_cases (set s.views id left) right u j e);
-      };
+      going = first_going a rooms stocked ws h refl;
+      alone = λ v e one near. absurd (let is = ap (λ (y : Mind). y.at) (only_one (first_mind a) v 0 e).1 in omega (arith, is, near));
     }
-
--- a strand of the first process at its start, which stands at tick 0
-pub first_given : (p : PlanParts) (s : Strand) → PartsFit p → s.process ≡ 0 → InCourse p s → clock_of p s ≡ start (plan_lines p) 0
-    → rest p s ≡ (line (plan_lines p) 0).events → IsFirst p 0 (Some s)
-first_given p s fits process course clock whole =
-    let none_before : start (plan_lines p) 0 ≡ 0 =
-    ap (λ (xs : List ℕ). greatest (map (λ q. (line (plan_lines p) q).end) xs)) (lines-valid p fits).root in (
-      refl,
-      record { strand = record { course = course; process = process }; given = whole; at = clock ∙ none_before },
-    )
-
-first_at : (a : About) (j : ℕ) (o : Option Strand) → IsFirst a.plan j o → StrandAt a j (cell_in (root ∷ replicate (count a - 1) unborn) j) o
-first_at a zero None is = absurd (omega arith)
-first_at a zero (Some s) is = (is.1, (λ e. absurd (cc)))
-first_at a (suc j) None is = ap (λ (c : Cell). is_unborn c.tag) (same_all (count a - 1) j unborn)
-first_at a (suc j) (Some s) is = let no = is.0 in absurd (omega arith)
-
--- the slots of a new board are stocked
-pub stocked : (a : About) (rooms : List (Option Room)) → AreRooms a (count a) rooms → IsStocked a rooms
-stocked a rooms are = record {
-  many = are.many;
-  each = λ j lt. let one = are.each j lt in (
-    one.0,
-    one.1,
-    record {
-      strand = first_at a j one.0.strand one.2;
-      box = one.3 ∙ ap (λ (xs : List TimedMessage). record { room = a.room; events = xs })
-          (at_opening (λ p c. ◌≡◌ {A = List TimedMessage} [] (outbox (line (plan_lines a.plan) p) c)) (count a)
-          (sym (take_none (line (plan_lines a.plan) 0).events))
-          (λ q. sym (take_none (line (plan_lines a.plan) (suc q)).events)) j);
-      recorded = at_opening (λ p c. c.recorded ≡ is_ended c.tag) (count a) refl (λ q. refl) j;
-    },
-  );
-}
-
-pub snoc_rooms : (a : About) (n : ℕ) (rooms : List (Option Room)) (s : Option Strand) (box : EventQueue) → AreRooms a n rooms
-    → IsFirst a.plan n s
-    → box ≡ record { room = a.room; events = [] } → AreRooms a (n + 1) (rooms ++ Some (record { strand = s; outbox = box }) ∷ [])
-snoc_rooms a n rooms s box are is empty =
-    let new : Option Room = Some (record { strand = s; outbox = box }) in
-    record {
-      many = length-append rooms (new ∷ []) ∙ ap (λ (k : ℕ). k + 1) are.many;
-      each = λ j lt. dite (ℕ_discrete j n)
-          (λ e. (
-            record { strand = s; outbox = box },
-            at_last rooms new j (are.many ∙ sym e),
-            subst (λ (k : ℕ). IsFirst a.plan k s) (sym e) is,
-            empty,
-          ))
-          (λ n. let one = are.each j (omega arith) in (one.0, at_longer rooms (new ∷ []) j (Some one.0) one.1, one.2, one.3));
-    }
-
-pub snoc_seats : (t : TableId) (a : About) (n : ℕ) (seats : List Sight) (x : Sight) → AreOthers t a n seats
-    → x ≡ record { table = t; mind = fresh a.plan a.room n 0 }
-    → AreOthers t a (n + 1) (seats ++ x ∷ [])
-snoc_seats t a n seats x are is =
-    let long = length-append seats (x ∷ []) in
-    record {
-      many = omega (arith, long, are.many);
-      each = λ k d lt. dite (ℕ_discrete k (length seats))
-          (λ e. ap (λ (j : ℕ). get_or (seats ++ x ∷ []) j d) e
-          ∙ (get_or_append_last seats x d ∙ (is ∙ ap (λ (j : ℕ). record { table = t; mind = fresh a.plan a.room j 0 })
-          (let many = are.many in omega arith))))
-          (λ n. let less : k < length seats = omega arith in get_or_append_left seats (x ∷ []) d k less ∙ are.each k d less);
-    }
-  where
-    get_or_append_last : (xs : List Sight) (x d : Sight) → get_or (xs ++ x ∷ []) (length xs) d ≡ x
-    get_or_append_last [] x d = refl
-    get_or_append_last (y ∷ ys) x d = get_or_append_last ys x d

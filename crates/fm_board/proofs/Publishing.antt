@@ -1,5 +1,5 @@
 -- A publish keeps the rule, and so does a release, which changes no word.
-use Rattle.std.proofs.Common.{◌≡◌, inr, ℕ, zero, suc, ◌^◌, ◌<◌, ◌≤◌, List, [], ◌∷◌, length, get_or, set, Bool, false, Option, Some, None, refl, sym, ap, ◌∙◌, subst, arith, get_or-set_same, get_or-set_other, replicate}
+use Rattle.std.proofs.Common.{◌≡◌, inr, ℕ, zero, suc, ◌^◌, ◌<◌, ◌≤◌, List, [], ◌∷◌, ◌++◌, length, get_or, set, Bool, false, Option, Some, None, refl, sym, ap, ◌∙◌, subst, arith, get_or-set_same, get_or-set_other, replicate}
 use mathlib.Core.Option.{some, none}
 use lib.ListN.{get_elem?}
 use Rattle.atomic_table.specs.Table.{Allows, keeps, step}
@@ -21,13 +21,16 @@ use Rattle.fm_core.specs.declared.step.Step.TheVariants.{Publish, Release}
 use Rattle.fm_program.specs.Parts.{PlanParts}
 use Rattle.fm_board.specs.declared.about.About.{About}
 use Rattle.fm_board.specs.declared.view.Mind.{Mind}
-use Rattle.fm_board.specs.Plays.{MayRelease, Place, publishes, settled, viewing}
+use Rattle.fm_board.specs.Minds.{settled, stepping}
+use Rattle.fm_board.specs.Plays.{MayRelease, Place, publishes}
 use Rattle.fm_board.specs.StandsFor.{halt_at, IsSeat, IsSightOfZero, Spelt, StandsForSome, Table, setting}
 use Rattle.fm_board.specs.View.{processes, published, released}
-use Rattle.fm_board.specs.Words.{IsLow, floor_word}
+use Rattle.fm_board.specs.Words.{IsLow, floor_word, word_at}
 use Rattle.fm_board.proofs.Frames.{halt_stays, Leaves, desk_moves, floor_moves, no_floor, places_stay, reseated, written_stays}
+use Rattle.fm_board.proofs.Goings.{alone_still, goes_on, same_cells}
 use Rattle.fm_board.proofs.Later.{later, reviewed}
 use Rattle.fm_board.proofs.Looks.{lined, low, valid_of}
+use Rattle.fm_board.proofs.Runs.{begins_all, begins_more, extends_on, runs_on}
 use Rattle.fm_board.proofs.Spellings.{bounds_low}
 use Rattle.fm_board.proofs.Views as views
 
@@ -66,7 +69,8 @@ module _ (a : About) (s : Table) (k : StandsForSome a s) (m : Mind) (at : get_el
       let top = bounds_low (suc (length h.cells)) (setting a) h.cells clocks_low x.1 in omega (arith, clock, seen, top)
 
   abbrev w : Mind
-  w = viewing m (published m.view (floor_of (least m.view.sweep)) (due_of (least m.view.sweep)))
+  w = stepping m Publish (published m.view (floor_of (least m.view.sweep)) (due_of (least m.view.sweep)))
+      (k.history.steps ++ Publish ∷ [])
 
   pub publish_stands : length m.view.sweep ≡ processes m.view → m.view.due ≡ Nothing
       → StandsForSome a (record {
@@ -86,6 +90,8 @@ module _ (a : About) (s : Table) (k : StandsForSome a s) (m : Mind) (at : get_el
         here = omega (arith, l.desks, seat.here);
         is = record {
           plan = seat.is.plan;
+          lead = seat.is.lead;
+          seats = seat.is.seats;
           number = seat.is.number;
           holds = seat.is.holds;
           sweep = sym (ap (λ (x : Desk). x.sweep) here);
@@ -102,6 +108,7 @@ module _ (a : About) (s : Table) (k : StandsForSome a s) (m : Mind) (at : get_el
       record {
         core = h';
         sound = core.keeps (setting a) h Publish (valid_of a) k.sound allowed;
+        history = runs_on a s.views h k.history 0 m w at Publish allowed refl refl (begins_all (k.history.steps ++ Publish ∷ []));
         stands = record {
           crew = l.desks ∙ k.stands.crew;
           words = subst (λ (f : Floor). Spelt a (set s.words 0 (floor_word f)) h.cells (floor_of (least (desk h 0).sweep))) same
@@ -115,6 +122,11 @@ module _ (a : About) (s : Table) (k : StandsForSome a s) (m : Mind) (at : get_el
               (get_or-set_other s.words 0 (halt_at a) (floor_word (floor_of (least m.view.sweep))) 0 (λ e. absurd (omega arith))) refl
               k.stands.halt;
         };
+        going = goes_on a s h k.going 0 m w at (set s.words 0 (floor_word (floor_of (least m.view.sweep)))) h' (same_cells a h h' refl)
+            (λ x e. (x, e, refl, refl)) (k.going.known 0 m at);
+        alone = alone_still a s 0 m w (set s.words 0 (floor_word (floor_of (least m.view.sweep)))) s.homes at k.stands.views.made
+            k.alone refl refl refl
+            (λ j lt. get_or-set_other s.words 0 (word_at j) (floor_word (floor_of (least m.view.sweep))) 0 (λ e. absurd (omega arith)));
       }
 
   -- ---- release
@@ -137,7 +149,15 @@ module _ (a : About) (s : Table) (k : StandsForSome a s) (m : Mind) (at : get_el
       let long : length (sorted h.gather) ≡ length m.view.gathered = length-sorted h.gather ∙ ap length (sym sights.gathered) in
       let mine : IsSeat a h' 0 (settled m) = record {
         here = seat.here;
-        is = record { plan = seat.is.plan; number = seat.is.number; holds = seat.is.holds; sweep = seat.is.sweep; paced = seat.is.paced };
+        is = record {
+          plan = seat.is.plan;
+          lead = seat.is.lead;
+          seats = seat.is.seats;
+          number = seat.is.number;
+          holds = seat.is.holds;
+          sweep = seat.is.sweep;
+          paced = seat.is.paced;
+        };
         room = seat.room;
         zero = λ e. subst (λ (n : ℕ). IsSightOfZero (setting a) h' (released m.view n)) long
             (views.releases_zero a h m.view seat.is sights);
@@ -148,6 +168,9 @@ module _ (a : About) (s : Table) (k : StandsForSome a s) (m : Mind) (at : get_el
       record {
         core = h';
         sound = core.keeps (setting a) h (Release (length h.gather)) (valid_of a) k.sound allowed;
+        history = runs_on a s.views h k.history 0 m (settled m) at (Release (length h.gather)) allowed refl
+            (ap (λ (n : ℕ). m.log.mine ++ Release n ∷ []) (ap length sights.gathered))
+            (begins_more k.history.steps m.log.seen (Release (length h.gather) ∷ []) (k.history.seen 0 m at));
         stands = record {
           crew = k.stands.crew;
           words = k.stands.words;
@@ -156,6 +179,9 @@ module _ (a : About) (s : Table) (k : StandsForSome a s) (m : Mind) (at : get_el
           wrote = written_stays a s.words s.words s.views 0 m (settled m) at (λ p i few. refl) (λ x e. inr e) k.stands.wrote;
           halt = halt_stays a s.words s.words s.views 0 m (settled m) at refl refl k.stands.halt;
         };
+        going = goes_on a s h k.going 0 m (settled m) at s.words h' (same_cells a h h' refl) (λ x e. (x, e, refl, refl))
+            (k.going.known 0 m at);
+        alone = alone_still a s 0 m (settled m) s.words s.homes at k.stands.views.made k.alone refl refl refl (λ j lt. refl);
       }
 
 -- a publish is the core's publish
@@ -167,14 +193,18 @@ publishes_of a slots id new m number swept due is_new s k sized at small =
     let zero_is : 0 ≡ id = sym number ∙ seat.is.number in
     let at_0 : get_elem? s.views 0 ≡ some m.0 = subst (λ (n : ℕ). get_elem? s.views n ≡ some m.0) (sym zero_is) at in
     let f : Floor = floor_of (least m.0.view.sweep) in
-    let w : Mind = viewing m.0 (published m.0.view f (due_of (least m.0.view.sweep))) in (
+    let w : Mind = stepping m.0 Publish (published m.0.view f (due_of (least m.0.view.sweep))) (k.history.steps ++ Publish ∷ []) in (
       w,
       keeps,
       tt,
       subst (λ (y : ℕ × ℕ). StandsForSome a (record { words = set s.words 0 y.1; homes = s.homes; views = set s.views y.0 w }))
           (λ i. (zero_is i, sym is_new i))
           (publish_stands a s k m.0 at_0 swept due),
-      record { mind = refl; out = refl },
+      record {
+        mind = refl;
+        extends = extends_on a s.views k.core k.history 0 m.0 w at_0 Publish refl refl refl m.0.view.number number;
+        out = refl;
+      },
     )
 
 -- the rule survives a release

@@ -7,16 +7,21 @@ use Rattle.fm_core.specs.declared.sight.Sight.{Sight as Look}
 use Rattle.fm_board.specs.declared.about.About.{About}
 use Rattle.fm_board.specs.declared.view.Hold.{Hold}
 use Rattle.fm_board.specs.declared.view.Mind.{Mind}
-use Rattle.fm_board.specs.Plays.{Place, records, viewing, writes}
-use Rattle.fm_board.specs.Seats.{MayWrite, Sight, is_over}
+use Rattle.fm_core.specs.declared.step.Step.{Step}
+use Rattle.fm_core.specs.declared.step.Step.TheVariants.{Record}
+use Rattle.fm_board.specs.Minds.{stepping, viewing}
+use Rattle.fm_board.specs.Plays.{Place, records, writes}
+use Rattle.fm_board.specs.Seats.{IsOurs, MayWrite, Sight, making}
+use Rattle.fm_board.specs.View.{is_over}
 use Rattle.fm_board.specs.StandsFor.{StandsForSome}
-use Rattle.fm_board.specs.View.{noted, noted_hold, wrote, wrote_hold}
+use Rattle.fm_board.specs.View.{noted, noted_hold, process_of, wrote, wrote_hold}
 use Rattle.atomic_table.specs.Seated.{TableId}
 use Rattle.fm_strand.specs.Course.{PlaceFits}
 use Rattle.fm_board.specs.Words.{place_at, place_word}
 use Rattle.fm_strand.proofs.PlaceLemmas.{end-fits}
 use Rattle.fm_strand.specs.Course.{end_place}
-use Rattle.fm_board.proofs.Records.{records_of, writes_of}
+use Rattle.fm_board.proofs.Records.{records_of}
+use Rattle.fm_board.proofs.Writes.{writes_of}
 use Rattle.fm_board.proofs.Steps.{Tidy, still_swept}
 use Rattle.fm_board.specs.Seats.{carried}
 use Rattle.fm_board.specs.Calls.{MayRecord}
@@ -98,7 +103,34 @@ noted_wrote None n = refl
 noted_wrote (Some h) n = refl
 
 -- noting the end forgets how many words were written
-pub still_noted : (m m' : Mind) (n : ℕ) → m' ≡ viewing m (wrote m.view n) → viewing m' (noted m'.view) ≡ viewing m (noted m.view)
-still_noted m m' n is =
-    ap (λ (y : Mind). viewing y (noted y.view)) is
-    ∙ (λ i. viewing m (record m.view { holds = noted_wrote m.view.holds n i }))
+pub still_noted : (m m' : Mind) (p n : ℕ) (xs : List Step) → m' ≡ viewing m (wrote m.view n)
+    → stepping m' (Record m'.view.number p) (noted m'.view) xs ≡ stepping m (Record m.view.number p) (noted m.view) xs
+still_noted m m' p n xs is =
+    ap (λ (y : Mind). stepping y (Record y.view.number p) (noted y.view) xs) is
+    ∙ (λ i. stepping m (Record m.view.number p) (record m.view { holds = noted_wrote m.view.holds n i }) xs)
+
+-- nor does it make the seat another board's
+pub still_ours : (t : TableId) (a : About) (x y : Sight) (p : ℕ) → IsOurs t a x → y.table ≡ x.table
+    → ((xs : List Step) → stepping y.mind (Record y.mind.view.number p) (noted y.mind.view) xs
+    ≡ stepping x.mind (Record x.mind.view.number p) (noted x.mind.view) xs)
+    → IsOurs t a y
+still_ours t a x y p ours table same = record {
+  table = table ∙ ours.table;
+  plan = ap (λ (m : Mind). m.view.plan) (same []) ∙ ours.plan;
+  room = ap (λ (m : Mind). m.room) (same []) ∙ ours.room;
+  lead = ap (λ (m : Mind). m.view.lead) (same []) ∙ ours.lead;
+  seats = ap (λ (m : Mind). m.view.seats) (same []) ∙ ours.seats;
+}
+
+-- what the last store leaves
+pub recorded_as : (a : About) (t1 t2 : TableId) (m m' : Place) (p w : ℕ) (x : Sight) → MayWrite a x p 8 w
+    → m'.0 ≡ stepping m.0 (Record m.0.view.number (process_of m.0.view.holds)) (noted m.0.view) m'.0.log.seen → t2 ≡ t1
+    → record { table = t1; mind = m.0 } ≡ x
+    → ◌≡◌ {A = Sight} (record { table = t2; mind = m'.0 }) (making x (Record x.mind.view.number p) (noted x.mind.view) m'.0.log.seen)
+recorded_as a t1 t2 m m' p w x may now kept seen =
+    let minds : m.0 ≡ x.mind = ap (λ (y : Sight). y.mind) seen in
+    let held : process_of m.0.view.holds ≡ p = ap (λ (y : Mind). process_of y.view.holds) minds ∙ (ap process_of may.is ∙ may.process) in
+    λ i. record {
+      table = (kept ∙ ap (λ (y : Sight). y.table) seen) i;
+      mind = (now ∙ (λ j. stepping (minds j) (Record (minds j).view.number (held j)) (noted (minds j).view) m'.0.log.seen)) i;
+    }

@@ -19,7 +19,8 @@ use Rattle.fm_core.specs.declared.tag.Tag.{Tag}
 use Rattle.fm_strand.proofs.WholeLemmas.{end-late}
 use Rattle.fm_strand.proofs.ValidLemmas.{lines-valid}
 use Rattle.fm_strand.specs.declared.strand.Strand.{Strand}
-use Rattle.fm_strand.specs.Strand.{clock_of}
+use Rattle.fm_strand.specs.Strand.{clock_of, steps_left}
+use Rattle.fm_program.specs.Parts.{PlanParts}
 use Rattle.fm_board.specs.declared.about.About.{About}
 use Rattle.fm_board.specs.declared.room.Room.{Room}
 use Rattle.fm_board.specs.declared.view.Hold.{Hold}
@@ -27,11 +28,16 @@ use Rattle.fm_board.specs.declared.view.Mind.{Mind}
 use Rattle.fm_board.specs.declared.view.View.{View}
 use Rattle.fm_board.specs.Answers.{Gave}
 use Rattle.fm_board.specs.Calls.{MayGive, Releases}
-use Rattle.fm_board.specs.Plays.{GivesBack, Place, Publishes, gives_back, noticed, publishes, viewing}
-use Rattle.fm_board.specs.Plays as plays
-use Rattle.fm_board.specs.Seats.{IsNext, Sight, carried, is_over}
+use Rattle.fm_core.specs.declared.step.Step.TheVariants.{Release}
+use Rattle.fm_board.specs.Minds.{did, noticed, stepping}
+use Rattle.fm_board.specs.Plays.{GivesBack, Place, brings, brings_events, events_in, gives_back, left_in, publishes}
+use Rattle.fm_board.specs.Minds as seat_minds
+use Rattle.fm_board.specs.Knowing.{Knows}
+use Rattle.fm_board.specs.Runs.{Extends}
+use Rattle.fm_board.specs.Seats.{IsNext, Sight, carried, making}
+use Rattle.fm_board.specs.View.{is_over}
 use Rattle.fm_board.specs.StandsFor.{StandsForSome, count}
-use Rattle.fm_board.specs.View.{gave, processes, released}
+use Rattle.fm_board.specs.View.{gave, giving, processes, released}
 use Rattle.fm_board.specs.Words.{floor_word, spell, word_at}
 use Rattle.fm_board.proofs.Gives.{brought, gives_of}
 use Rattle.fm_board.proofs.Publishing.{publishes_of}
@@ -88,21 +94,42 @@ gave_tidy n p clock c o xs tag m m1 m2 r tidy now back =
 
 pub gave_as : (a : About) (t1 t2 t3 : TableId) (n p clock left c : ℕ) (o : Bool) (xs : List Look) (tag : Tag) (m m1 m2 : Place)
     (r : Option Room) (s : Strand) (box : EventQueue) (x : Sight)
-    → MayGive a x.mind.view p s box → Tidy n o xs c m → m1 ≡ (m.0, (p, r) ∷ rest m.1) → GivesBack m1 p tag clock m2
+    → MayGive a x.mind.view p s box → Tidy n o xs c m → m1 ≡ (m.0, (p, r) ∷ rest m.1) → events_in r ≡ length box.events
+    → ((q : PlanParts) → left_in q r ≡ steps_left q s) → x.mind.view.plan ≡ a.plan → GivesBack m1 p tag clock m2
     → tag ≡ given_tag a.room o left → left ≡ length box.events → clock ≡ clock_of a.plan s → t3 ≡ t2 → t2 ≡ t1
     → record { table = t1; mind = m.0 } ≡ x
     → Gave a x (record { process = p; strand = s; outbox = box }) (record { table = t3; mind = m2.0 })
-gave_as a t1 t2 t3 n p clock left c o xs tag m m1 m2 r s box x may tidy now back is_tag is_left is_clock k2 k1 seen =
+gave_as a t1 t2 t3 n p clock left c o xs tag m m1 m2 r s box x may tidy now many came plan back is_tag is_left is_clock k2 k1 seen =
     let minds : m.0 ≡ x.mind = ap (λ (y : Sight). y.mind) seen in
+    let brought_in : brings_events m1.1 ≡ length box.events = ap (λ (y : Place). brings_events y.1) now ∙ many in
+    let steps : brings m1.0.view.plan m1.1 ≡ steps_left a.plan s =
+    ap (λ (y : Place). brings y.0.view.plan y.1) now ∙ (came m.0.view.plan
+    ∙ ap (λ (q : PlanParts). steps_left q s) (ap (λ (y : Mind). y.view.plan) minds ∙ plan)) in
     let over : o ≡ is_over x.mind.view.holds =
     tidy.3 (λ e. some_held a x.mind.view p s box may (ap (λ (y : Mind). y.view.holds) (sym minds) ∙ e))
     ∙ ap (λ (y : Mind). is_over y.view.holds) minds in
     λ i. record {
       table = (k2 ∙ (k1 ∙ ap (λ (y : Sight). y.table) seen)) i;
       mind = (back.mind ∙ (λ j. noticed ((ap (λ (y : Place). y.0) now ∙ minds) j) p
-          ((is_tag ∙ (λ k. given_tag a.room (over k) (is_left k))) j) (is_clock j)
-          (gave ((ap (λ (y : Place). y.0) now ∙ minds) j).view))) i;
+          ((is_tag ∙ (λ k. given_tag a.room (over k) (is_left k))) j) (is_clock j) (steps j)
+          (gave ((ap (λ (y : Place). y.0) now ∙ minds) j).view)
+          (did ((ap (λ (y : Place). y.0) now ∙ minds) j)
+          (giving ((ap (λ (y : Place). y.0) now ∙ minds) j).view p (brought_in j) (is_clock j)) m2.0.log.seen))) i;
     }
+
+-- and what the seat knows then
+pub gave_knows : (p : ℕ) (tag : Tag) (clock : ℕ) (m m1 m2 : Place) (r : Option Room) (t1 : TableId) (x : Sight)
+    → m1 ≡ (m.0, (p, r) ∷ rest m.1) → GivesBack m1 p tag clock m2 → record { table = t1; mind = m.0 } ≡ x → Knows x.mind m2.0
+gave_knows p tag clock m m1 m2 r t1 x now back seen =
+    subst (λ (y : Mind). Knows y m2.0) (ap (λ (y : Place). y.0) now ∙ ap (λ (y : Sight). y.mind) seen) back.knows
+
+-- and what it has seen
+pub gave_extends : (p : ℕ) (tag : Tag) (clock : ℕ) (m m1 m2 : Place) (r : Option Room) (t1 : TableId) (x : Sight)
+    → m1 ≡ (m.0, (p, r) ∷ rest m.1) → GivesBack m1 p tag clock m2 → record { table = t1; mind = m.0 } ≡ x
+    → Extends x.mind.view.number x.mind.log m2.0.log
+gave_extends p tag clock m m1 m2 r t1 x now back seen =
+    subst (λ (y : Mind). Extends y.view.number y.log m2.0.log) (ap (λ (y : Place). y.0) now ∙ ap (λ (y : Sight). y.mind) seen)
+    back.extends
 
 -- ---- publish
 
@@ -129,13 +156,14 @@ gathered_next m x old new is next taken permuted in_order =
       ap length settles ∙ length-sorted m.view.gathered,
     )
 
-pub released_as : (t1 t2 : TableId) (m m2 : Place) (n : ℕ) (x : Sight) → m2 ≡ (plays.settled m.0, m.1) → n ≡ length m.0.view.gathered
+pub released_as : (t1 t2 : TableId) (m m2 : Place) (n : ℕ) (x : Sight) → m2 ≡ (seat_minds.settled m.0, m.1) → n ≡ length m.0.view.gathered
     → t2 ≡ t1
     → record { table = t1; mind = m.0 } ≡ x
-    → ◌≡◌ {A = Sight} (record { table = t2; mind = m2.0 }) (record { table = x.table; mind = viewing x.mind (released x.mind.view n) })
+    → ◌≡◌ {A = Sight} (record { table = t2; mind = m2.0 }) (making x (Release n) (released x.mind.view n) x.mind.log.seen)
 released_as t1 t2 m m2 n x now long kept seen =
     let minds : m.0 ≡ x.mind = ap (λ (y : Sight). y.mind) seen in
     λ i. record {
       table = (kept ∙ ap (λ (y : Sight). y.table) seen) i;
-      mind = (ap (λ (y : Place). y.0) now ∙ (λ j. viewing (minds j) (released (minds j).view (sym long j)))) i;
+      mind = (ap (λ (y : Place). y.0) now
+          ∙ (λ j. stepping (minds j) (Release (sym long j)) (released (minds j).view (sym long j)) (minds j).log.seen)) i;
     }

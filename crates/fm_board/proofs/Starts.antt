@@ -1,6 +1,6 @@
 -- A start keeps the rule.
-use Rattle.std.proofs.Common.{◌≡◌, inl, ℕ, ◌-◌, ◌<◌, [], ◌∷◌, length, get_or, set, take, drop, true, false, Option, Some, None, refl, sym, ap, ◌∙◌, subst, arith, eqb, eq-eqb, ne_eqb, get_or-set_same}
-use Rattle.std.specs.Prelude.{nat_eq}
+use Rattle.std.proofs.Common.{◌≡◌, ◌⊎◌, inl, inr, ℕ, ◌-◌, ◌<◌, List, [], ◌∷◌, ◌++◌, Bool, length, get_or, set, take, drop, true, false, Option, Some, None, refl, sym, ap, ◌∙◌, subst, arith, eqb, eq-eqb, ne_eqb, get_or-set_same, ◌≢◌, ◌≤◌}
+use Rattle.std.specs.Prelude.{nat_eq, if◌then◌else◌}
 use mathlib.Core.Option.{some, none}
 use lib.ListN.{get_elem?}
 use prog.Atomic.{either}
@@ -10,27 +10,84 @@ use Rattle.fm_line.specs.Line.{line, start}
 use Rattle.fm_core.proofs.Booleans.{left_false}
 use Rattle.fm_core.proofs.Elements.{take_none}
 use Rattle.fm_core.proofs.Keeps as core
-use Rattle.fm_core.proofs.May.{free, may_start}
+use Rattle.fm_core.proofs.May.{free, may_recall, may_start}
 use Rattle.fm_core.specs.Effects.{after, begun}
 use Rattle.fm_core.specs.State.{State, cell, held_by, unborn}
 use Rattle.fm_core.specs.Tags.{is_ended, is_held, is_unborn}
 use Rattle.fm_core.specs.Taking.{outbox}
 use Rattle.fm_core.specs.declared.cell.Cell.{Cell}
-use Rattle.fm_core.specs.declared.step.Step.TheVariants.{Start}
+use Rattle.fm_core.specs.declared.step.Step.{Step}
+use Rattle.fm_core.specs.declared.step.Step.TheVariants.{Recall, Start}
 use Rattle.fm_core.specs.declared.tag.Tag.TheVariants.{Out, Unborn}
 use Rattle.fm_program.specs.Parts.{PlanParts}
 use Rattle.fm_program.specs.Process.{plan_lines}
 use Rattle.fm_board.specs.declared.about.About.{About}
 use Rattle.fm_board.specs.declared.room.Room.{Room}
 use Rattle.fm_board.specs.declared.view.Hold.{Hold}
+use Rattle.fm_board.specs.declared.view.Log.{Log}
 use Rattle.fm_board.specs.declared.view.Mind.{Mind}
-use Rattle.fm_board.specs.Plays.{Begins, Finds, Marked, Place, recalls, spotted, starts}
-use Rattle.fm_board.specs.StandsFor.{AtHome, HoldsIn, IsHoldOf, IsSeat, IsViewOf, Shown, StandsFor, StandsForSome, Table, count, setting}
+use Rattle.fm_board.specs.Minds.{did, recalled, spotted, turned}
+use Rattle.fm_board.specs.Plays.{Begins, Finds, Marked, Place, Tells, recalls, starts}
+use Rattle.fm_board.specs.StandsFor.{AtHome, Going, HoldsIn, IsHoldOf, IsRun, IsSeat, IsViewOf, Shown, StandsFor, StandsForSome, Table, count, setting}
+use Rattle.std.specs.Prelude.{All}
+use Rattle.std.proofs.lemmas.List.Elements.{All-nil}
+use Rattle.fm_strand.specs.Course.{steps_of}
+use Rattle.fm_board.proofs.Goings.{alone_on, away, changes, put_left, put_less, put_same, seen_known}
 use Rattle.fm_board.specs.View.{holding, lines_of}
 use Rattle.fm_board.specs.Words.{spell, spelt, word_at}
-use Rattle.fm_board.proofs.Claims.{same_some, saw}
+use Rattle.fm_board.proofs.Claims.{same_some}
+use Rattle.fm_board.proofs.Found.{saw}
 use Rattle.fm_board.proofs.Frames.{halt_other, halt_stays, Leaves, cell_moves, goes_out, no_word, places_stay, reseated, word_moves, written_stays}
-use Rattle.fm_board.proofs.Looks.{finds, lined, says, sees_now, valid_of}
+use Rattle.fm_board.specs.Runs.{BeginsWith, Extends}
+use Rattle.fm_board.proofs.Runs.{begins_all, extends_on, extends_still, runs_on, runs_still}
+use Rattle.fm_board.proofs.Spellings.{yes_or_no}
+use Rattle.fm_core.specs.declared.tag.Tag.{Tag}
+use Rattle.fm_board.proofs.Looks.{finds, found_tells, lined, says, sees_now, turned_seat, valid_of}
+
+-- a seat that finds a process ended, without a look, recalls it, which changes nothing
+module _ (a : About) (s : Table) (k : StandsForSome a s) (p id : ℕ) (m w : Mind) (at : get_elem? s.views id ≡ some m)
+    (inside : p < length k.core.cells) (is : w.log ≡ recalled m p (k.history.steps ++ Recall id p ∷ []) (cell k.core p).tag) where
+  abbrev recalled_steps : List Step
+  recalled_steps = k.history.steps ++ Recall id p ∷ []
+
+  by_tag : (b : Bool) → is_ended (cell k.core p).tag ≡ b → w.log ≡ (if b then did m (Recall m.view.number p) recalled_steps else m.log)
+  by_tag b e = is ∙ ap (λ (c : Bool). if c then did m (Recall m.view.number p) recalled_steps else m.log) e
+
+  mine_is : is_ended (cell k.core p).tag ≡ true → w.log.mine ≡ m.log.mine ++ Recall id p ∷ []
+  mine_is ended = ap (λ (l : Log). l.mine) (by_tag true ended)
+      ∙ ap (λ (n : ℕ). m.log.mine ++ Recall n p ∷ []) (k.stands.views.viewed id m at).is.number
+
+  seen_is : is_ended (cell k.core p).tag ≡ true → w.log.seen ≡ recalled_steps
+  seen_is ended = ap (λ (l : Log). l.seen) (by_tag true ended)
+
+  pub recalls_run : IsRun a (set s.views id w) k.core
+  recalls_run = by_case (yes_or_no (is_ended (cell k.core p).tag))
+    where
+      by_case : (is_ended (cell k.core p).tag ≡ true) ⊎ (is_ended (cell k.core p).tag ≡ false) → IsRun a (set s.views id w) k.core
+      by_case (inl ended) =
+          runs_on a s.views k.core k.history id m w at (Recall id p)
+          (may_recall (setting a) k.core id p (k.stands.views.viewed id m at).here inside ended) refl (mine_is ended)
+          (subst (BeginsWith recalled_steps) (sym (seen_is ended)) (begins_all recalled_steps))
+      by_case (inr live) = runs_still a s.views k.core k.history id m w at (by_tag false live)
+
+  pub recalls_extend : Extends m.view.number m.log w.log
+  recalls_extend = by_case (yes_or_no (is_ended (cell k.core p).tag))
+    where
+      by_case : (is_ended (cell k.core p).tag ≡ true) ⊎ (is_ended (cell k.core p).tag ≡ false) → Extends m.view.number m.log w.log
+      by_case (inl ended) =
+          extends_on a s.views k.core k.history id m w at (Recall id p) refl (mine_is ended) (seen_is ended) m.view.number
+          (k.stands.views.viewed id m at).is.number
+      by_case (inr live) = extends_still a s.views k.core k.history id m w at (by_tag false live) m.view.number
+
+-- what it has seen then says the same of its log
+recalled_seen : (m : Mind) (p : ℕ) (xs : List Step) (t : Tag) → recalled m p (recalled m p xs t).seen t ≡ recalled m p xs t
+recalled_seen m p xs t = go (is_ended t)
+  where
+    go : (b : Bool)
+        → (if b then did m (Recall m.view.number p) (if b then did m (Recall m.view.number p) xs else m.log).seen else m.log)
+        ≡ (if b then did m (Recall m.view.number p) xs else m.log)
+    go true = refl
+    go false = refl
 
 -- the load of a word that is no look changes nothing of the core
 pub recalls_of : (a : About) (slots id p : ℕ) (m : Place) → p < count a
@@ -39,13 +96,23 @@ recalls_of a slots id p m near s k sized at small =
     let h : State = k.core in
     let seat = k.stands.views.viewed id m.0 at in
     let inside : p < length h.cells = omega (arith, lined a s k, near) in
-    let w : Mind = spotted m.0 p (cell h p).tag (cell h p).clock (get_or s.words (word_at p) 0) m.0.view in (
+    let xs : Log = recalled m.0 p (k.history.steps ++ Recall id p ∷ []) (cell h p).tag in
+    let word : ℕ = get_or s.words (word_at p) 0 in
+    let w : Mind = spotted m.0 p (cell h p).tag (cell h p).clock word m.0.view xs in
+    let extends = recalls_extend a s k p id m.0 w at inside refl in
+    let same = recalled_seen m.0 p (k.history.steps ++ Recall id p ∷ []) (cell h p).tag in
+    let found : Finds m p word (λ t c. m.0.view) (recalled m.0 p xs.seen) (w, m.1) =
+    subst (λ (l : Log). Finds m p word (λ t c. m.0.view) (recalled m.0 p xs.seen) (
+      spotted m.0 p (cell h p).tag (cell h p).clock word m.0.view l,
+      m.1,
+    )) same
+    (finds a s k id p m.0 m.1 (λ t c. m.0.view) (recalled m.0 p xs.seen) at seat inside
+    (subst (Extends m.0.view.number m.0.log) (sym same) extends)) in (
       w,
       keeps,
       tt,
-      saw a s k p id m.0 m.1 at inside,
-      λ q e. subst (λ (z : ℕ). Finds m z (get_or s.words (word_at p) 0) (λ t c. m.0.view) (w, m.1)) (omega (arith, e))
-          (finds a s k id p m.0 m.1 (λ t c. m.0.view) seat inside),
+      saw a s k p id m.0 m.1 xs at inside (recalls_run a s k p id m.0 w at inside refl),
+      λ q e. subst (λ (z : ℕ). Finds m z word (λ t c. m.0.view) (recalled m.0 z xs.seen) (w, m.1)) (omega (arith, e)) found,
     )
 
 abbrev Won : About → (s : Table) → ℕ → ℕ → ℕ → ℕ → Place → ℕ → Type 0
@@ -93,7 +160,16 @@ module _ (a : About) (s : Table) (k : StandsForSome a s) (p id : ℕ) (m : Place
   h' = after (setting a) h (Start id p)
 
   abbrev hold : Hold
-  hold = record { process = p; computed = c.computed; taken = c.taken; clock = now; was_ended = false; recorded = false; written = 0 }
+  hold = record {
+    process = p;
+    computed = c.computed;
+    taken = c.taken;
+    clock = now;
+    was_ended = false;
+    recorded = false;
+    written = 0;
+    left = steps_of a.plan p;
+  }
 
   here : get_or (set h.cells p new_cell) p unborn ≡ new_cell
   here = get_or-set_same h.cells p new_cell unborn inside
@@ -108,6 +184,8 @@ module _ (a : About) (s : Table) (k : StandsForSome a s) (p id : ℕ) (m : Place
   view : IsViewOf a h' id (holding m.0.view hold)
   view = record {
     plan = seat.is.plan;
+    lead = seat.is.lead;
+    seats = seat.is.seats;
     number = seat.is.number;
     holds = (
       omega (arith, leaves.cells, inside),
@@ -119,17 +197,22 @@ module _ (a : About) (s : Table) (k : StandsForSome a s) (p id : ℕ) (m : Place
     paced = seat.is.paced;
   }
 
+  abbrev started_steps : List Step
+  started_steps = k.history.steps ++ Start id p ∷ []
+
   abbrev w : Mind
-  w = spotted m.0 p Out now 0 (holding m.0.view hold)
+  w = turned (spotted m.0 p Out now 0 (holding m.0.view hold) (did m.0 (Start m.0.view.number p) started_steps))
 
   mine : IsSeat a h' id w
-  mine = sees_now a h' id p m.0 (holding m.0.view hold) seat.here view seat.room
+  mine = turned_seat a h' id (spotted m.0 p Out now 0 (holding m.0.view hold) (did m.0 (Start m.0.view.number p) started_steps))
+      (sees_now a h' id p m.0 (holding m.0.view hold) seat.here view seat.room
       (λ e. let z = seat.zero e in
       record { lines = z.lines; due = z.due; visited = z.visited; gathered = z.gathered; released = z.released; published = z.published })
       seat.wide
       (λ q. let on = leaves.clock q in let known = seat.known q in omega arith)
       (λ q e. leaves.over q (seat.over q e))
-      Out now 0 (let clock = ap (λ (x : Cell). x.clock) here in omega arith) (λ e. absurd (cc))
+      Out now 0 (did m.0 (Start m.0.view.number p) started_steps)
+      (let clock = ap (λ (x : Cell). x.clock) here in omega arith) (λ e. absurd (cc)))
 
   -- each predecessor is at its end, for the seat has seen it there
   ended : (i : ℕ) → i < length (line (plan_lines a.plan) p).predecessors
@@ -137,6 +220,40 @@ module _ (a : About) (s : Table) (k : StandsForSome a s) (p id : ℕ) (m : Place
   ended i lt =
       seat.over _ (subst (λ (q : PlanParts). (i : ℕ) → i < length (line (plan_lines q) p).predecessors
       → get_or m.0.over (get_or (line (plan_lines q) p).predecessors i 0) false ≡ true) seat.is.plan marked i lt)
+
+  -- nothing waits
+  empty : outbox (line (plan_lines a.plan) p) c ≡ []
+  empty =
+      (λ i. take (none_computed i - c.taken) (drop c.taken (line (plan_lines a.plan) p).events))
+      ∙ (ap (λ (n : ℕ). take (0 - n) (drop c.taken (line (plan_lines a.plan) p).events)) none_taken
+      ∙ take_none (drop c.taken (line (plan_lines a.plan) p).events))
+
+  -- it was not born
+  newly : steps_of a.plan p < k.going.left p
+  newly = k.going.unborn p inside open_tag.0
+
+  -- nobody else holds it
+  none_else : (j : ℕ) (u : Mind) (x : Hold) → j ≢ id → get_elem? s.views j ≡ some u → u.view.holds ≡ Some x → x.process ≢ p
+  none_else j u x n there holds same =
+      let o : HoldsIn h j (Some x) = subst (HoldsIn h j) holds (k.stands.views.viewed j u there).is.holds in
+      let held : held_by j c ≡ true = ap (λ (z : ℕ). held_by j (cell h z)) (sym same) ∙ o.1 in
+      let no : held_by j c ≡ false = left_false (is_held c.tag) (nat_eq c.seat j) open_tag.1 in absurd (cc)
+
+  going : (ws : List ℕ) → Going a (record { words = ws; homes = set s.homes p none; views = set s.views id w }) h'
+  going ws =
+      let f = put_left k.going.left p (steps_of a.plan p) in
+      let less : steps_of a.plan p ≤ k.going.left p = let n = newly in omega (arith, n) in
+      changes a s h k.going id m.0 w at ws (set s.homes p none) p (steps_of a.plan p) new_cell h' refl inside refl (omega arith) less
+      (subst (All (λ e. e.time ≤ now)) (sym empty) (All-nil (λ e. e.time ≤ now)))
+      (away a s h k.going p (steps_of a.plan p))
+      (λ x e. let is : hold ≡ x = same_some hold x e in
+      ap (λ (y : Hold). y.left) (sym is)
+      ∙ sym (put_same k.going.left p (steps_of a.plan p) x.process (ap (λ (y : Hold). y.process) (sym is))))
+      none_else
+      (seen_known a m.0 f p Out seat.is.plan
+      (λ j lt. let one = put_less k.going.left p (steps_of a.plan p) j less in let two = k.going.known id m.0 at j lt in
+      omega (arith, one, two))
+      (λ b. let is = put_same k.going.left p (steps_of a.plan p) p refl in omega (arith, is)))
 
   pub start_wins : (new slots : ℕ) → new ≡ spell Out now id → Won a s p id new slots m new
   start_wins new slots is_new =
@@ -158,11 +275,7 @@ module _ (a : About) (s : Table) (k : StandsForSome a s) (p id : ℕ) (m : Place
         halt = halt_stays a s.words (set s.words (word_at p) (spelt new_cell)) s.views id m.0 w at
             (halt_other a s.words p (spelt new_cell) near) refl k.stands.halt;
       } in
-      let plans : now ≡ start (lines_of m.0.view) p = ap (λ (q : PlanParts). start (plan_lines q) p) (sym seat.is.plan) in
-      let empty : outbox (line (plan_lines a.plan) p) c ≡ [] =
-      (λ i. take (none_computed i - c.taken) (drop c.taken (line (plan_lines a.plan) p).events))
-      ∙ (ap (λ (n : ℕ). take (0 - n) (drop c.taken (line (plan_lines a.plan) p).events)) none_taken
-      ∙ take_none (drop c.taken (line (plan_lines a.plan) p).events)) in (
+      let plans : now ≡ start (lines_of m.0.view) p = ap (λ (q : PlanParts). start (plan_lines q) p) (sym seat.is.plan) in (
         w,
         takes p (Some home.0),
         home.1,
@@ -174,6 +287,12 @@ module _ (a : About) (s : Table) (k : StandsForSome a s) (p id : ℕ) (m : Place
             homes = set s.homes p none;
             views = set s.views id w;
           }) h') (sym is_new) stands;
+          history = runs_on a s.views h k.history id m.0 w at (Start id p) allowed refl
+              (ap (λ (n : ℕ). m.0.log.mine ++ Start n p ∷ []) seat.is.number) (begins_all started_steps);
+          going = going (set s.words (word_at p) new);
+          alone = alone_on a s id m.0 w (set s.words (word_at p) new) (set s.homes p none) at k.stands.views.made
+              (λ _ _ inside_now. absurd (let n = ap (λ (q : PlanParts). length q.programs) seat.is.plan in
+              omega (arith, inside_now, n)));
         },
         λ q e. let same : p ≡ q = omega (arith, e) in (
           (λ _. subst (λ (y : ℕ). Begins m y (w, (p, Some home.0) ∷ m.1)) same (record {
@@ -185,8 +304,13 @@ module _ (a : About) (s : Table) (k : StandsForSome a s) (p id : ℕ) (m : Place
             clock = plans;
             was_ended = refl;
             fresh = refl;
+            left = ap (λ (q : PlanParts). steps_of q p) (sym seat.is.plan);
+            tells = subst (λ (y : Tag × ℕ). Tells m.0 p y.0 y.1) (λ i. (is.0 i, is.1 i)) (found_tells a s k id p m.0 at seat inside);
             box = home.2.box ∙ (λ i. record { room = sym seat.room i; events = empty i });
-            mind = ap (λ (n : ℕ). spotted m.0 p Out n 0 (holding m.0.view hold)) plans;
+            mind = ap (λ (n : ℕ). turned (spotted m.0 p Out n 0 (holding m.0.view hold)
+                (did m.0 (Start m.0.view.number p) started_steps))) plans;
+            extends = extends_on a s.views h k.history id m.0 w at (Start id p) refl
+                (ap (λ (n : ℕ). m.0.log.mine ++ Start n p ∷ []) seat.is.number) refl m.0.view.number seat.is.number;
             out = refl;
           })),
           (λ n. absurd (n found)),
@@ -204,15 +328,16 @@ starts_of a slots id p new m holds near marked is_new s k sized at small =
     exchanged (get_or s.words (word_at p) 0) 0 new (Won a s p id new slots m)
     (λ found. start_wins a s k p id m at holds near found marked new slots
     (is_new ∙ (λ i. spell Out (start (plan_lines (seat.is.plan i)) p) (seat.is.number i))))
-    (λ other. (
-      spotted m.0 p (cell h p).tag (cell h p).clock (get_or s.words (word_at p) 0) m.0.view,
+    (λ other.
+    let w : Mind = spotted m.0 p (cell h p).tag (cell h p).clock (get_or s.words (word_at p) 0) m.0.view m.0.log in (
+      w,
       keeps,
       tt,
-      saw a s k p id m.0 m.1 at inside,
+      saw a s k p id m.0 m.1 m.0.log at inside (runs_still a s.views h k.history id m.0 w at refl),
       λ q e. let same : p ≡ q = omega (arith, e) in (
         (λ found. absurd (other found)),
-        (λ _. subst (λ (z : ℕ). Finds m z (get_or s.words (word_at p) 0) (λ t c. m.0.view)
-            (spotted m.0 p (cell h p).tag (cell h p).clock (get_or s.words (word_at p) 0) m.0.view, m.1)) same
-            (finds a s k id p m.0 m.1 (λ t c. m.0.view) seat inside)),
+        (λ _. subst (λ (z : ℕ). Finds m z (get_or s.words (word_at p) 0) (λ t c. m.0.view) (λ t. m.0.log) (w, m.1)) same
+            (finds a s k id p m.0 m.1 (λ t c. m.0.view) (λ t. m.0.log) at seat inside
+            (extends_still a s.views h k.history id m.0 w at refl m.0.view.number))),
       ),
     ))

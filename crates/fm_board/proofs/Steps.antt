@@ -1,5 +1,5 @@
 -- The steps of the calls, over what a seat is seen as.
-use Rattle.std.proofs.Common.{◌≡◌, ◌≢◌, ℕ, ◌<◌, ◌≤◌, List, [], ◌∷◌, length, Bool, true, Option, Some, None, refl, sym, ap, ◌∙◌, subst, arith, eqb}
+use Rattle.std.proofs.Common.{◌≡◌, ◌≢◌, ℕ, ◌<◌, ◌≤◌, List, [], ◌∷◌, length, get_or, Bool, true, Option, Some, None, refl, sym, ap, ◌∙◌, subst, arith, eqb}
 use Rattle.std.specs.Prelude.{◌||◌}
 use mathlib.Core.Option.{none}
 use prog.Atomic.{either}
@@ -11,20 +11,25 @@ use Rattle.fm_core.specs.declared.tag.Tag.{Tag}
 use Rattle.fm_program.specs.Parts.{PlanParts}
 use Rattle.fm_board.specs.declared.about.About.{About}
 use Rattle.fm_board.specs.declared.room.Room.{Room}
+use Rattle.fm_board.specs.declared.view.Log.{Log}
 use Rattle.fm_board.specs.declared.view.Mind.{Mind}
 use Rattle.fm_board.specs.declared.view.View.{View}
-use Rattle.fm_board.specs.Plays.{Finds, Hands, Place, claims, looks, recalls, spotted}
-use Rattle.fm_board.specs.Seats.{IsOurs, IsSwept, Sight, carried, is_over}
+use Rattle.fm_core.specs.declared.step.Step.TheVariants.{Claim}
+use Rattle.fm_board.specs.Minds.{did, spotted, turned}
+use Rattle.fm_board.specs.Plays.{Finds, Hands, Place, Tells, claims, looks, recalls}
+use Rattle.fm_board.specs.Seats.{IsOurs, IsSwept, Sight, carried}
+use Rattle.fm_board.specs.View.{is_over}
 use Rattle.fm_board.specs.Answers.{Found}
 use Rattle.fm_board.specs.Answers as answers
 use Rattle.fm_board.specs.Calls.{IsHold}
+use Rattle.fm_board.specs.Runs.{Extends}
 use Rattle.fm_buffer.specs.Outbox.{EventQueue}
 use Rattle.fm_strand.specs.declared.strand.Strand.{Strand}
 use Rattle.fm_board.specs.StandsFor.{StandsForSome, count}
 use Rattle.fm_board.specs.View.{InTurn, holding, processes}
 use Rattle.fm_board.specs.Words.{spell, word_at}
 use Rattle.fm_board.specs.declared.seen.Seen.{Seen}
-use Rattle.fm_board.proofs.Looks.{looks_of}
+use Rattle.fm_board.proofs.Loads.{looks_of}
 use Rattle.fm_board.proofs.Claims.{claims_of}
 use Rattle.fm_board.proofs.Starts.{recalls_of}
 
@@ -44,18 +49,21 @@ looks_at key a t slots id i p m x same ours is at turn =
     (looks_of key slots id p m (below_count key a t x p same ours turn.there) (subst (λ (y : Mind). InTurn y.view p) (sym is) turn))
 
 -- what was found, as it is told
-pub found_as : (t t' : TableId) (p r : ℕ) (m m' : Place) (f : View → Tag → ℕ → View) (s : Seen) (x : Sight) → Finds m p r (f m.0.view) m'
+pub found_as : (t t' : TableId) (p r : ℕ) (m m' : Place) (f : View → Tag → ℕ → View) (g : Mind → Tag → Log) (s : Seen) (x : Sight)
+    → Finds m p r (f m.0.view) (g m.0) m'
     → s.seat ≤ 16
     → r ≡ spell s.tag s.clock s.seat → t' ≡ t → record { table = t; mind = m.0 } ≡ x
-    → Found x p s (f x.mind.view s.tag s.clock) (record { table = t'; mind = m'.0 })
-found_as t t' p r m m' f s x finds few word kept is =
-    subst (λ (y : Sight). Found y p s (f y.mind.view s.tag s.clock) (record { table = t'; mind = m'.0 })) is (record {
+    → Found x p s (f x.mind.view s.tag s.clock) (g x.mind s.tag) (record { table = t'; mind = m'.0 })
+found_as t t' p r m m' f g s x finds few word kept is =
+    subst (λ (y : Sight). Found y p s (f y.mind.view s.tag s.clock) (g y.mind s.tag) (record { table = t'; mind = m'.0 })) is (record {
       tells = finds.tells s.tag s.clock s.seat few word;
+      same = λ one first here. sym word ∙ finds.same one first here;
       sight = λ i. record {
         table = kept i;
         mind = (finds.mind s.tag s.clock s.seat few word
-            ∙ ap (λ (n : ℕ). spotted m.0 p s.tag s.clock n (f m.0.view s.tag s.clock)) word) i;
+            ∙ ap (λ (n : ℕ). spotted m.0 p s.tag s.clock n (f m.0.view s.tag s.clock) (g m.0 s.tag)) word) i;
       };
+      extends = finds.extends;
     })
 
 -- what a seat keeps of itself
@@ -162,6 +170,7 @@ hands_as a t0 t1 t2 t3 p n e m m1 m2 o r s x ours word hit is out was some k2 k1
     let room = room_is o r hit.strand hit.box out was in
     let strand : hit.strand ≡ s = same_some hit.strand s (sym (ap (λ (y : Room). y.strand) room) ∙ some) in
     let minds : m.0 ≡ x.mind = ap (λ (y : Sight). y.mind) seen in
+    let logs : m1.0.log ≡ m2.0.log = ap (λ (y : Place). y.0.log) (sym is) in
     record {
       hold = hit.hold;
       berth = record {
@@ -177,11 +186,15 @@ hands_as a t0 t1 t2 t3 p n e m m1 m2 o r s x ours word hit is out was some k2 k1
       };
       was_ended = hit.was_ended;
       at = hit.clock;
+      tells = subst (λ (y : Mind). Tells y p e.tag e.clock) minds hit.tells;
+      behind = subst (λ (y : Mind). hit.hold.left ≤ get_or y.left p 0) minds hit.behind;
       sight = λ i. record {
         table = (k2 ∙ (k1 ∙ ap (λ (y : Sight). y.table) seen)) i;
         mind = (ap (λ (y : Place). y.0) is ∙ (hit.mind
-            ∙ (λ j. spotted (minds j) p e.tag e.clock (word j) (holding (minds j).view hit.hold)))) i;
+            ∙ (λ j. turned (spotted (minds j) p e.tag e.clock (word j) (holding (minds j).view hit.hold)
+            (did (minds j) (Claim (minds j).view.number p) (logs j).seen))))) i;
       };
+      extends = subst (λ (y : Mind × Log). Extends y.0.view.number y.0.log y.1) (λ i. (minds i, logs i)) hit.extends;
     }
 
 -- ---- start

@@ -8,10 +8,13 @@ use Rattle.fm_core.specs.declared.sight.Sight.{Sight as Look}
 use Rattle.fm_core.specs.declared.tag.Tag.{Tag}
 use Rattle.fm_program.specs.Parts.{PlanParts}
 use Rattle.fm_program.specs.Process.{plan_lines}
+use Rattle.fm_board.specs.declared.view.Log.{Log}
 use Rattle.fm_board.specs.declared.view.Mind.{Mind}
 use Rattle.fm_board.specs.declared.view.View.{View}
-use Rattle.fm_board.specs.Plays.{Place, spotted}
-use Rattle.fm_board.specs.Seats.{IsSwept, carried, is_over}
+use Rattle.fm_board.specs.Minds.{spotted}
+use Rattle.fm_board.specs.Plays.{Place}
+use Rattle.fm_board.specs.Seats.{IsSwept, carried}
+use Rattle.fm_board.specs.View.{is_over}
 use Rattle.fm_board.specs.View.{InTurn, looked, sighted}
 use Rattle.fm_board.proofs.Steps.{Tidy}
 
@@ -38,11 +41,11 @@ same_sight v pl xs p k t x same plan clock ended =
 
 -- after a look
 pub looked_tidy : (n : ℕ) (o : Bool) (xs xs' lent : List Look) (c c' p k r : ℕ) (t : Tag) (m m' : Place) (y : Mind) (pl : PlanParts)
-    (x : Look)
-    → Tidy n o xs c m → m.0 ≡ y → InTurn y.view p → y.view.plan ≡ pl → m'.0 ≡ spotted m.0 p t k r (looked m.0.view p t k) → m'.1 ≡ m.1
+    (x : Look) (made : Log)
+    → Tidy n o xs c m → m.0 ≡ y → InTurn y.view p → y.view.plan ≡ pl → m'.0 ≡ spotted m.0 p t k r (looked m.0.view p t k) made → m'.1 ≡ m.1
     → lent ≡ xs → x.clock ≡ (if is_unborn t then greatest (map (λ q. (sight lent q).clock) (line (plan_lines pl) p).predecessors) else k)
     → x.ended ≡ is_ended t → xs' ≡ swept xs p x → c' ≡ c → Tidy n o xs' c' m'
-looked_tidy n o xs xs' lent c c' p k r t m m' y pl x tidy is turn plan now out lends clock ended entered space =
+looked_tidy n o xs xs' lent c c' p k r t m m' y pl x made tidy is turn plan now out lends clock ended entered space =
     let v : View = m.0.view in
     let old = tidy.4 in
     let plans : pl ≡ v.plan = sym (ap (λ (z : Mind). z.view.plan) is ∙ plan) in

@@ -1,12 +1,17 @@
 pub mod Words
 pub mod View
+pub mod Runs
 pub mod Calls
 pub mod Stalls
 pub mod StandsFor
 pub mod Given
 pub mod Quantum
 pub mod Tells
+pub mod Played
+pub mod Minds
 pub mod Plays
 pub mod Seats
 pub mod Answers
 pub mod Starting
+pub mod Laws
+pub mod Knowing

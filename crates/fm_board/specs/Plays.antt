@@ -1,45 +1,36 @@
 -- What each step on a word tells the seat that makes it.
-use Rattle.std.specs.Prelude.{nat_eq, ◌≡◌, ◌≢◌, ℕ, ◌+◌, ◌<◌, ◌≤◌, [], ◌∷◌, length, replicate, true, false, Option, Some, None, slice_index_or, slice_set}
+use Rattle.std.specs.Prelude.{nat_eq, ◌≡◌, ◌≢◌, ℕ, ◌+◌, ◌^◌, ◌<◌, ◌≤◌, List, [], ◌∷◌, length, true, false, Option, Some, None, slice_index_or}
 use Rattle.atomic_table.specs.Table.{Me, Step, rest}
 use Rattle.fm_line.specs.Line.{line, start}
 use Rattle.fm_core.specs.Floors.{floor_of}
 use Rattle.fm_core.specs.Sweep.{least}
-use Rattle.fm_core.specs.Tags.{is_ended}
+use Rattle.fm_core.specs.Tags.{is_ended, is_held, is_unborn}
 use Rattle.fm_core.specs.Taking.{due_of, is_due}
+use Rattle.fm_core.specs.declared.step.Step.TheVariants.{Look, Claim, Start, Record, Publish, Pace}
 use Rattle.fm_core.specs.declared.floor.Floor.{Floor}
-use Rattle.fm_core.specs.declared.floor.Floor.TheVariants.{At, Done}
+use Rattle.fm_core.specs.declared.floor.Floor.TheVariants.{Done}
 use Rattle.fm_core.specs.declared.tag.Tag.{Tag}
-use Rattle.fm_core.specs.declared.tag.Tag.TheVariants.{Out}
-use Rattle.fm_core.specs.declared.due.Due.TheVariants.{Nothing}
+use Rattle.fm_core.specs.declared.tag.Tag.TheVariants.{Out, Unborn}
 use Rattle.fm_program.specs.Parts.{PlanParts}
-use Rattle.fm_board.specs.declared.about.About.{About}
 use Rattle.fm_buffer.specs.Outbox.{EventQueue}
 use Rattle.fm_strand.specs.declared.strand.Strand.{Strand}
 use Rattle.fm_board.specs.declared.room.Room.{Room}
 use Rattle.fm_board.specs.declared.view.Hold.{Hold}
 use Rattle.fm_board.specs.declared.view.View.{View}
+use Rattle.fm_board.specs.declared.view.Log.{Log}
 use Rattle.fm_board.specs.declared.view.Mind.{Mind}
 use Rattle.fm_board.specs.Calls.{IsHold}
-use Rattle.fm_board.specs.View.{gave, holding, lines_of, looked, noted, processes, published, released, was_visited}
+use Rattle.fm_board.specs.Knowing.{Knows}
+use Rattle.fm_board.specs.Minds.{did, noticed, recalled, spotted, stepping, turned, viewing}
+use Rattle.fm_board.specs.Runs.{Extends}
+use Rattle.fm_board.specs.View.{gave, giving, holding, lines_of, looked, noted, process_of, processes, published, was_visited}
 use Rattle.fm_board.specs.Words.{IsLow, IsWord, floor_word, spell, word_at, place_at, place_word}
-use Rattle.fm_strand.specs.Course.{end_place}
+use Rattle.fm_strand.specs.Course.{end_place, steps_of}
+use Rattle.fm_strand.specs.Strand.{steps_left}
 
 -- a seat's mind, and the slots that are out with it
 abbrev pub Place : Type 0
 Place = Me (Option Room) Mind
-
--- the seat gave this word of the process, and has this view
-abbrev pub noticed : Mind → ℕ → Tag → ℕ → View → Mind
-noticed m p t c v = record m { view = v; known = slice_set m.known p c; over = slice_set m.over p (is_ended t) }
-
--- the seat saw this word r of the process, and has this view
-abbrev pub spotted : Mind → ℕ → Tag → ℕ → ℕ → View → Mind
-spotted m p t c r v =
-    record m { view = v; known = slice_set m.known p c; over = slice_set m.over p (is_ended t); last = r }
-
--- the seat has this view
-abbrev pub viewing : Mind → View → Mind
-viewing m v = record m { view = v }
 
 -- what a word that was found tells: it is not older than what the seat saw before
 pub record Tells (m : Mind) (p : ℕ) (t : Tag) (c : ℕ) : Type 0 where
@@ -47,28 +38,41 @@ pub record Tells (m : Mind) (p : ℕ) (t : Tag) (c : ℕ) : Type 0 where
   pub still : slice_index_or m.over p false ≡ true → is_ended t ≡ true
   pub end : is_ended t ≡ true → c ≡ (line (lines_of m.view) p).end
   pub done : m.view.number ≡ 0 → m.view.published ≡ Done → is_ended t ≡ true
+  pub unborn : is_unborn t ≡ true → steps_of m.view.plan p < slice_index_or m.left p 0
+  pub low : c ≤ 2 ^ 40
+  -- where there is no other seat, no process is in other hands
+  pub alone : m.made ≡ 1 → m.view.number ≡ 0 → m.view.holds ≡ None → is_held t ≡ false
 
--- the word of the process was found, and the view is then what f says of its tag and clock
-pub record Finds (m : Place) (p r : ℕ) (f : Tag → ℕ → View) (m' : Place) : Type 0 where
+-- the word of the process was found; the view is then what f says of its tag and clock, and the log what g says of the
+-- tag
+pub record Finds (m : Place) (p r : ℕ) (f : Tag → ℕ → View) (g : Tag → Log) (m' : Place) : Type 0 where
   pub word : IsWord r
   pub out : m'.1 ≡ m.1
   pub wide : length m.0.over ≡ processes m.0.view
-  pub mind : (t : Tag) (c s : ℕ) → s ≤ 16 → r ≡ spell t c s → m'.0 ≡ spotted m.0 p t c r (f t c)
+  -- where there is no other seat, it is the word that the seat saw last of the process
+  pub same : m.0.made ≡ 1 → m.0.view.number ≡ 0 → m.0.at ≡ p → r ≡ m.0.last
+  pub mind : (t : Tag) (c s : ℕ) → s ≤ 16 → r ≡ spell t c s → m'.0 ≡ spotted m.0 p t c r (f t c) (g t)
   pub tells : (t : Tag) (c s : ℕ) → s ≤ 16 → r ≡ spell t c s → Tells m.0 p t c
+  pub extends : Extends m.0.view.number m.0.log m'.0.log
 
 -- ---- look and pace
 
 -- the load of a process's word
 abbrev pub looks : Step (Option Room) → Place → ℕ → Place → Type 0
-looks st m r m' = (p : ℕ) → st.word ≡ word_at p → Finds m p r (looked m.0.view p) m'
+looks st m r m' = (p : ℕ) → st.word ≡ word_at p
+    → Finds m p r (looked m.0.view p) (λ t. did m.0 (Look m.0.view.number p) m'.0.log.seen) m'
 
 -- the load of the floor
 pub record Paces (m : Place) (r : ℕ) (m' : Place) : Type 0 where
   pub floor : Floor
   pub low : IsLow floor
   pub word : r ≡ floor_word floor
+  -- seat 0 finds what it published last
+  pub own : m.0.view.number ≡ 0 → floor ≡ m.0.view.published
   pub out : m'.1 ≡ m.1
-  pub mind : (f : Floor) → IsLow f → r ≡ floor_word f → m'.0 ≡ viewing m.0 (record m.0.view { paced = f })
+  pub mind : (f : Floor) → IsLow f → r ≡ floor_word f
+      → m'.0 ≡ stepping m.0 (Pace m.0.view.number) (record m.0.view { paced = f }) m'.0.log.seen
+  pub extends : Extends m.0.view.number m.0.log m'.0.log
 
 -- it is found, and the seat keeps it
 abbrev pub paces : Step (Option Room) → Place → ℕ → Place → Type 0
@@ -84,20 +88,24 @@ pub record Hands (m : Place) (p : ℕ) (t : Tag) (c r : ℕ) (m' : Place) : Type
   pub is : IsHold m.0.view.plan m.0.room p hold strand box
   pub was_ended : hold.was_ended ≡ is_ended t
   pub clock : hold.clock ≡ c
-  pub mind : m'.0 ≡ spotted m.0 p t c r (holding m.0.view hold)
+  pub behind : hold.left ≤ slice_index_or m.0.left p 0
+  pub tells : Tells m.0 p t c
+  pub mind : m'.0
+      ≡ turned (spotted m.0 p t c r (holding m.0.view hold) (did m.0 (Claim m.0.view.number p) m'.0.log.seen))
+  pub extends : Extends m.0.view.number m.0.log m'.0.log
   pub out : m'.1 ≡ (p, Some (record { strand = Some strand; outbox = box })) ∷ m.1
 
 -- the exchange of a process's word: it was the expected one, or another
 abbrev pub claims : Step (Option Room) → Place → ℕ → Place → Type 0
 claims st m r m' = (p : ℕ) → st.word ≡ word_at p
     → (r ≡ st.first → (t : Tag) (c s : ℕ) → s ≤ 16 → st.first ≡ spell t c s → Hands m p t c r m')
-    × (r ≢ st.first → Finds m p r (λ t c. m.0.view) m')
+    × (r ≢ st.first → Finds m p r (λ t c. m.0.view) (λ t. m.0.log) m')
 
 -- ---- start
 
 -- the load of a predecessor's word
 abbrev pub recalls : Step (Option Room) → Place → ℕ → Place → Type 0
-recalls st m r m' = (p : ℕ) → st.word ≡ word_at p → Finds m p r (λ t c. m.0.view) m'
+recalls st m r m' = (p : ℕ) → st.word ≡ word_at p → Finds m p r (λ t c. m.0.view) (recalled m.0 p m'.0.log.seen) m'
 
 -- each process that this one waits for is marked as ended
 abbrev pub Marked : Mind → ℕ → ℕ → Type 0
@@ -114,19 +122,54 @@ pub record Begins (m : Place) (p : ℕ) (m' : Place) : Type 0 where
   pub clock : hold.clock ≡ start (lines_of m.0.view) p
   pub was_ended : hold.was_ended ≡ false
   pub fresh : hold.recorded ≡ false
+  pub left : hold.left ≡ steps_of m.0.view.plan p
+  pub tells : Tells m.0 p Unborn 0
   pub box : stock.outbox ≡ record { room = m.0.room; events = [] }
-  pub mind : m'.0 ≡ spotted m.0 p Out (start (lines_of m.0.view) p) 0 (holding m.0.view hold)
+  pub mind : m'.0
+      ≡ turned (spotted m.0 p Out (start (lines_of m.0.view) p) 0 (holding m.0.view hold)
+      (did m.0 (Start m.0.view.number p) m'.0.log.seen))
+  pub extends : Extends m.0.view.number m.0.log m'.0.log
   pub out : m'.1 ≡ (p, Some stock) ∷ m.1
 
 -- the exchange of an unborn process's word
 abbrev pub starts : Step (Option Room) → Place → ℕ → Place → Type 0
-starts st m r m' = (p : ℕ) → st.word ≡ word_at p → (r ≡ 0 → Begins m p m') × (r ≢ 0 → Finds m p r (λ t c. m.0.view) m')
+starts st m r m' = (p : ℕ) → st.word ≡ word_at p
+    → (r ≡ 0 → Begins m p m') × (r ≢ 0 → Finds m p r (λ t c. m.0.view) (λ t. m.0.log) m')
 
 -- ---- give
 
+-- how many events are in the outbox that comes home
+abbrev pub events_in : Option Room → ℕ
+events_in None = 0
+events_in (Some x) = length x.outbox.events
+
+-- and how many come home
+abbrev pub brings_events : List (ℕ × Option Room) → ℕ
+brings_events [] = 0
+brings_events (x ∷ xs) = events_in x.1
+
+-- how many steps are left of a strand, if there is one
+abbrev pub left_of : PlanParts → Option Strand → ℕ
+left_of p None = 0
+left_of p (Some s) = steps_left p s
+
+-- and of what is in a slot
+abbrev pub left_in : PlanParts → Option Room → ℕ
+left_in p None = 0
+left_in p (Some x) = left_of p x.strand
+
+-- and of what comes home
+abbrev pub brings : PlanParts → List (ℕ × Option Room) → ℕ
+brings p [] = 0
+brings p (x ∷ xs) = left_in p x.1
+
 -- the store of a process's word
 pub record GivesBack (m : Place) (p : ℕ) (t : Tag) (c : ℕ) (m' : Place) : Type 0 where
-  pub mind : m'.0 ≡ noticed m.0 p t c (gave m.0.view)
+  pub mind : m'.0
+      ≡ noticed m.0 p t c (brings m.0.view.plan m.1) (gave m.0.view)
+      (did m.0 (giving m.0.view p (brings_events m.1) c) m'.0.log.seen)
+  pub extends : Extends m.0.view.number m.0.log m'.0.log
+  pub knows : Knows m.0 m'.0
   pub out : m'.1 ≡ rest m.1
 
 -- whatever the word that is stored spells
@@ -138,58 +181,13 @@ gives_back st m r m' =
 
 -- the store of the floor
 pub record Publishes (m : Place) (f : Floor) (m' : Place) : Type 0 where
-  pub mind : m'.0 ≡ viewing m.0 (published m.0.view f (due_of (least m.0.view.sweep)))
+  pub mind : m'.0 ≡ stepping m.0 Publish (published m.0.view f (due_of (least m.0.view.sweep))) m'.0.log.seen
+  pub extends : Extends m.0.view.number m.0.log m'.0.log
   pub out : m'.1 ≡ m.1
 
 -- that floor is the least of the sweep
 abbrev pub publishes : Step (Option Room) → Place → ℕ → Place → Type 0
 publishes st m r m' = Publishes m (floor_of (least m.0.view.sweep)) m'
-
--- what is gathered counts as released
-abbrev pub settled : Mind → Mind
-settled m = viewing m (released m.view (length m.view.gathered))
-
--- ---- opening
-
--- what a seat that holds nothing knows of a new board
-abbrev pub fresh_view : PlanParts → ℕ → View
-fresh_view p number = record {
-  plan = p;
-  number = number;
-  holds = None;
-  sweep = [];
-  paced = At 0;
-  heeded = false;
-  due = Nothing;
-  visited = replicate (length p.programs) false;
-  gathered = [];
-  released = 0;
-  published = At 0;
-  halted = false;
-}
-
--- the seat of this number, that has made so many seats
-abbrev pub fresh : PlanParts → ℕ → ℕ → ℕ → Mind
-fresh p room number made = record {
-  view = fresh_view p number;
-  known = replicate (length p.programs) 0;
-  over = replicate (length p.programs) false;
-  last = 0;
-  made = made;
-  room = room;
-}
-
--- seat 0 of a new board
-abbrev pub first_mind : About → Mind
-first_mind a = fresh a.plan a.room 0 1
-
--- seat 0 makes one more seat
-abbrev pub one_more : Mind → Mind
-one_more m = record m { made = m.made + 1 }
-
--- and that seat knows this
-abbrev pub newest : Mind → Mind
-newest m = fresh m.view.plan m.room m.made 0
 
 -- what a release asks of the view
 pub record MayRelease (v : View) : Type 0 where
@@ -206,7 +204,9 @@ writes st m r m' = (p i : ℕ) (x : Hold) → st.word ≡ place_at p i → i < 8
 
 -- the store of the last one
 abbrev pub records : Step (Option Room) → Place → ℕ → Place → Type 0
-records st m r m' = (m'.0 ≡ viewing m.0 (noted m.0.view)) × (m'.1 ≡ m.1)
+records st m r m' =
+    (m'.0 ≡ stepping m.0 (Record m.0.view.number (process_of m.0.view.holds)) (noted m.0.view) m'.0.log.seen)
+    × (m'.1 ≡ m.1) × Extends m.0.view.number m.0.log m'.0.log
 
 -- ---- halt and heed
 

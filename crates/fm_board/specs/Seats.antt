@@ -1,5 +1,5 @@
 -- What a contract sees of a seat.
-use Rattle.std.specs.Prelude.{◌≡◌, ℕ, ◌+◌, ◌^◌, ◌<◌, ◌≤◌, ◌||◌, List, [], ◌∷◌, length, Bool, true, false, Option, Some, None, slice_index_or}
+use Rattle.std.specs.Prelude.{◌≡◌, ℕ, ◌+◌, ◌^◌, ◌<◌, ◌≤◌, List, [], ◌∷◌, length, Bool, true, false, Option, Some, None, slice_index_or}
 use mathlib.Core.Option.{some}
 use lib.ListN.{get_elem?}
 use Rattle.atomic_table.specs.Seated.{TableId}
@@ -8,7 +8,8 @@ use Rattle.fm_line.proofs.Sorting.{Ordered}
 use Rattle.fm_program.specs.Parts.{PlanParts}
 use Rattle.fm_core.specs.declared.sight.Sight.{Sight as Look}
 use Rattle.fm_strand.specs.declared.strand.Strand.{Strand}
-use Rattle.fm_strand.specs.Course.{end_place}
+use Rattle.fm_strand.specs.Course.{end_place, steps_of}
+use Rattle.fm_strand.specs.Strand.{steps_left}
 use Rattle.fm_board.specs.Words.{place_word}
 use Rattle.fm_board.specs.declared.about.About.{About}
 use Rattle.fm_board.specs.declared.room.Room.{Room}
@@ -16,16 +17,19 @@ use Rattle.fm_board.specs.declared.view.Hold.{Hold}
 use Rattle.fm_board.specs.declared.view.View.{View}
 use Rattle.fm_board.specs.declared.view.Mind.{Mind}
 use Rattle.fm_board.specs.Calls.{HasGiven, Releases}
-use Rattle.fm_board.specs.Plays.{MayRelease, Place, fresh, settled, viewing}
+use Rattle.fm_core.specs.declared.step.Step.{Step}
+use Rattle.fm_board.specs.Played.{IsPlayed}
+use Rattle.fm_board.specs.Minds.{fresh, settled, stepping, viewing}
+use Rattle.fm_board.specs.Plays.{MayRelease, Place}
 
 -- once all were visited, what seat 0 gathered is, in its order, the next part of the piece
 pub record IsNext (v : View) : Type 0 where
   pub ordered : Ordered v.gathered
   pub releases : Releases v (sorted v.gathered)
 
--- what every view of seat 0 promises
+-- what every seat is told with each step: what it may release, and the run that it is part of
 abbrev pub Promise : Mind → Type 0
-Promise m = MayRelease m.view → IsNext m.view
+Promise m = (MayRelease m.view → IsNext m.view) × IsPlayed m
 
 -- what a seat that may owe a release knows
 abbrev pub current : Bool → Mind → Mind
@@ -47,11 +51,6 @@ abbrev pub carried : Option Hold → List (ℕ × Option Room)
 carried None = []
 carried (Some h) = (h.process, None) ∷ []
 
--- whether a hold came to its end
-abbrev pub is_over : Option Hold → Bool
-is_over None = false
-is_over (Some h) = h.recorded || h.was_ended
-
 -- the looks that a seat keeps are its sweep, and it has memory for as many as there are processes
 pub record IsSwept (looks : List Look) (capacity : ℕ) (sweep : List Look) (many : ℕ) : Type 0 where
   pub same : looks ≡ sweep
@@ -68,11 +67,17 @@ pub record Sight : Type 0 where
 abbrev pub seeing : Sight → View → Sight
 seeing s v = record s { mind = viewing s.mind v }
 
+-- a seat that made this step, with this view, and has seen these steps
+abbrev pub making : Sight → Step → View → List Step → Sight
+making s x v xs = record s { mind = stepping s.mind x v xs }
+
 -- the seat is one of this board's
 pub record IsOurs (t : TableId) (a : About) (s : Sight) : Type 0 where
   pub table : s.table ≡ t
   pub plan : s.mind.view.plan ≡ a.plan
   pub room : s.mind.room ≡ a.room
+  pub lead : s.mind.view.lead ≡ a.lead
+  pub seats : s.mind.view.seats ≡ a.seats
 
 -- a seat of this board that holds nothing
 pub record IsIdle (t : TableId) (a : About) (s : Sight) : Type 0 where
@@ -81,13 +86,13 @@ pub record IsIdle (t : TableId) (a : About) (s : Sight) : Type 0 where
 
 -- seat 0 of a new board, that made so many seats
 abbrev pub first_sight : TableId → About → ℕ → Sight
-first_sight t a made = record { table = t; mind = fresh a.plan a.room 0 made }
+first_sight t a made = record { table = t; mind = fresh a.plan a.room a.lead a.seats 0 made }
 
 -- the other seats of a new board, in the order of their numbers
 pub record AreOthers (t : TableId) (a : About) (n : ℕ) (seats : List Sight) : Type 0 where
   pub many : length seats + 1 ≡ n
   pub each : (k : ℕ) (d : Sight) → k < length seats
-      → slice_index_or seats k d ≡ record { table = t; mind = fresh a.plan a.room (k + 1) 0 }
+      → slice_index_or seats k d ≡ record { table = t; mind = fresh a.plan a.room a.lead a.seats (k + 1) 0 }
 
 -- a board of this plan, with a room of r events, a lead of l ticks and n seats
 pub record IsBoardOf (a : About) (p : PlanParts) (r l n : ℕ) : Type 0 where
@@ -99,7 +104,7 @@ pub record IsBoardOf (a : About) (p : PlanParts) (r l n : ℕ) : Type 0 where
 -- the strand of a process of a new board
 abbrev pub IsFirst : PlanParts → ℕ → Option Strand → Type 0
 IsFirst p j None = 0 < j
-IsFirst p j (Some s) = (j ≡ 0) × HasGiven p 0 0 0 s
+IsFirst p j (Some s) = (j ≡ 0) × HasGiven p 0 0 0 s × (steps_left p s ≡ steps_of p 0)
 
 -- the slots of the first n processes of a new board
 pub record AreRooms (a : About) (n : ℕ) (rooms : List (Option Room)) : Type 0 where

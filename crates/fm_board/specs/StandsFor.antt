@@ -1,16 +1,18 @@
 -- When words, slots and views stand for a state of the core.
-use Rattle.std.specs.Prelude.{◌≡◌, ℕ, ◌+◌, ◌*◌, ◌<◌, ◌≤◌, ◌-◌, List, ◌∷◌, length, replicate, true, false, ◌||◌, Option, Some, None, slice_index_or}
+use Rattle.std.specs.Prelude.{nat_eq, ◌≡◌, ℕ, ◌+◌, ◌*◌, ◌<◌, ◌≤◌, ◌-◌, List, [], ◌∷◌, length, replicate, true, false, ◌||◌, All, Option, Some, None, slice_index_or}
 use mathlib.Core.Option.{some}
 use mathlib.Core.Option as maybe
 use lib.ListN.{get_elem?}
 use Rattle.atomic_table.specs.Table as table
 use Rattle.fm_line.specs.Line.{line}
 use Rattle.fm_core.specs.Invariant.{Sound}
-use Rattle.fm_core.specs.State.{Setting, State, cell, cell_in, desk, no_desk, held_by, root, unborn}
+use Rattle.fm_core.specs.Effects.{Legal, run}
+use Rattle.fm_core.specs.State.{Setting, State, cell, cell_in, desk, no_desk, held_by, opening, root, unborn}
 use Rattle.fm_core.specs.Tags.{is_ended, is_held, is_unborn}
 use Rattle.fm_core.specs.Taking.{outbox}
 use Rattle.fm_core.specs.declared.cell.Cell.{Cell}
 use Rattle.fm_core.specs.declared.floor.Floor.{Floor}
+use Rattle.fm_core.specs.declared.step.Step.{Step}
 use Rattle.fm_program.specs.Process.{plan_lines}
 use Rattle.fm_strand.specs.declared.strand.Strand.{Strand}
 use Rattle.fm_strand.specs.Strand.{steps_left}
@@ -20,8 +22,9 @@ use Rattle.fm_board.specs.declared.view.Hold.{Hold}
 use Rattle.fm_board.specs.declared.view.View.{View}
 use Rattle.fm_board.specs.declared.view.Mind.{Mind}
 use Rattle.fm_board.specs.Calls.{HasGiven}
+use Rattle.fm_board.specs.Runs.{BeginsWith, by_seat}
 use Rattle.fm_board.specs.Words.{IsLow, spelt, word_at, floor_word, place_at, place_word}
-use Rattle.fm_strand.specs.Course.{end_place}
+use Rattle.fm_strand.specs.Course.{end_place, steps_of}
 
 -- the setting of a board
 abbrev pub setting : About → Setting
@@ -50,10 +53,12 @@ pub record Spelt (a : About) (words : List ℕ) (cells : List Cell) (f : Floor) 
 
 -- ---- slots
 
--- a process that nobody holds, by its strand where it has one
+-- a process that nobody holds: an unborn one has no strand, any other has one
 abbrev pub StrandAt : About → ℕ → Cell → Option Strand → Type 0
 StrandAt a j c None = is_unborn c.tag ≡ true
-StrandAt a j c (Some s) = HasGiven a.plan j c.computed c.clock s × (is_ended c.tag ≡ true → steps_left a.plan s ≡ 0)
+StrandAt a j c (Some s) =
+    HasGiven a.plan j c.computed c.clock s × (is_ended c.tag ≡ true → steps_left a.plan s ≡ 0) ×
+    (is_unborn c.tag ≡ false)
 
 -- the slot of a process that nobody holds
 pub record AtHome (a : About) (j : ℕ) (c : Cell) (stock : Room) : Type 0 where
@@ -73,6 +78,8 @@ pub record IsStocked (a : About) (rooms : List (Option Room)) : Type 0 where
   pub each : (j : ℕ) → j < count a
       → (stock : Room) × (get_elem? rooms j ≡ some (Some stock))
       × AtHome a j (cell_in (root ∷ replicate (count a - 1) unborn) j) stock
+  pub first : (j : ℕ) (stock : Room) (x : Strand) → get_elem? rooms j ≡ some (Some stock) → stock.strand ≡ Some x
+      → (j ≡ 0) × (steps_left a.plan x ≡ steps_of a.plan 0)
 
 -- ---- views
 
@@ -93,6 +100,8 @@ HoldsIn h s (Some x) =
 -- the view of the seat s
 pub record IsViewOf (a : About) (h : State) (s : ℕ) (v : View) : Type 0 where
   pub plan : v.plan ≡ a.plan
+  pub lead : v.lead ≡ a.lead
+  pub seats : v.seats ≡ a.seats
   pub number : v.number ≡ s
   pub holds : HoldsIn h s v.holds
   pub sweep : v.sweep ≡ (desk h s).sweep
@@ -139,10 +148,26 @@ Written a words views =
 abbrev pub halt_at : About → ℕ
 halt_at a = 1 + 10 * count a
 
--- the halt word is 1 only where seat 0 halted
+-- the halt word is 1 exactly where seat 0 halted
 abbrev pub Halted : About → List ℕ → List Mind → Type 0
 Halted a words views =
-    slice_index_or words (halt_at a) 0 ≡ 1 → (m : Mind) → get_elem? views 0 ≡ some m → m.view.halted ≡ true
+    (m : Mind) → get_elem? views 0 ≡ some m → nat_eq (slice_index_or words (halt_at a) 0) 1 ≡ m.view.halted
+
+-- ---- the run
+
+-- the state in which a board begins
+abbrev pub beginning : About → State
+beginning a = opening (length (plan_lines a.plan)) a.seats
+
+-- from the beginning a run of allowed steps leads to this state; each seat made those of its steps that it knows of, in
+-- their order, and no seat that was not made yet made any; the run begins with what any seat has seen
+pub record IsRun (a : About) (views : List Mind) (h : State) : Type 0 where
+  pub steps : List Step
+  pub legal : Legal (setting a) (beginning a) steps
+  pub ends : run (setting a) (beginning a) steps ≡ h
+  pub made : (k : ℕ) (m : Mind) → get_elem? views k ≡ some m → m.log.mine ≡ by_seat k steps
+  pub none : (k : ℕ) → length views ≤ k → by_seat k steps ≡ []
+  pub seen : (k : ℕ) (m : Mind) → get_elem? views k ≡ some m → BeginsWith steps m.log.seen
 
 -- ---- the rule
 
@@ -159,8 +184,37 @@ pub record StandsFor (a : About) (s : Table) (h : State) : Type 0 where
   pub wrote : Written a s.words s.views
   pub halt : Halted a s.words s.views
 
--- they stand for some sound state
+-- how many steps are left of each process, and one more before its birth
+pub record Going (a : About) (s : Table) (h : State) : Type 0 where
+  pub left : ℕ → ℕ
+  -- of who is at home, and of who is held, as its seat was told
+  pub home : (j : ℕ) (stock : Room) (x : Strand) → get_elem? s.homes j ≡ some (some (Some stock))
+      → stock.strand ≡ Some x
+      → steps_left a.plan x ≡ left j
+  pub held : (k : ℕ) (m : Mind) → get_elem? s.views k ≡ some m → (x : Hold) → m.view.holds ≡ Some x
+      → x.left ≡ left x.process
+  -- no seat knows of fewer
+  pub known : (k : ℕ) (m : Mind) → get_elem? s.views k ≡ some m → (p : ℕ) → p < count a
+      → left p ≤ slice_index_or m.left p 0
+  pub most : (p : ℕ) → p < count a → left p ≤ steps_of a.plan p + 1
+  -- who is born has no more than its program has
+  pub born : (p : ℕ) → p < length h.cells → is_unborn (cell h p).tag ≡ false → left p ≤ steps_of a.plan p
+  pub unborn : (p : ℕ) → p < length h.cells → is_unborn (cell h p).tag ≡ true → steps_of a.plan p < left p
+  -- what waits in an outbox is not after the clock
+  pub early : (p : ℕ) → p < length h.cells
+      → All (λ e. e.time ≤ (cell h p).clock) (outbox (line (plan_lines a.plan) p) (cell h p))
+
+-- where seat 0 is the only one, the word that it saw last is still there, unless it has changed it
+abbrev pub Alone : About → Table → Type 0
+Alone a s =
+    (m : Mind) → get_elem? s.views 0 ≡ some m → m.made ≡ 1 → m.at < count a
+    → slice_index_or s.words (word_at m.at) 0 ≡ m.last
+
+-- they stand for a sound state, to which a run of the core leads in which each seat made the steps that it knows of
 pub record StandsForSome (a : About) (s : Table) : Type 0 where
   pub core : State
   pub sound : Sound (setting a) core
   pub stands : StandsFor a s core
+  pub history : IsRun a s.views core
+  pub going : Going a s core
+  pub alone : Alone a s

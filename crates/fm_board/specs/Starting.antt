@@ -1,5 +1,5 @@
 -- What a recall and a start answer.
-use Rattle.std.specs.Prelude.{◌≡◌, ℕ, ◌<◌, ◌≤◌, List, [], ◌∷◌, length, take, true, false, slice_index_or}
+use Rattle.std.specs.Prelude.{◌≡◌, ℕ, ◌<◌, List, [], ◌∷◌, length, take, true, false, slice_index_or}
 use Rattle.fm_core.specs.Tags.{is_ended, is_unborn}
 use Rattle.fm_core.specs.declared.tag.Tag.TheVariants.{Out, Unborn}
 use Rattle.fm_line.specs.Line.{line, start}
@@ -20,7 +20,11 @@ use Rattle.fm_board.specs.declared.starting.Waited.{Waited}
 use Rattle.fm_board.specs.declared.starting.Waited.TheVariants as waited
 use Rattle.fm_board.specs.declared.view.Hold.{Hold}
 use Rattle.fm_board.specs.Answers.{Found, IsBerth}
-use Rattle.fm_board.specs.Plays.{Marked, spotted}
+use Rattle.fm_board.specs.Knowing.{Knows}
+use Rattle.fm_board.specs.Minds.{did, recalled, spotted, turned}
+use Rattle.fm_board.specs.Plays.{Marked, Tells}
+use Rattle.fm_core.specs.declared.step.Step.TheVariants.{Start}
+use Rattle.fm_board.specs.Runs.{Extends}
 use Rattle.fm_board.specs.Seats.{Sight}
 use Rattle.fm_board.specs.View.{holding, lines_of, waiting}
 use Rattle.fm_board.specs.Words.{spell}
@@ -30,12 +34,12 @@ use Rattle.fm_board.specs.Words.{spell}
 -- the word of the process was found ended
 pub record FindsEnd (old : Sight) (p : ℕ) (new : Sight) : Type 0 where
   pub seen : Seen
-  pub found : Found old p seen old.mind.view new
+  pub found : Found old p seen old.mind.view (recalled old.mind p new.mind.log.seen seen.tag) new
   pub ended : is_ended seen.tag ≡ true
 
 -- the word of the process was found not ended
 pub record FindsLive (old : Sight) (p : ℕ) (s : Seen) (new : Sight) : Type 0 where
-  pub found : Found old p s old.mind.view new
+  pub found : Found old p s old.mind.view (recalled old.mind p new.mind.log.seen s.tag) new
   pub live : is_ended s.tag ≡ false
 
 -- the answer of a recall
@@ -55,9 +59,7 @@ pub record HasSeen (old new : Sight) : Type 0 where
   pub view : new.mind.view ≡ old.mind.view
   pub made : new.mind.made ≡ old.mind.made
   pub room : new.mind.room ≡ old.mind.room
-  pub known : (q : ℕ) → slice_index_or old.mind.known q 0 ≤ slice_index_or new.mind.known q 0
-  pub over : (q : ℕ) → slice_index_or old.mind.over q false ≡ true
-      → slice_index_or new.mind.over q false ≡ true
+  pub knows : Knows old.mind new.mind
 
 -- the words of these processes were found in turn, each ended
 abbrev pub FindsEnds : Sight → List ℕ → Sight → Type 0
@@ -100,14 +102,17 @@ pub record IsAtStart (a : About) (p : ℕ) (h : Hold) (b : Berth) : Type 0 where
 pub record Begins (a : About) (old : Sight) (p : ℕ) (b : Berth) (new : Sight) : Type 0 where
   pub hold : Hold
   pub is : IsAtStart a p hold b
+  pub tells : Tells old.mind p Unborn 0
   pub sight : new ≡ record {
     table = old.table;
-    mind = spotted old.mind p Out hold.clock (spell Unborn 0 0) (holding old.mind.view hold);
+    mind = turned (spotted old.mind p Out hold.clock (spell Unborn 0 0) (holding old.mind.view hold)
+        (did old.mind (Start old.mind.view.number p) new.mind.log.seen));
   }
+  pub extends : Extends old.mind.view.number old.mind.log new.mind.log
 
 -- the process was born
 pub record IsBorn (old : Sight) (p : ℕ) (s : Seen) (new : Sight) : Type 0 where
-  pub found : Found old p s old.mind.view new
+  pub found : Found old p s old.mind.view old.mind.log new
   pub born : is_unborn s.tag ≡ false
 
 -- the answer of the exchange

@@ -5,12 +5,16 @@ ghost use Rattle.fm_msg.specs.Event.{event_cmp};
 ghost use Rattle.fm_core.specs.Floors.{floor_of};
 ghost use Rattle.fm_core.specs.Sweep.{least};
 ghost use Rattle.fm_core.specs.Tags.{is_claimable};
-ghost use Rattle.fm_core.specs.Taking.{due_of, is_due};
+ghost use Rattle.fm_core.specs.Taking.{due_of};
 ghost use Rattle.fm_core.specs.declared.due.Due.TheVariants.{Nothing};
 ghost use Rattle.fm_board.specs.Calls.{MayGive, Releases};
-ghost use Rattle.fm_board.specs.Seats.{IsOurs, seeing};
-ghost use Rattle.fm_board.specs.Answers.{Claims, Found, Gave};
-ghost use Rattle.fm_board.specs.View.{InTurn, looked, processes, published, released, was_visited};
+ghost use Rattle.fm_core.specs.declared.step.Step.TheVariants.{Pace, Publish, Release};
+ghost use Rattle.fm_board.specs.Seats.{IsOurs, making};
+ghost use Rattle.fm_board.specs.Answers.{Claims, Gave, Looks};
+ghost use Rattle.fm_board.specs.Knowing.{Knows};
+ghost use Rattle.fm_board.specs.Plays.{MayRelease};
+ghost use Rattle.fm_board.specs.Runs.{Extends};
+ghost use Rattle.fm_board.specs.View.{InTurn, processes, published, released};
 
 use crate::about::About;
 use crate::berth::Berth;
@@ -70,8 +74,7 @@ impl Board {
     pub fn look(&self, seat: &mut BoardSeat, process: u32) -> Seen
         requires ours { IsOurs self.now.table.shared.table_id self.now.about seat.old }
         requires turn { InTurn seat.old.mind.view process }
-        ensures { Found seat.old process result
-            (looked seat.old.mind.view process result.tag result.clock) seat.new }
+        ensures { Looks seat.old process result seat.new }
     {
         let found = seat
             .token
@@ -85,7 +88,10 @@ impl Board {
     /// One load of the floor, above which by the lead the seat may compute.
     pub fn pace(&self, seat: &mut BoardSeat) -> Floor
         requires ours { IsOurs self.now.table.shared.table_id self.now.about seat.old }
-        ensures { seat.new ≡ seeing seat.old (record seat.old.mind.view { paced = result }) }
+        ensures paced { seat.new ≡ making seat.old (Pace seat.old.mind.view.number)
+            (record seat.old.mind.view { paced = result }) seat.new.mind.log.seen }
+        ensures extends { Extends seat.old.mind.view.number seat.old.mind.log seat.new.mind.log }
+        ensures own { seat.old.mind.view.number ≡ 0 → result ≡ seat.old.mind.view.published }
     {
         let found = seat.token.load::<PacePlay>(&self.table.shared, 0);
         floor_of_word(found)
@@ -134,7 +140,9 @@ impl Board {
         requires ours { IsOurs self.now.table.shared.table_id self.now.about seat.old }
         requires may { MayGive self.now.about seat.old.mind.view
             berth.process berth.strand berth.outbox }
-        ensures { Gave self.now.about seat.old berth seat.new }
+        ensures gave { Gave self.now.about seat.old berth seat.new }
+        ensures knows { Knows seat.old.mind seat.new.mind }
+        ensures extends { Extends seat.old.mind.view.number seat.old.mind.log seat.new.mind.log }
     {
         let Berth {
             process,
@@ -163,8 +171,10 @@ impl Board {
         requires swept { length seat.old.mind.view.sweep ≡ processes seat.old.mind.view }
         requires settled { seat.old.mind.view.due ≡ Nothing }
         requires floor { floor ≡ floor_of (least seat.old.mind.view.sweep) }
-        ensures { seat.new ≡ seeing seat.old
-            (published seat.old.mind.view floor (due_of (least seat.old.mind.view.sweep))) }
+        ensures seat { seat.new ≡ making seat.old Publish
+            (published seat.old.mind.view floor (due_of (least seat.old.mind.view.sweep)))
+            seat.new.mind.log.seen }
+        ensures extends { Extends seat.old.mind.view.number seat.old.mind.log seat.new.mind.log }
     {
         let new = word_of_floor(floor);
         seat.token.store::<PublishPlay>(&self.table.shared, 0, new);
@@ -175,14 +185,12 @@ impl Board {
     /// makes no step on a word; the caller writes the events and clears the gather.
     pub fn release(&self, seat: &mut BoardSeat, gather: &mut Gather)
         requires ours { IsOurs self.now.table.shared.table_id self.now.about seat.old }
-        requires conductor { seat.old.mind.view.number ≡ 0 }
-        requires due { is_due seat.old.mind.view.due ≡ true }
-        requires visited { (p : ℕ) → p < processes seat.old.mind.view
-            → was_visited seat.old.mind.view p ≡ true }
+        requires may { MayRelease seat.old.mind.view }
         requires taken { gather.old.events ≡ seat.old.mind.view.gathered }
-        ensures seat { seat.new ≡ seeing seat.old
-            (released seat.old.mind.view (length gather.new.events)) }
+        ensures seat { seat.new ≡ making seat.old (Release (length gather.new.events))
+            (released seat.old.mind.view (length gather.new.events)) seat.old.mind.log.seen }
         ensures gather { Releases seat.old.mind.view gather.new.events }
+        ensures many { length gather.new.events ≡ length gather.old.events }
         ensures capacity { gather.new.capacity ≡ gather.old.capacity }
     {
         put_in_order(gather);

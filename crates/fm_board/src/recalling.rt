@@ -2,6 +2,7 @@
 ghost use Rattle.std.specs.Prelude.{◌≡◌, ◌<◌, false, length, slice_index_or, true};
 ghost use Rattle.fm_strand.specs.Course.{end_place};
 ghost use Rattle.fm_board.specs.Answers.{Found};
+ghost use Rattle.fm_board.specs.Minds.{recalled};
 ghost use Rattle.fm_board.specs.Seats.{IsOurs};
 ghost use Rattle.fm_board.specs.Starting.{Recalls};
 ghost use Rattle.fm_board.specs.View.{processes};
@@ -44,7 +45,8 @@ impl Board {
     pub(crate) fn peek(&self, seat: &mut BoardSeat, process: u32) -> Seen
         requires ours { IsOurs self.now.table.shared.table_id self.now.about seat.old }
         requires there { process < processes seat.old.mind.view }
-        ensures found { Found seat.old process result seat.old.mind.view seat.new }
+        ensures found { Found seat.old process result seat.old.mind.view
+            (recalled seat.old.mind process seat.new.mind.log.seen result.tag) seat.new }
         ensures wide { length seat.old.mind.over ≡ processes seat.old.mind.view }
     {
         let found = seat

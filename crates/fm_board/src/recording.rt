@@ -1,7 +1,9 @@
 //! How the end of a process is recorded.
 ghost use Rattle.std.specs.Prelude.{◌≡◌, ◌+◌, ◌<◌};
 ghost use Rattle.fm_board.specs.Calls.{MayRecord};
-ghost use Rattle.fm_board.specs.Seats.{IsOurs, MayWrite, seeing};
+ghost use Rattle.fm_core.specs.declared.step.Step.TheVariants.{Record};
+ghost use Rattle.fm_board.specs.Runs.{Extends};
+ghost use Rattle.fm_board.specs.Seats.{IsOurs, MayWrite, making, seeing};
 ghost use Rattle.fm_board.specs.View.{noted, wrote};
 ghost use Rattle.fm_strand.specs.Course.{PlaceFits};
 ghost use Rattle.fm_board.specs.Words.{place_word};
@@ -33,7 +35,10 @@ impl Board {
         requires ours { IsOurs self.now.table.shared.table_id self.now.about seat.old }
         requires may { MayRecord self.now.about seat.old.mind.view
             berth.now.process berth.now.strand }
-        ensures { seat.new ≡ seeing seat.old (noted seat.old.mind.view) }
+        ensures seat { seat.new ≡ making seat.old
+            (Record seat.old.mind.view.number berth.now.process) (noted seat.old.mind.view)
+            seat.new.mind.log.seen }
+        ensures extends { Extends seat.old.mind.view.number seat.old.mind.log seat.new.mind.log }
     {
         let place = berth.strand.place();
         let process = berth.process;
@@ -60,7 +65,10 @@ impl Board {
     fn write_last(&self, seat: &mut BoardSeat, process: u32, value: u64)
         requires ours { IsOurs self.now.table.shared.table_id self.now.about seat.old }
         requires may { MayWrite self.now.about seat.old process 8 value }
-        ensures { seat.new ≡ seeing seat.old (noted seat.old.mind.view) }
+        ensures seat { seat.new ≡ making seat.old
+            (Record seat.old.mind.view.number process) (noted seat.old.mind.view)
+            seat.new.mind.log.seen }
+        ensures extends { Extends seat.old.mind.view.number seat.old.mind.log seat.new.mind.log }
     {
         seat.token
             .store::<RecordPlay>(&self.table.shared, place_spot(process, 8), value);

@@ -1,15 +1,14 @@
 -- What a conductor's passes need and leave.
-use Rattle.std.specs.Prelude.{◌≡◌, ℕ, ◌+◌, ◌-◌, ◌*◌, ◌<◌, ◌≤◌, List, [], length, take, true, false, Option, Some, None, IfSome}
+use Rattle.std.specs.Prelude.{◌≡◌, ℕ, ◌-◌, ◌*◌, ◌<◌, ◌≤◌, List, [], length, take, true, false, Option, IfSome}
 use Rattle.atomic_table.specs.Seated.{TableId}
 use Rattle.fm_msg.specs.Event.{TimedMessage}
 use Rattle.fm_line.specs.Line.{line}
 use Rattle.fm_line.specs.Piece.{piece}
 use Rattle.fm_buffer.specs.Gather.{EventGather}
 use Rattle.fm_core.specs.Floors.{floor_of}
-use Rattle.fm_core.specs.Sweep.{least}
 use Rattle.fm_core.specs.Taking.{due_of, is_due}
 use Rattle.fm_core.specs.declared.due.Due.{Due}
-use Rattle.fm_core.specs.declared.due.Due.TheVariants.{Nothing, Pair, Everything}
+use Rattle.fm_core.specs.declared.due.Due.TheVariants.{Nothing, Everything}
 use Rattle.fm_core.specs.declared.floor.Floor.{Floor}
 use Rattle.fm_core.specs.declared.floor.Floor.TheVariants.{At, Done}
 use Rattle.fm_program.specs.Process.{plan_lines}
@@ -17,17 +16,16 @@ use Rattle.fm_smf.specs.Writing.{Written, Writes}
 use Rattle.fm_smf.specs.Track.{events_bytes}
 use Rattle.fm_edge.specs.Runs.{Breaks}
 use Rattle.fm_board.specs.Calls.{Releases}
+use Rattle.fm_board.specs.Played.{PlaysWhole}
 use Rattle.fm_board.specs.Quantum.{IsLimit}
 use Rattle.fm_board.specs.Seats.{IsIdle, Sight}
 use Rattle.fm_board.specs.View.{lines_of, processes, published, released, was_visited}
 use Rattle.fm_board.specs.declared.about.About.{About}
 use Rattle.fm_board.specs.declared.view.View.{View}
-
--- the key up to which events are due
-abbrev pub key_of : Due → Option (ℕ × ℕ)
-key_of Nothing = Some (0, 0)
-key_of (Pair m i) = Some (m, i)
-key_of Everything = None
+use Rattle.fm_play.specs.Ends.{CanFollow}
+use Rattle.fm_crew.specs.Onward.{IsFull}
+use Rattle.fm_crew.specs.declared.conductor.Conductor.{Conductor}
+use Rattle.fm_crew.specs.declared.limits.Pass.{Pass}
 
 -- in a pass, after so many processes: while something is due these are visited and no other is
 pub record Passing (a : About) (v : View) (gather : EventGather) (due : Due) (limit n : ℕ) : Type 0 where
@@ -42,6 +40,11 @@ pub record Passing (a : About) (v : View) (gather : EventGather) (due : Due) (li
   pub few : length gather.events ≤ n * a.room
   pub none : is_due due ≡ false → gather.events ≡ []
   pub space : processes v * a.room ≤ gather.capacity
+
+-- a conductor in a pass, after so many processes: its seat holds nothing
+pub record Attends (t : TableId) (a : About) (c : Conductor) (p : Pass) (n : ℕ) : Type 0 where
+  pub idle : IsIdle t a c.seat
+  pub passing : Passing a c.seat.mind.view c.gather p.due p.limit n
 
 -- what a pass leaves as it was
 pub record Stays (old new : View) : Type 0 where
@@ -70,16 +73,19 @@ pub record MayConduct (t : TableId) (a : About) (s : Sight) (gather : EventGathe
   pub gathered : s.mind.view.gathered ≡ []
   pub released : s.mind.view.released ≡ 0
   pub running : s.mind.view.halted ≡ false
+  pub full : IsFull s.mind
   pub empty : gather.events ≡ []
   pub space : processes s.mind.view * a.room ≤ gather.capacity
 
--- a conductor's seat after an Ok: it has released every event of the piece, and its last floor says that all is done
+-- a conductor's seat after an Ok: it has released every event of the piece, its last floor says that all is done, and a
+-- run of the core, in which its steps are those that it made, has played the whole piece
 pub record HasConducted (t : TableId) (a : About) (s : Sight) : Type 0 where
   pub idle : IsIdle t a s
   pub conductor : s.mind.view.number ≡ 0
   pub running : s.mind.view.halted ≡ false
   pub published : s.mind.view.published ≡ Done
   pub released : s.mind.view.released ≡ length (piece (plan_lines a.plan))
+  pub plays : PlaysWhole s.mind
 
 -- looks alone: another sweep, and what they visit
 abbrev pub LooksAgain : View → View → Type 0
@@ -103,6 +109,7 @@ module _ {K : Type 0} (content : K → Option (List ℕ)) (sure : K → Option �
     pub events : List TimedMessage
     pub releases : Releases old events
     pub view : new ≡ released old (length events)
+    pub many : length events ≡ length gather.events
     pub cleared : gather' ≡ record gather { events = [] }
     pub count : n ≡ length events
     pub writes : Writes content sure faults begin now events writer writer'
@@ -113,6 +120,19 @@ module _ {K : Type 0} (content : K → Option (List ℕ)) (sure : K → Option �
     pub releases : Releases old events
     pub view : new ≡ released old (length events)
     pub breaks : Breaks content sure faults begin now (events_bytes writer.state events)
+
+  -- a conductor that has visited what is due, and can put what comes next into the sink
+  pub record CanRelease (t : TableId) (a : About) (c : Conductor) (due : Due) (begin : K) (writer : Written)
+      : Type 0 where
+    pub conductor : IsConductor t a c.seat
+    pub due_is : due ≡ c.seat.mind.view.due
+    pub visited : is_due due ≡ true → (p : ℕ) → p < processes c.seat.mind.view
+        → was_visited c.seat.mind.view p ≡ true
+    pub taken : c.gather.events ≡ c.seat.mind.view.gathered
+    pub none : is_due due ≡ false → c.gather.events ≡ []
+    pub within : c.seat.mind.view.released ≤ length (piece (lines_of c.seat.mind.view))
+    pub follow : (events : List TimedMessage) → Releases c.seat.mind.view events → CanFollow writer events
+    pub at_end : IfSome (content begin) (λ c. length c ≡ writer.put)
 
   -- between two passes: what the seat counts as released is what the sink holds
   pub record Conducting (a : About) (v : View) (gather : EventGather) (due : Due) (limit : ℕ) (start now : K)

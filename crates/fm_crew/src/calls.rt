@@ -4,15 +4,18 @@ ghost use Rattle.atomic_table.specs.Seated.{TableId};
 ghost use Rattle.fm_core.specs.Floors.{floor_of};
 ghost use Rattle.fm_core.specs.Sweep.{least};
 ghost use Rattle.fm_core.specs.Tags.{is_claimable};
-ghost use Rattle.fm_core.specs.Taking.{due_of, is_due};
+ghost use Rattle.fm_core.specs.Taking.{due_of};
 ghost use Rattle.fm_core.specs.declared.due.Due.TheVariants.{Nothing};
-ghost use Rattle.fm_board.specs.Answers.{Claims, Found, Gave};
+ghost use Rattle.fm_core.specs.declared.step.Step.TheVariants.{Pace, Publish, Record, Release};
+ghost use Rattle.fm_board.specs.Answers.{Claims, Gave, Looks};
 ghost use Rattle.fm_board.specs.Calls.{MayGive, MayRecord, Releases};
-ghost use Rattle.fm_board.specs.Plays.{viewing};
-ghost use Rattle.fm_board.specs.Seats.{IsOurs, seeing};
+ghost use Rattle.fm_board.specs.Knowing.{Knows};
+ghost use Rattle.fm_board.specs.Plays.{MayRelease};
+ghost use Rattle.fm_board.specs.Seats.{IsOurs, making, seeing};
 ghost use Rattle.fm_board.specs.Starting.{Starts};
-ghost use Rattle.fm_board.specs.View.{InTurn, looked, noted, processes, published, released, was_visited};
+ghost use Rattle.fm_board.specs.View.{InTurn, noted, processes, published, released};
 ghost use Rattle.fm_board.specs.declared.about.About.{About};
+ghost use Rattle.fm_crew.specs.Crew.{IsWorkOf};
 
 use fm_board::{Berth, Board, BoardSeat, Claim, Seen, Started};
 use fm_buffer::Gather;
@@ -55,13 +58,14 @@ pub trait Calls {
     fn look(&self, seat: &mut BoardSeat, process: u32) -> Seen
         requires ours { IsOurs (table self.now) (about self.now) seat.old }
         requires turn { InTurn seat.old.mind.view process }
-        ensures { Found seat.old process result
-            (looked seat.old.mind.view process result.tag result.clock) seat.new };
+        ensures { Looks seat.old process result seat.new };
 
     /// One load of the floor, above which by the lead the seat may compute.
     fn pace(&self, seat: &mut BoardSeat) -> Floor
         requires ours { IsOurs (table self.now) (about self.now) seat.old }
-        ensures { seat.new ≡ seeing seat.old (record seat.old.mind.view { paced = result }) };
+        ensures paced { seat.new ≡ making seat.old (Pace seat.old.mind.view.number)
+            (record seat.old.mind.view { paced = result }) seat.new.mind.log.seen }
+        ensures own { seat.old.mind.view.number ≡ 0 → result ≡ seat.old.mind.view.published };
 
     /// Takes a process whose word is as it was seen.
     fn claim(&self, seat: &mut BoardSeat, process: u32, expected: &Seen) -> Claim
@@ -83,17 +87,19 @@ pub trait Calls {
         requires ours { IsOurs (table self.now) (about self.now) seat.old }
         requires may { MayRecord (about self.now) seat.old.mind.view
             berth.now.process berth.now.strand }
-        ensures { seat.new ≡ record seat.old {
-          mind = viewing seat.old.mind (noted seat.old.mind.view);
-        } };
+        ensures { seat.new ≡ making seat.old
+            (Record seat.old.mind.view.number berth.now.process) (noted seat.old.mind.view)
+            seat.new.mind.log.seen };
 
     /// Gives the process back, with what was computed in it. What the seat did with it is told to
-    /// those who keep a record.
+    /// those who keep a record, just as it was.
     fn give(&self, seat: &mut BoardSeat, berth: Berth, work: Work)
         requires ours { IsOurs (table self.now) (about self.now) seat.old }
         requires may { MayGive (about self.now) seat.old.mind.view
             berth.process berth.strand berth.outbox }
-        ensures { Gave (about self.now) seat.old berth seat.new };
+        requires told { IsWorkOf seat.old.mind.view (length berth.outbox.events) work }
+        ensures gave { Gave (about self.now) seat.old berth seat.new }
+        ensures knows { Knows seat.old.mind seat.new.mind };
 
     /// Makes the least clock of seat 0's sweep the floor, and all up to that pair due.
     fn publish(&self, seat: &mut BoardSeat, floor: Floor)
@@ -102,20 +108,19 @@ pub trait Calls {
         requires swept { length seat.old.mind.view.sweep ≡ processes seat.old.mind.view }
         requires settled { seat.old.mind.view.due ≡ Nothing }
         requires floor { floor ≡ floor_of (least seat.old.mind.view.sweep) }
-        ensures { seat.new ≡ seeing seat.old
-            (published seat.old.mind.view floor (due_of (least seat.old.mind.view.sweep))) };
+        ensures { seat.new ≡ making seat.old Publish
+            (published seat.old.mind.view floor (due_of (least seat.old.mind.view.sweep)))
+            seat.new.mind.log.seen };
 
     /// Settles what was taken, which is the next part of the piece, and counts it as released.
     fn release(&self, seat: &mut BoardSeat, gather: &mut Gather)
         requires ours { IsOurs (table self.now) (about self.now) seat.old }
-        requires conductor { seat.old.mind.view.number ≡ 0 }
-        requires due { is_due seat.old.mind.view.due ≡ true }
-        requires visited { (p : ℕ) → p < processes seat.old.mind.view
-            → was_visited seat.old.mind.view p ≡ true }
+        requires may { MayRelease seat.old.mind.view }
         requires taken { gather.old.events ≡ seat.old.mind.view.gathered }
-        ensures seat { seat.new ≡ seeing seat.old
-            (released seat.old.mind.view (length gather.new.events)) }
+        ensures seat { seat.new ≡ making seat.old (Release (length gather.new.events))
+            (released seat.old.mind.view (length gather.new.events)) seat.old.mind.log.seen }
         ensures gather { Releases seat.old.mind.view gather.new.events }
+        ensures many { length gather.new.events ≡ length gather.old.events }
         ensures capacity { gather.new.capacity ≡ gather.old.capacity };
 
     /// Tells the other seats to stop.

@@ -4,19 +4,21 @@ ghost use Rattle.std.specs.Prelude.{◌≡◌, ◌&&◌, ◌<◌, ℕ, length, N
 ghost use Rattle.fm_core.specs.Floors.{floor_eq, floor_of};
 ghost use Rattle.fm_core.specs.Sweep.{least};
 ghost use Rattle.fm_core.specs.Tags.{is_claimable};
-ghost use Rattle.fm_core.specs.Taking.{due_of, is_due};
+ghost use Rattle.fm_core.specs.Taking.{due_of};
 ghost use Rattle.fm_core.specs.declared.due.Due.TheVariants.{Nothing};
 ghost use Rattle.fm_core.specs.declared.floor.Floor.TheVariants.{At};
 ghost use Rattle.fm_core.specs.declared.limits.TheConstants.{MAX_SEATS};
 ghost use Rattle.fm_core.specs.declared.step.Step.TheVariants as step;
 ghost use Rattle.fm_record.specs.StepBytes.{HasFields};
 ghost use Rattle.fm_strand.specs.Strand.{clock_of};
-ghost use Rattle.fm_board.specs.Answers.{Claims, Found, Gave};
+ghost use Rattle.fm_board.specs.Answers.{Claims, Gave, Looks};
 ghost use Rattle.fm_board.specs.Calls.{MayGive, MayRecord, Releases};
-ghost use Rattle.fm_board.specs.Plays.{viewing};
-ghost use Rattle.fm_board.specs.Seats.{IsOurs, seeing};
+ghost use Rattle.fm_board.specs.Knowing.{Knows};
+ghost use Rattle.fm_board.specs.Plays.{MayRelease};
+ghost use Rattle.fm_board.specs.Seats.{IsOurs, making};
 ghost use Rattle.fm_board.specs.Starting.{Starts};
-ghost use Rattle.fm_board.specs.View.{InTurn, looked, noted, processes, published, released, was_visited};
+ghost use Rattle.fm_board.specs.View.{InTurn, giving, noted, processes, published, released};
+ghost use Rattle.fm_crew.specs.Crew.{IsWorkOf};
 ghost use Rattle.fm_crew.specs.Keeping.{Keeps, claim_step, is_news, look_step, pace_step, start_step};
 
 use crate::Work;
@@ -37,8 +39,7 @@ pub fn look(
 ) -> Seen
     requires ours { IsOurs board.now.table.shared.table_id board.now.about seat.old }
     requires turn { InTurn seat.old.mind.view process }
-    ensures found { Found seat.old process result
-        (looked seat.old.mind.view process result.tag result.clock) seat.new }
+    ensures found { Looks seat.old process result seat.new }
     ensures kept { Keeps tape.old
         (look_step seat.old.mind.view.number known.old.look process result) tape.new }
 {
@@ -52,7 +53,9 @@ pub fn look(
 /// A pace. It is kept where it finds another floor than the seat found before.
 pub fn pace(board: &Board, tape: &mut Tape, known: &mut Known, seat: &mut BoardSeat) -> Floor
     requires ours { IsOurs board.now.table.shared.table_id board.now.about seat.old }
-    ensures paced { seat.new ≡ seeing seat.old (record seat.old.mind.view { paced = result }) }
+    ensures paced { seat.new ≡ making seat.old (step.Pace seat.old.mind.view.number)
+        (record seat.old.mind.view { paced = result }) seat.new.mind.log.seen }
+    ensures own { seat.old.mind.view.number ≡ 0 → result ≡ seat.old.mind.view.published }
     ensures kept { seat.old.mind.view.number < MAX_SEATS → Keeps tape.old
         (pace_step seat.old.mind.view.number
         (slice_index_or known.old.floors seat.old.mind.view.number (At 0)) result) tape.new }
@@ -112,9 +115,9 @@ pub fn record(board: &Board, tape: &mut Tape, seat: &mut BoardSeat, berth: &Bert
     requires ours { IsOurs board.now.table.shared.table_id board.now.about seat.old }
     requires may { MayRecord board.now.about seat.old.mind.view
         berth.now.process berth.now.strand }
-    ensures seat { seat.new ≡ record seat.old {
-      mind = viewing seat.old.mind (noted seat.old.mind.view);
-    } }
+    ensures seat { seat.new ≡ making seat.old
+        (step.Record seat.old.mind.view.number berth.now.process) (noted seat.old.mind.view)
+        seat.new.mind.log.seen }
     ensures kept { seat.old.mind.view.number < MAX_SEATS → Keeps tape.old
         (Some (step.Record seat.old.mind.view.number berth.now.process)) tape.new }
 {
@@ -126,15 +129,17 @@ pub fn record(board: &Board, tape: &mut Tape, seat: &mut BoardSeat, berth: &Bert
     keep(tape, Some(step));
 }
 
-/// A give, which is always kept, with what the seat did with the process.
+/// A give, which is always kept: just the step that the seat makes.
 pub fn give(board: &Board, tape: &mut Tape, seat: &mut BoardSeat, berth: Berth, work: Work)
     requires ours { IsOurs board.now.table.shared.table_id board.now.about seat.old }
     requires may { MayGive board.now.about seat.old.mind.view
         berth.process berth.strand berth.outbox }
+    requires told { IsWorkOf seat.old.mind.view (length berth.outbox.events) work }
     ensures gave { Gave board.now.about seat.old berth seat.new }
+    ensures knows { Knows seat.old.mind seat.new.mind }
     ensures kept { seat.old.mind.view.number < MAX_SEATS → Keeps tape.old
-        (Some (step.Give seat.old.mind.view.number berth.process work.taken work.computed
-        (clock_of board.now.about.plan berth.strand) work.ended)) tape.new }
+        (Some (giving seat.old.mind.view berth.process (length berth.outbox.events)
+        (clock_of board.now.about.plan berth.strand))) tape.new }
 {
     let number = number_of(seat);
     let clock = berth.strand.clock();
@@ -156,8 +161,9 @@ pub fn publish(
     requires swept { length seat.old.mind.view.sweep ≡ processes seat.old.mind.view }
     requires settled { seat.old.mind.view.due ≡ Nothing }
     requires floor { floor ≡ floor_of (least seat.old.mind.view.sweep) }
-    ensures seat { seat.new ≡ seeing seat.old
-        (published seat.old.mind.view floor (due_of (least seat.old.mind.view.sweep))) }
+    ensures seat { seat.new ≡ making seat.old step.Publish
+        (published seat.old.mind.view floor (due_of (least seat.old.mind.view.sweep)))
+        seat.new.mind.log.seen }
     ensures kept { Keeps tape.old (Some step.Publish) tape.new }
     ensures begins { known.new.look ≡ None }
 {
@@ -169,14 +175,12 @@ pub fn publish(
 /// A release, which is always kept, with how many events it settles.
 pub fn release(board: &Board, tape: &mut Tape, seat: &mut BoardSeat, gather: &mut Gather)
     requires ours { IsOurs board.now.table.shared.table_id board.now.about seat.old }
-    requires conductor { seat.old.mind.view.number ≡ 0 }
-    requires due { is_due seat.old.mind.view.due ≡ true }
-    requires visited { (p : ℕ) → p < processes seat.old.mind.view
-        → was_visited seat.old.mind.view p ≡ true }
+    requires may { MayRelease seat.old.mind.view }
     requires taken { gather.old.events ≡ seat.old.mind.view.gathered }
-    ensures seat { seat.new ≡ seeing seat.old
-        (released seat.old.mind.view (length gather.new.events)) }
+    ensures seat { seat.new ≡ making seat.old (step.Release (length gather.new.events))
+        (released seat.old.mind.view (length gather.new.events)) seat.old.mind.log.seen }
     ensures gather { Releases seat.old.mind.view gather.new.events }
+    ensures many { length gather.new.events ≡ length gather.old.events }
     ensures capacity { gather.new.capacity ≡ gather.old.capacity }
     ensures kept { Keeps tape.old (Some (step.Release (length gather.new.events))) tape.new }
 {

@@ -99,12 +99,18 @@ fn play_by_crew<R: Threads + Wait + Sync, G: Gate + Sync, K: Sink>(
     ensures err { IfErr result (StopsAt K.Sink sink.old sink.new plan) }
     ensures played { IfOk result (λ played. played ≡ played_of plan) }
 {
-    let (board, mut seat, others, mut gather) = fm_crew::open(
+    // A plan of one process has nothing to run beside it.
+    let workers = if plan.processes() < 2 {
+        0
+    } else {
+        options.workers
+    };
+    let (board, mut conductor, others) = fm_crew::open(
         alloc,
         plan,
         options.room,
         options.lead,
-        options.workers,
+        workers,
     )?;
-    Ok(fm_crew::play(rt, &board, &mut seat, others, &mut gather, gate, sink)?)
+    Ok(fm_crew::play(rt, &board, &mut conductor, others, gate, sink)?)
 }

@@ -33,7 +33,8 @@ pub returns-then-found-ne0 : goal.returns-then-found-ne0
 returns-then-found-ne0 c =
     let s = c.seen_of.result in
     record {
-      found = found_as _ _ c.args.process _ c.seat.inside.token.me c.compare_exchange-found.new.self.me (λ (v : View) t n. v) s _
+      found = found_as _ _ c.args.process _ c.seat.inside.token.me c.compare_exchange-found.new.self.me (λ (v : View) t n. v)
+          (λ (m : Mind) t. m.log) s _
           ((c.compare_exchange-found.ensures.told c.args.process c.index_of.ensures).1 c.if-found-ne0.true) c.seen_of.ensures.few
           c.seen_of.ensures.word
           c.compare_exchange-found.ensures.kept.0 c.seat.view_is;

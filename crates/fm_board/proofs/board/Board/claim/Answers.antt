@@ -30,10 +30,13 @@ invariant_of-seat c =
 pub returns-then-found-old : goal.returns-then-found-old
 returns-then-found-old c =
     let found = (c.compare_exchange-found.ensures.told c.args.process c.index_of.ensures).1 c.if-found-old.true in (
-      found_as _ _ c.args.process _ c.seat.inside.token.me c.compare_exchange-found.new.self.me (λ (v : View) t n. v) c.seen_of.result _
+      found_as _ _ c.args.process _ c.seat.inside.token.me c.compare_exchange-found.new.self.me (λ (v : View) t n. v)
+          (λ (m : Mind) t. m.log)
+          c.seen_of.result _
           found c.seen_of.ensures.few c.seen_of.ensures.word c.compare_exchange-found.ensures.kept.0 c.seat.view_is,
       (λ same. c.if-found-old.true (c.seen_of.ensures.word
           ∙ (ap (λ (s : Seen). spell s.tag s.clock s.seat) same ∙ sym c.word_of-old.ensures))),
+      (λ same. c.if-found-old.true (c.seen_of.ensures.word ∙ (same ∙ sym c.word_of-old.ensures))),
     )
 
 pub exchange-requires-clause-out : goal.exchange-requires-clause-out

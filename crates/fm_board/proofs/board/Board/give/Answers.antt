@@ -1,10 +1,12 @@
-use Rattle.std.proofs.Common.{arith, ap, ◌∙◌, ◌∷◌, Option, Some}
+use Rattle.std.proofs.Common.{arith, ap, ◌∙◌, ◌∷◌, Option, Some, refl}
 use Rattle.atomic_table.specs.Table.{rest}
 use Rattle.fm_buffer.specs.Outbox.{EventQueue}
 use Rattle.fm_strand.specs.declared.strand.Strand.{Strand}
+use Rattle.fm_program.specs.Parts.{PlanParts}
+use Rattle.fm_board.specs.Plays.{left_of}
 use Rattle.fm_board.specs.Seats.{Sight}
 use Rattle.fm_board.specs.declared.room.Room.{Room}
-use Rattle.fm_board.proofs.Returns.{clock_low, gave_as, gave_tidy, gives_at}
+use Rattle.fm_board.proofs.Returns.{clock_low, gave_as, gave_extends, gave_knows, gave_tidy, gives_at}
 use Rattle.fm_board.proofs.board.Board.give.Goals as goal
 
 -- a slot with this in it
@@ -36,12 +38,26 @@ invariant_of-seat c =
     (c.store.ensures.told c.args.berth.process c.home_tag-tag.result c.clock-clock.result 0 c.index_of.ensures
     (omega arith) c.word_of-new.ensures)
 
-pub returns : goal.returns
-returns c =
+pub returns-clause-gave : goal.returns-clause-gave
+returns-clause-gave c =
     gave_as c.args.self.now.about _ _ _ _ c.args.berth.process _ c.len.result _ _ _ _ c.seat.inside.token.me c.exchange.new.self.me _ _
     c.args.berth.strand c.args.berth.outbox _
-    c.requires.may c.seat.invariant c.exchange.ensures.is
+    c.requires.may c.seat.invariant c.exchange.ensures.is refl (λ (q : PlanParts). ap (left_of q) c.of.ensures) c.requires.ours.plan
     (c.store.ensures.told c.args.berth.process c.home_tag-tag.result c.clock-clock.result 0 c.index_of.ensures
     (omega arith) c.word_of-new.ensures)
     c.home_tag-tag.ensures c.len.ensures.value (c.clock-clock.ensures c.args.self.now.about.plan c.requires.may.strand.course)
     c.store.ensures.kept.0 c.exchange.ensures.kept.0 c.seat.view_is
+
+pub returns-clause-knows : goal.returns-clause-knows
+returns-clause-knows c =
+    gave_knows c.args.berth.process c.home_tag-tag.result c.clock-clock.result c.seat.inside.token.me c.exchange.new.self.me _ _ _
+    c.args.seat.now c.exchange.ensures.is
+    (c.store.ensures.told c.args.berth.process c.home_tag-tag.result c.clock-clock.result 0 c.index_of.ensures
+    (omega arith) c.word_of-new.ensures) c.seat.view_is
+
+pub returns-clause-extends : goal.returns-clause-extends
+returns-clause-extends c =
+    gave_extends c.args.berth.process c.home_tag-tag.result c.clock-clock.result c.seat.inside.token.me c.exchange.new.self.me _ _ _
+    c.args.seat.now c.exchange.ensures.is
+    (c.store.ensures.told c.args.berth.process c.home_tag-tag.result c.clock-clock.result 0 c.index_of.ensures
+    (omega arith) c.word_of-new.ensures) c.seat.view_is

@@ -1,7 +1,10 @@
 use Rattle.std.proofs.Common.{ap}
 use Rattle.fm_board.specs.Seats.{Sight}
 use Rattle.fm_board.specs.View.{looked}
+use Rattle.fm_board.specs.declared.view.Mind.{Mind}
 use Rattle.fm_board.specs.declared.view.View.{View}
+use Rattle.fm_board.specs.Minds.{did}
+use Rattle.fm_core.specs.declared.step.Step.TheVariants.{Look}
 use Rattle.fm_board.proofs.Steps.{found_as, looks_at}
 use Rattle.fm_board.proofs.Sweeping.{looked_tidy}
 use Rattle.fm_board.proofs.board.Board.look.Goals as goal
@@ -21,14 +24,15 @@ invariant_of-seat c =
     let s = c.seen_of-seen.result in
     let mind = found.mind s.tag s.clock s.seat c.seen_of-seen.ensures.few c.seen_of-seen.ensures.word in
     looked_tidy _ _ _ _ _ _ _ c.args.process s.clock _ s.tag c.seat.inside.token.me c.load-found.new.self.me c.args.seat.now.mind
-    c.args.self.now.about.plan _ c.seat.invariant (ap (λ (x : Sight). x.mind) c.seat.view_is) c.requires.turn c.requires.ours.plan mind
+    c.args.self.now.about.plan _ _ c.seat.invariant (ap (λ (x : Sight). x.mind) c.seat.view_is) c.requires.turn c.requires.ours.plan mind
     found.out c.as_slice.ensures.value c.sight_of-look.ensures.clock c.sight_of-look.ensures.ended c.enter.ensures.items
     c.enter.ensures.capacity
 
 pub returns : goal.returns
 returns c =
     found_as _ _ c.args.process _ c.seat.inside.token.me c.load-found.new.self.me
-    (λ (v : View). looked v c.args.process) c.seen_of-seen.result _
+    (λ (v : View). looked v c.args.process) (λ (m : Mind) t. did m (Look m.view.number c.args.process) c.load-found.new.self.me.0.log.seen)
+    c.seen_of-seen.result _
     (c.load-found.ensures.told c.args.process c.index_of.ensures) c.seen_of-seen.ensures.few c.seen_of-seen.ensures.word
     c.load-found.ensures.kept.0
     c.seat.view_is

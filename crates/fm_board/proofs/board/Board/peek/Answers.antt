@@ -2,6 +2,7 @@ use Rattle.std.proofs.Common.{ap}
 use Rattle.fm_board.specs.Seats.{Sight}
 use Rattle.fm_board.specs.declared.view.Mind.{Mind}
 use Rattle.fm_board.specs.declared.view.View.{View}
+use Rattle.fm_board.specs.Minds.{recalled}
 use Rattle.fm_board.proofs.Steps.{found_as, recalls_at, stays_tidy, widths}
 use Rattle.fm_board.proofs.board.Board.peek.Goals as goal
 
@@ -24,7 +25,9 @@ invariant_of-seat c =
 
 pub returns-clause-found : goal.returns-clause-found
 returns-clause-found c =
-    found_as _ _ c.args.process _ c.seat.inside.token.me c.load-found.new.self.me (λ (v : View) t n. v) c.seen_of.result _
+    found_as _ _ c.args.process _ c.seat.inside.token.me c.load-found.new.self.me (λ (v : View) t n. v)
+    (λ (m : Mind). recalled m c.args.process c.load-found.new.self.me.0.log.seen)
+    c.seen_of.result _
     (c.load-found.ensures.told c.args.process c.index_of.ensures) c.seen_of.ensures.few c.seen_of.ensures.word c.load-found.ensures.kept.0
     c.seat.view_is
 

@@ -1,5 +1,6 @@
 use Rattle.std.proofs.Common.{arith, ◌∙◌, sym, subst}
 use Rattle.fm_board.specs.Answers.{Found}
+use Rattle.fm_board.specs.Minds.{recalled}
 use Rattle.fm_board.specs.Seats.{Sight}
 use Rattle.fm_board.proofs.Findings.{marked_now, ours_seen, seen_found, there_seen}
 use Rattle.fm_board.proofs.board.Board.recall.Goals as goal
@@ -7,25 +8,26 @@ use Rattle.fm_board.proofs.board.Board.recall.Goals as goal
 pub end_of-requires-clause-ours : goal.end_of-requires-clause-ours
 end_of-requires-clause-ours c =
     ours_seen _ _ c.args.seat.now c.peek-found.new.seat c.requires.ours
-    (seen_found c.args.seat.now c.peek-found.new.seat c.args.process c.peek-found.result c.peek-found.ensures.found)
+    (seen_found c.args.seat.now c.peek-found.new.seat c.args.process c.peek-found.result _ c.peek-found.ensures.found)
 
 pub end_of-requires-clause-there : goal.end_of-requires-clause-there
 end_of-requires-clause-there c =
     there_seen c.args.seat.now c.peek-found.new.seat c.args.process c.requires.there
-    (seen_found c.args.seat.now c.peek-found.new.seat c.args.process c.peek-found.result c.peek-found.ensures.found)
+    (seen_found c.args.seat.now c.peek-found.new.seat c.args.process c.peek-found.result _ c.peek-found.ensures.found)
 
 pub end_of-requires-clause-ended : goal.end_of-requires-clause-ended
 end_of-requires-clause-ended c =
     let wide = c.peek-found.ensures.wide in
     let there = c.requires.there in
-    marked_now c.args.seat.now c.peek-found.new.seat c.args.process c.peek-found.result c.peek-found.ensures.found
+    marked_now c.args.seat.now c.peek-found.new.seat c.args.process c.peek-found.result _ c.peek-found.ensures.found
     (sym c.is_at_end.ensures ∙ c.if-is_at_end.true) (omega (arith, wide, there))
 
 pub returns-then-is_at_end : goal.returns-then-is_at_end
 returns-then-is_at_end c = (
   record {
     seen = c.peek-found.result;
-    found = subst (λ (z : Sight). Found c.args.seat.now c.args.process c.peek-found.result c.args.seat.now.mind.view z)
+    found = subst (λ (z : Sight). Found c.args.seat.now c.args.process c.peek-found.result c.args.seat.now.mind.view
+        (recalled c.args.seat.now.mind c.args.process z.mind.log.seen c.peek-found.result.tag) z)
         (sym c.end_of.ensures.seat)
         c.peek-found.ensures.found;
     ended = sym c.is_at_end.ensures ∙ c.if-is_at_end.true;

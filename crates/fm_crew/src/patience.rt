@@ -1,0 +1,110 @@
+//! How a conductor waits for a process that another seat holds.
+ghost use Rattle.std.specs.Prelude.{◌≡◌, ◌+◌, Bool, true, false, length, IfSome, IsSome};
+ghost use Rattle.fm_board.specs.View.{InTurn};
+ghost use Rattle.fm_crew.specs.Conduct.{Attends, Stays};
+ghost use Rattle.fm_crew.specs.Onward.{Grows};
+ghost use Rattle.fm_crew.specs.Visiting.{Visited};
+
+use crate::Calls;
+use crate::conductor::Conductor;
+use crate::idle::{Idle, LONG_SPINS};
+use crate::limits::Pass;
+use crate::pass::attend;
+use fm_edge::Gate;
+use std::sync::Wait;
+
+/// What a conductor does while a process is in other hands.
+pub(crate) trait Patience {
+    /// Whether it waits at all.
+    ghost waits: { Self → Bool };
+
+    /// Looks again at a process, until it was visited, and says its clock. None where it does not
+    /// wait.
+    fn wait_for<B: Calls, G: Gate>(
+        &self,
+        board: &B,
+        gate: &G,
+        pass: Pass,
+        conductor: &mut Conductor,
+        process: u32,
+    ) -> Option<u64>
+        requires passing { Attends (B.table board.now) (B.about board.now)
+            conductor.old pass process }
+        requires turn { InTurn conductor.old.seat.mind.view process }
+        ensures waited { waits self.now ≡ true → IsSome result }
+        ensures visited { IfSome result (Visited (B.table board.now) (B.about board.now) pass process
+            conductor.old conductor.new) }
+        ensures stays { IfSome result
+            (λ _. Stays conductor.old.seat.mind.view conductor.new.seat.mind.view) }
+        ensures swept { IfSome result
+            (λ _. length conductor.new.seat.mind.view.sweep ≡ process + 1) }
+        ensures grows { IfSome result (λ _. Grows conductor.old conductor.new) };
+}
+
+/// A conductor beside other seats, which yields to them.
+#[derive(Drop)]
+pub(crate) struct Patient<'a, R> {
+    pub rt: &'a R,
+}
+
+impl<R: Wait> Patience for Patient<'_, R> {
+    ghost waits = { λ _. true };
+
+    fn wait_for<B: Calls, G: Gate>(
+        &self,
+        board: &B,
+        gate: &G,
+        pass: Pass,
+        conductor: &mut Conductor,
+        process: u32,
+    ) -> Option<u64> {
+        Some(wait_for(self.rt, board, gate, pass, conductor, process))
+    }
+}
+
+/// A conductor without other seats, which never finds a process in other hands.
+#[derive(Drop)]
+pub(crate) struct Alone;
+
+impl Patience for Alone {
+    ghost waits = { λ _. false };
+
+    fn wait_for<B: Calls, G: Gate>(
+        &self,
+        _board: &B,
+        _gate: &G,
+        _pass: Pass,
+        _conductor: &mut Conductor,
+        _process: u32,
+    ) -> Option<u64> {
+        None
+    }
+}
+
+// Looks again at a process that was found in other hands, until it was visited. Nothing else of
+// the conductor waits.
+fn wait_for<R: Wait, B: Calls, G: Gate>(
+    rt: &R,
+    board: &B,
+    gate: &G,
+    pass: Pass,
+    conductor: &mut Conductor,
+    process: u32,
+) -> u64
+    requires passing { Attends (B.table board.now) (B.about board.now) conductor.old pass process }
+    requires turn { InTurn conductor.old.seat.mind.view process }
+    ensures visited { Visited (B.table board.now) (B.about board.now) pass process
+        conductor.old conductor.new result }
+    ensures stays { Stays conductor.old.seat.mind.view conductor.new.seat.mind.view }
+    ensures swept { length conductor.new.seat.mind.view.sweep ≡ process + 1 }
+    ensures grows { Grows conductor.old conductor.new }
+{
+    let mut idle = Idle::new();
+    for _ in rt.forever() {
+        idle.yield_soon(LONG_SPINS);
+        if let Some(clock) = attend(board, gate, pass, conductor, process) {
+            return clock;
+        }
+    }
+    unreachable!()
+}
