@@ -65,9 +65,11 @@ FILE_FAULTS = {fault.number: fault for fault in (
           "take the `data` chunk out of the wrapper; most players save a plain file"),
     Fault(22, "the bytes begin otherwise than with `MThd`", "0",
           "check the name: it is another kind of file, an empty one, or a compressed one"),
-    Fault(23, "the bytes end too early: a chunk passes the end of the file, or an event the end of its track",
+    Fault(23, "the bytes end too early: a chunk passes the end of the file, or an event the end of its track; or "
+              "one to seven bytes follow the last chunk",
           "that end",
-          "copy or download the file again; where the program that wrote it was stopped, write it again"),
+          "copy or download the file again; where the program that wrote it was stopped, write it again; cut off "
+          "what follows the last chunk, as a line end"),
     Fault(24, "the header says a length below 6", "4",
           "save the file again with another program"),
     Fault(25, "the format is 2, of tracks that play one after another", "8",

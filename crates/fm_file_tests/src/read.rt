@@ -64,6 +64,11 @@ const FAULTS: &[(&[u8], (u8, u32))] = &[
         b"MThd\0\0\0\x06\0\0\0\x01\x01\xE0MTrk\0\0\0\x14\0\x90\x3C",
         (23, 25),
     ),
+    // A line end behind the last chunk.
+    (
+        b"MThd\0\0\0\x06\0\0\0\x01\x01\xE0MTrk\0\0\0\x04\0\xFF\x2F\0\n",
+        (23, 27),
+    ),
     // A text event ends running status.
     (
         b"MThd\0\0\0\x06\0\0\0\x01\x01\xE0MTrk\0\0\0\x0B\0\x90\x3C\x40\0\xFF\x01\0\0\x3C\x40",
@@ -176,6 +181,7 @@ fn has_parts<R: Abort>(rt: &R, file: &File<'_>) {
     let numbers = (file.format(), file.stated(), file.division());
     same(rt, &numbers, &(0, 1, 480));
     same_bytes(rt, file.head(), &NOTE[..14]);
+    same_bytes(rt, file.rest(), &NOTE[14..]);
     match file.chunks().next() {
         Some(chunk) => same_bytes(rt, chunk.body, &NOTE[22..]),
         None => panic!(rt; "a note has a chunk"),

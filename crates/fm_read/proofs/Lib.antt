@@ -11,6 +11,7 @@ pub mod FileLemmas
 pub mod FileWritten
 pub mod DecodedLemmas
 pub mod Few
+pub mod KeptLemmas
 pub mod FormRead
 pub mod FormTook
 pub mod FileFormRead

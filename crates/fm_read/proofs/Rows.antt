@@ -7,6 +7,8 @@ use Rattle.fm_read.specs.Tracks.{entries, entries_from}
 use Rattle.fm_read.specs.Decoded.{message_from, decoded}
 use Rattle.fm_read.specs.Written.{messages, time_after}
 use Rattle.fm_read.specs.Files.{tracks, read_chunk, chunk_fault, chunks_from, contents, position}
+use Rattle.fm_read.specs.Kept.{behind_track}
+use Rattle.fm_read.specs.WrittenFile.{track_part}
 
 -- the bytes before a track's length
 abbrev head : List ℕ
@@ -85,3 +87,14 @@ second_format : position (take 9 note_file ++ 2 ∷ []) (contents (take 9 note_f
 unfolding contents chunks_from read_chunk chunk_fault entries_from read_entry read_event read_channel
     past_meta past_text past_message past_data read_quantity quantity_from
 second_format = refl
+
+-- a line end behind the last chunk
+line_behind : position (note_file ++ 10 ∷ []) (contents (note_file ++ 10 ∷ [])) ≡ Some (Truncated, 43)
+unfolding contents chunks_from read_chunk chunk_fault entries_from read_entry read_event read_channel
+    past_meta past_text past_message past_data read_quantity quantity_from
+line_behind = refl
+
+-- behind the first track of a chunk of another kind and two tracks is the second one
+second_left : behind_track (record { head = 88 ∷ 70 ∷ 73 ∷ 72 ∷ 0 ∷ 0 ∷ 0 ∷ 0 ∷ []; body = [] } ∷ track_part note ∷ track_part [] ∷ [])
+    ≡ track_part [] ∷ []
+second_left = refl

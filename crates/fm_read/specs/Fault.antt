@@ -25,7 +25,7 @@ kind_number NoTrack = 34
 abbrev pub kind_text : ReadKind → List ℕ
 kind_text Wrapped = codes "a RIFF wrapper stands around the file"
 kind_text NotMidi = codes "this is no Standard MIDI File"
-kind_text Truncated = codes "the bytes end too early"
+kind_text Truncated = codes "the bytes end too early, or a few follow the last chunk"
 kind_text ShortHeader = codes "the header is shorter than six bytes"
 kind_text FormatTwo = codes "format 2 is not read"
 kind_text BadFormat = codes "there is no such format"

@@ -1,10 +1,10 @@
 -- What a file keeps of the bytes behind its header.
-use Rattle.std.specs.Prelude.{◌++◌, ◌≡◌, ℕ, ◌+◌, ◌≤◌, length, List, [], Ok, Err}
+use Rattle.std.specs.Prelude.{◌++◌, ◌≡◌, ℕ, ◌+◌, ◌≤◌, if◌then◌else◌, length, List, [], ◌∷◌, Ok, Err}
 use Rattle.std.specs.List.{flat_map}
 use Rattle.fm_read.specs.declared.limits.TheConstants.{MAX_FILE}
 use Rattle.fm_read.specs.Reading.{Read}
 use Rattle.fm_read.specs.Tracks.{IsRead}
-use Rattle.fm_read.specs.Files.{contents, Part, Contents, chunks, header_of, behind_header, short_at, wide_at}
+use Rattle.fm_read.specs.Files.{contents, Part, Contents, chunks, is_track, header_of, behind_header, short_at, wide_at}
 
 -- the chunks, where there is no fault
 abbrev pub parts_read : Read (List Part) → List Part
@@ -35,6 +35,11 @@ pub record IsKept (rest bytes : List ℕ) (c : Contents) : Type 0 where
   pub is_read : contents bytes ≡ Ok c
   pub there : IsRead (chunks rest)
   pub small : length bytes ≤ MAX_FILE
+
+-- the chunks behind the first one that is a track; none where no chunk is
+abbrev pub behind_track : List Part → List Part
+behind_track [] = []
+behind_track (p ∷ ps) = if is_track p then ps else behind_track ps
 
 -- the bytes of chunks, one after another
 abbrev pub joined_parts : List Part → List ℕ

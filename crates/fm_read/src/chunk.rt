@@ -5,7 +5,8 @@ ghost use Rattle.fm_read.specs.Reading.{Gives};
 ghost use Rattle.fm_read.specs.Files.{wide_at, short_at, has_kind, chunk_fault, held, past_chunk};
 ghost use Rattle.fm_read.specs.Files.{read_chunk, chunks, tracks, tracked, body_chunks};
 ghost use Rattle.fm_read.specs.Tracks.{IsRead, entries};
-ghost use Rattle.fm_read.specs.Kept.{chunks_of, joined_parts};
+ghost use Rattle.fm_read.specs.Kept.{chunks_of, joined_parts, behind_track};
+ghost use Rattle.fm_read.specs.FileForm.{IsChunk};
 ghost use Rattle.fm_read.specs.Views.{as_part};
 ghost use Rattle.fm_read.specs.Seen.{track_found, present};
 
@@ -173,6 +174,8 @@ impl<'a> Chunks<'a> {
     /// The next chunk, where there is one. The body of a track has no fault.
     pub fn next(&mut self) -> Option<Chunk<'a>>
         ensures given { MatchOption result (self.old ≡ []) (λ c. self.old ≡ as_part c ∷ self.new) }
+        ensures head { IfSome result (λ c. length c.head.now ≡ 8) }
+        ensures form { IfSome result (λ c. IsChunk (as_part c)) }
         ensures track { IfSome result (λ c. has_kind (codes "MTrk") c.head.now ≡ true
             → IsRead (entries None c.body.now)) }
         ensures none { IfNone result (self.new ≡ self.old) }
@@ -189,6 +192,8 @@ impl<'a> Chunks<'a> {
     pub fn next_track(&mut self) -> Option<Track<'a>>
         ensures given { MatchOption result (tracks self.old ≡ [])
             (λ t. tracks self.old ≡ t ∷ tracks self.new) }
+        // What was passed over has no track.
+        ensures passed { self.new ≡ behind_track self.old }
         // A track has no more entries than bytes.
         ensures few { IfSome result (λ t. length t + length (joined_parts self.new)
             ≤ length (joined_parts self.old)) }

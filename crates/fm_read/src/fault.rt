@@ -12,7 +12,8 @@ pub enum ReadKind {
     Wrapped,
     /// They begin otherwise than with `MThd`.
     NotMidi,
-    /// A chunk passes the file's end, or an event its body's end.
+    /// A chunk passes the file's end, or an event its body's end. Fewer than eight bytes behind
+    /// the last chunk are a chunk that passes the end too.
     Truncated,
     /// The header has fewer than six bytes.
     ShortHeader,
@@ -69,7 +70,7 @@ impl fmt::Display for ReadKind {
         f.write_str(match self {
             ReadKind::Wrapped => "a RIFF wrapper stands around the file",
             ReadKind::NotMidi => "this is no Standard MIDI File",
-            ReadKind::Truncated => "the bytes end too early",
+            ReadKind::Truncated => "the bytes end too early, or a few follow the last chunk",
             ReadKind::ShortHeader => "the header is shorter than six bytes",
             ReadKind::FormatTwo => "format 2 is not read",
             ReadKind::BadFormat => "there is no such format",

@@ -1,10 +1,11 @@
 //! A whole file.
-ghost use Rattle.std.specs.Prelude.{◌≡◌, ◌<◌, ◌≤◌, length, Some, Ok, Err, slice_get};
+ghost use Rattle.std.specs.Prelude.{◌≡◌, ◌+◌, ◌<◌, ◌≤◌, ◌^◌, length, Some, Ok, Err, slice_get};
 ghost use Rattle.std.specs.Prelude.{IfSome, IfNone, IfOk, IfErr, OnOk};
 ghost use Rattle.fm_read.specs.Files.{chunks, tracks, contents, position};
 ghost use Rattle.fm_read.specs.Files.{header_fault, header_of, behind_header};
 ghost use Rattle.fm_read.specs.Tracks.{IsRead};
-ghost use Rattle.fm_read.specs.Kept.{HasHeader, contents_of, bytes_of};
+ghost use Rattle.fm_read.specs.FileForm.{IsFile};
+ghost use Rattle.fm_read.specs.Kept.{HasHeader, contents_of, bytes_of, joined_parts};
 
 use crate::chunk::{Chunks, has_kind, judge_rest, short_at, wide_at};
 use crate::fault::{CUT, ReadFault, ReadKind, Stop};
@@ -92,14 +93,16 @@ fn header_fault(bytes: &[u8]) -> Option<Stop>
 impl<'a> File<'a> {
     /// The header chunk: `MThd`, its length, and as many bytes, at least six.
     pub fn head(&self) -> &'a [u8]
-        ensures { result.now ≡ self.now.head }
+        ensures value { result.now ≡ self.now.head }
+        ensures long { 14 ≤ length result.now }
     {
         self.head
     }
 
     /// The format: 0 for one track, 1 for tracks that sound together.
     pub fn format(&self) -> u16
-        ensures { result ≡ self.now.format }
+        ensures value { result ≡ self.now.format }
+        ensures known { result < 2 }
     {
         self.format
     }
@@ -113,14 +116,25 @@ impl<'a> File<'a> {
 
     /// The division: how many ticks a quarter note has.
     pub fn division(&self) -> u16
-        ensures { result ≡ self.now.division }
+        ensures value { result ≡ self.now.division }
+        ensures ticks { result < 2 ^ 15 }
     {
         self.division
+    }
+
+    /// The bytes behind the header chunk: all chunks, one after another.
+    pub fn rest(&self) -> &'a [u8]
+        ensures value { result.now ≡ joined_parts self.now.parts }
+        ensures read { chunks result.now ≡ Ok self.now.parts }
+        ensures small { length self.now.head + length result.now ≤ MAX_FILE }
+    {
+        self.rest
     }
 
     /// All chunks behind the header, in order, those of unknown kinds too.
     pub fn chunks(&self) -> Chunks<'a>
         ensures value { result ≡ self.now.parts }
+        ensures form { IsFile self.now }
         // The whole file is within the limit, so there are no more chunks than bytes.
         ensures small { length (bytes_of self.now) ≤ MAX_FILE }
         ensures few { length result ≤ MAX_FILE }
@@ -128,9 +142,10 @@ impl<'a> File<'a> {
         Chunks::new(self.rest)
     }
 
-    /// How many of the chunks are tracks.
+    /// How many of the chunks are tracks, at least one.
     pub fn tracks(&self) -> u32
-        ensures { result ≡ length (tracks self.now.parts) }
+        ensures value { result ≡ length (tracks self.now.parts) }
+        ensures some { 0 < result }
     {
         let mut chunks = self.chunks();
         let mut count = 0;

@@ -14,7 +14,7 @@ returns-in_err-push_all-clause-err g c =
     let at_end = rw c.first_track.ensures.value at c.tally_of-tally.ensures.end in
     let count = c.tracks.ensures.value _ _ (rw c.first_track.ensures.value at c.tally_of-tally.ensures.tally) in
     let whole = split_parts c.args.file.now c.tally_of-tally.result.1 c.tracks.result at_end count in
-    let head = rw c.division.ensures at c.header.ensures in
+    let head = rw c.division.ensures.value at c.header.ensures in
     let chunks = flat_map track_chunk (channel_tracks CHANNELS (decoded 0 (first_track c.args.file.now)) c.tally_of-tally.result.1) in
     let tempo = track_chunk (tempo_track c.tally_of-tally.result.1) in
     on_err c.from_residual.result
@@ -27,7 +27,7 @@ returns-in_err-tempo-clause-err g c =
     let at_end = rw c.first_track.ensures.value at c.tally_of-tally.ensures.end in
     let count = c.tracks.ensures.value _ _ (rw c.first_track.ensures.value at c.tally_of-tally.ensures.tally) in
     let whole = split_parts c.args.file.now c.tally_of-tally.result.1 c.tracks.result at_end count in
-    let head = rw c.division.ensures at c.header.ensures in
+    let head = rw c.division.ensures.value at c.header.ensures in
     let chunks = flat_map track_chunk (channel_tracks CHANNELS (decoded 0 (first_track c.args.file.now)) c.tally_of-tally.result.1) in
     let tempo = track_chunk (tempo_track c.tally_of-tally.result.1) in
     on_err c.from_residual-in_err-tempo.result
@@ -39,7 +39,7 @@ returns-in_err-channels-clause-err g c =
     let at_end = rw c.first_track.ensures.value at c.tally_of-tally.ensures.end in
     let count = c.tracks.ensures.value _ _ (rw c.first_track.ensures.value at c.tally_of-tally.ensures.tally) in
     let whole = split_parts c.args.file.now c.tally_of-tally.result.1 c.tracks.result at_end count in
-    let head = rw c.division.ensures at c.header.ensures in
+    let head = rw c.division.ensures.value at c.header.ensures in
     on_err c.from_residual-in_err-channels.result
     (parts_break _ _ _ _ _ _ _ _ _ _ _ whole
     (pass_after _ _ _ _ _ _ _ _ _ _ _ (rw (head, c.new-out.ensures) at c.in_ok-push_all.ensures.ok) c.in_ok-tempo.ensures.ok)
@@ -50,7 +50,7 @@ returns-in_err-finish-clause-err g c =
     let at_end = rw c.first_track.ensures.value at c.tally_of-tally.ensures.end in
     let count = c.tracks.ensures.value _ _ (rw c.first_track.ensures.value at c.tally_of-tally.ensures.tally) in
     let whole = split_parts c.args.file.now c.tally_of-tally.result.1 c.tracks.result at_end count in
-    let head = rw c.division.ensures at c.header.ensures in
+    let head = rw c.division.ensures.value at c.header.ensures in
     on_err c.from_residual-in_err-finish.result
     (pass_finish_breaks _ _ _ _ _ _ _ _
     (pass_parts _ _ _ _ _ _ _ _ _ _ _ _ whole
@@ -74,7 +74,7 @@ returns-clause-ok g c =
     let at_end = rw c.first_track.ensures.value at c.tally_of-tally.ensures.end in
     let count = c.tracks.ensures.value _ _ (rw c.first_track.ensures.value at c.tally_of-tally.ensures.tally) in
     let whole = split_parts c.args.file.now c.tally_of-tally.result.1 c.tracks.result at_end count in
-    let head = rw c.division.ensures at c.header.ensures in
+    let head = rw c.division.ensures.value at c.header.ensures in
     pass_finish _ _ _ _ _ _ _ _
     (pass_parts _ _ _ _ _ _ _ _ _ _ _ _ whole
     (pass_after _ _ _ _ _ _ _ _ _ _ _ (rw (head, c.new-out.ensures) at c.in_ok-push_all.ensures.ok) c.in_ok-tempo.ensures.ok)
