@@ -6,3 +6,5 @@ pub mod SplitLemmas
 pub mod Rising
 pub mod TallyLemmas
 mod Rows
+pub mod WrittenBounds
+pub mod ReadBackLemmas

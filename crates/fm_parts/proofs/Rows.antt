@@ -3,6 +3,7 @@ use Rattle.std.proofs.Common.{◌≡◌, ℕ, List, [], ◌∷◌, ◌++◌, ref
 use Rattle.fm_msg.specs.declared.msg.Msg.TheVariants.{On, Off}
 use Rattle.fm_smf.specs.VariableLength.{vlq}
 use Rattle.fm_smf.specs.Track.{fillers, delta, end_bytes}
+use Rattle.fm_parts.specs.ReadBack.{all_heard}
 use Rattle.fm_parts.specs.Format1.{format1, channel_tracks, numbers}
 
 -- the header and the head of the tempo's track, of this many tracks and bytes
@@ -22,3 +23,9 @@ two_channels = refl
 no_event : format1 480 [] 0 ≡ head 1 11 ++ 0 ∷ 255 ∷ 81 ∷ 3 ∷ 7 ∷ 161 ∷ 32 ∷ 0 ∷ 255 ∷ 47 ∷ 0 ∷ []
 unfolding format1 channel_tracks numbers end_bytes delta fillers vlq
 no_event = refl
+
+-- what is heard of the two channels
+two_heard : all_heard ((0, On 0 60 64) ∷ (432, Off 0 60) ∷ (480, On 1 64 64) ∷ (912, Off 1 64) ∷ []) 960
+    ≡ ([], 960) ∷ ((0, On 0 60 64) ∷ (432, Off 0 60) ∷ [], 960) ∷ ((480, On 1 64 64) ∷ (912, Off 1 64) ∷ [], 960) ∷ []
+unfolding numbers
+two_heard = refl

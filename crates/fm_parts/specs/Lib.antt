@@ -7,3 +7,4 @@ pub use Rattle.fm_msg.specs.Message
 pub use Rattle.fm_read.specs.WrittenFile
 pub mod Format1
 pub mod Tally
+pub mod ReadBack

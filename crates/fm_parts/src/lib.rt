@@ -11,5 +11,5 @@ mod parts;
 mod tally;
 mod whole;
 
-pub use laws::each_event_has_its_track;
+pub use laws::{each_event_has_its_track, parts_are_read_back};
 pub use whole::split;
