@@ -1,4 +1,7 @@
 pub mod Below
+pub mod FileLemmas
+pub mod StateValues
+pub mod ValueLemmas
 pub mod CountLemmas
 pub mod InsideLemmas
 pub mod JoinLemmas

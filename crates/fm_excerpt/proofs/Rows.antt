@@ -2,6 +2,7 @@
 use Rattle.std.proofs.Common.{◌≡◌, ℕ, List, [], ◌∷◌, Some, None, refl}
 use Rattle.fm_msg.specs.declared.msg.Msg.{Msg}
 use Rattle.fm_msg.specs.declared.msg.Msg.TheVariants.{On, Off, Program, Bend, Control}
+use Rattle.fm_excerpt.specs.Values.{program_at, control_at, bend_at}
 use Rattle.fm_excerpt.specs.Excerpt.{below, channel_state, state, window, closing, excerpt, excerpt_end}
 
 -- a program change and two quarter notes, of 960 ticks
@@ -27,11 +28,25 @@ behind_the_end = refl
 no_length : excerpt_end 5000 None 960 ≡ 0
 no_length = refl
 
+-- a bend of 0, and a controller that is set three times
+abbrev pedals : List (ℕ × Msg)
+pedals = (0, Bend 1 0) ∷ (0, Control 1 7 3) ∷ (9, Control 1 7 4) ∷ (10, Control 1 7 5) ∷ []
+
 -- a bend of 0 that was sent stands, and the last value of a controller
-last_values : excerpt 10 (Some 10) ((0, Bend 1 0) ∷ (0, Control 1 7 3) ∷ (9, Control 1 7 4) ∷ (10, Control 1 7 5) ∷ []) 20
-    ≡ (0, Control 1 7 4) ∷ (0, Bend 1 0) ∷ []
+last_values : excerpt 10 (Some 10) pedals 20 ≡ (0, Control 1 7 4) ∷ (0, Bend 1 0) ∷ []
 unfolding excerpt window closing state channel_state below
 last_values = refl
+
+-- what is set at a tick counts there; another channel and another controller have no value
+values_at_ticks : control_at 1 7 8 pedals ∷ control_at 1 7 10 pedals ∷ control_at 2 7 10 pedals ∷ control_at 1 8 10 pedals ∷ []
+    ≡ Some 3 ∷ Some 5 ∷ None ∷ None ∷ []
+values_at_ticks = refl
+
+-- at the tick 0 of the excerpt from 10 on stands what is set at 10
+values_of_the_excerpt : let cut = excerpt 10 None pedals 20 in
+    control_at 1 7 0 cut ∷ bend_at 1 0 cut ∷ program_at 1 0 cut ∷ [] ≡ Some 5 ∷ Some 0 ∷ None ∷ []
+unfolding excerpt window closing state channel_state below
+values_of_the_excerpt = refl
 
 -- a bend of 0, and four notes on two channels, of which two are of one key
 abbrev chord : List (ℕ × Msg)

@@ -13,7 +13,7 @@ use Rattle.fm_excerpt.specs.Excerpt.{before}
 use Rattle.fm_excerpt.specs.Table.{slot_of, in_slot, at_slot, Holds, SlotsAreInRange}
 use Rattle.fm_excerpt.specs.declared.state.TheConstants.{SLOTS}
 
-or_else_assoc : {A : Type 0} (x y z : Option A) → or_else (or_else x y) z ≡ or_else x (or_else y z)
+pub or_else_assoc : {A : Type 0} (x y z : Option A) → or_else (or_else x y) z ≡ or_else x (or_else y z)
 or_else_assoc (Some x) y z = refl
 or_else_assoc None y z = refl
 

@@ -10,5 +10,6 @@ pub use Rattle.fm_read.specs.WrittenFile
 pub mod Last
 pub mod Excerpt
 pub mod Notes
+pub mod Values
 pub mod Table
 pub mod Written

@@ -12,5 +12,8 @@ mod state;
 mod whole;
 mod window;
 
-pub use laws::{excerpts_that_meet, no_note_sounds_on, whole_range};
+pub use laws::{
+    each_note_on_has_its_note_off, excerpts_are_files, excerpts_set_what_was_set,
+    excerpts_that_meet, whole_range,
+};
 pub use whole::excerpt;

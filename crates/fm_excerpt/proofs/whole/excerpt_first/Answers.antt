@@ -1,4 +1,4 @@
-use Rattle.std.proofs.Common.{◌≡◌, [], ◌-◌, ◌∙◌, length, min, ap, arith}
+use Rattle.std.proofs.Common.{◌≡◌, [], ◌-◌, ◌∙◌, ap, arith}
 use Rattle.std.proofs.lemmas.List.{append-nil}
 use Rattle.fm_edge.proofs.Chains.{on_err}
 use Rattle.fm_smf.proofs.Writing.{broken_beginning, broken_more, broken_end, written_begun, written_finished, finished_length}

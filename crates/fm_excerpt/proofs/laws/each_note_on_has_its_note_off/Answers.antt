@@ -1,5 +1,5 @@
 use Rattle.fm_excerpt.proofs.NoteLemmas.{excerpt_begun, excerpt_ended}
-use Rattle.fm_excerpt.proofs.laws.no_note_sounds_on.Goals as goal
+use Rattle.fm_excerpt.proofs.laws.each_note_on_has_its_note_off.Goals as goal
 
 pub returns-clause-begun : goal.returns-clause-begun
 returns-clause-begun c = excerpt_begun
