@@ -82,7 +82,12 @@ fn tracks_are_listed_with_whole_events(rt: HostRuntime) -> Result<(), AllocError
     has_listing(&rt, &OTHERS, &[], true, OTHERS_LISTING.as_bytes())
 }
 
-// The whole listing is less than a piece, so there is one put.
+// The whole listing is less than a piece, so there is one put, and no call behind it.
+#[test]
+fn a_listing_is_put_at_once(rt: HostRuntime) -> Result<(), AllocError> {
+    has_listing(&rt, &NOTE, &[(2, 0)], true, NOTE_LISTING.as_bytes())
+}
+
 #[test]
 fn a_sink_that_fails_has_a_front(rt: HostRuntime) -> Result<(), AllocError> {
     let front = &NOTE_LISTING.as_bytes()[..40];

@@ -100,6 +100,12 @@ fn each_event_gets_its_status_byte(rt: HostRuntime) -> Result<(), AllocError> {
     has_parts(&rt, &RUNNING, &[], Some(68), &RUNNING_PARTS)
 }
 
+// All parts are less than a piece, so there is one put, and no call behind it.
+#[test]
+fn parts_are_put_at_once(rt: HostRuntime) -> Result<(), AllocError> {
+    has_parts(&rt, &TWO, &[(2, 0)], Some(78), &TWO_PARTS)
+}
+
 #[test]
 fn a_sink_that_fails_has_a_front(rt: HostRuntime) -> Result<(), AllocError> {
     has_parts(&rt, &TWO, &[(1, 30)], None, &TWO_PARTS[..30])

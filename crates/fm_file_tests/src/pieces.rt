@@ -43,6 +43,15 @@ fn bytes_are_put_in_whole_pieces(rt: HostRuntime) -> Result<(), AllocError> {
     Ok(())
 }
 
+// Behind a whole piece nothing is left, and nothing is put.
+#[test]
+fn nothing_is_put_behind_a_whole_piece(rt: HostRuntime) -> Result<(), AllocError> {
+    let text = &[7; PIECE_LENGTH - 1];
+    let (put, left) = gathered(rt.alloc(), text, 10_000, &[(2, 0)])?;
+    same(&rt, &(put, left.len()), &(true, PIECE_LENGTH));
+    Ok(())
+}
+
 #[test]
 fn the_rest_is_put_at_the_end(rt: HostRuntime) -> Result<(), AllocError> {
     let (put, left) = gathered(rt.alloc(), b"text", 10, &[])?;

@@ -1,5 +1,5 @@
 -- The bytes of an event and the lines of entries on their way to a gatherer.
-use Rattle.std.proofs.Common.{◌≡◌, ℕ, ◌+◌, ◌<◌, List, [], ◌∷◌, ◌++◌, length, drop, get_or, Option, add-one, sym, ap}
+use Rattle.std.proofs.Common.{◌≡◌, ℕ, ◌+◌, ◌<◌, List, ◌∷◌, ◌++◌, length, drop, get_or, Option, add-one, ap}
 use Rattle.std.proofs.Math.Seq.{drop-cons}
 use Rattle.fm_edge.specs.Runs.{Breaks}
 use Rattle.fm_pieces.specs.Gathered.{Passes}

@@ -69,12 +69,16 @@ impl Gatherer {
         Ok(())
     }
 
-    /// Puts what is gathered, which is less than a piece and may be nothing. After an `Err` some
-    /// front of it was put.
+    /// Puts what is gathered, which is less than a piece; where it is nothing, no call is made.
+    /// After an `Err` some front of it was put.
     pub fn finish<K: Sink>(self, sink: &mut K) -> Result<(), Failed>
         ensures ok { OnOk result (Puts K.content K.sure K.faults sink.old sink.new self) }
         ensures err { OnErr result (Breaks K.content K.sure K.faults sink.old sink.new self) }
     {
-        sink.put(self.bytes.as_slice())
+        if self.bytes.is_empty() {
+            Ok(())
+        } else {
+            sink.put(self.bytes.as_slice())
+        }
     }
 }

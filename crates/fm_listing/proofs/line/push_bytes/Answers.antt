@@ -1,8 +1,7 @@
-use Rattle.std.proofs.Common.{rules, ◌≡◌, [], length, drop, arith}
+use Rattle.std.proofs.Common.{◌≡◌, [], drop, arith}
 use Rattle.std.proofs.lemmas.List.{drop_all}
 use Rattle.fm_edge.proofs.Chains.{on_err}
 use Rattle.fm_pieces.proofs.Coming.{come_begun, come_ended}
-use Rattle.fm_listing.specs.Listing.{bytes_text}
 use Rattle.fm_listing.proofs.LineLemmas.{byte_more, byte_breaks}
 use Rattle.fm_listing.proofs.line.push_bytes.Goals as goal
 
