@@ -38,3 +38,19 @@ pub(crate) fn line_of(
         }
     }
 }
+
+/// The place where a process that starts at a place ends. None of its events is kept.
+pub(crate) fn end_of(plan: &Plan, process: u32, place: &Place) -> Place
+    requires process { process < length plan.now.programs }
+    requires place { place.now ≡ start_place plan.now process }
+    ensures { result ≡ end_place plan.now process }
+{
+    let mut strand = Strand::begin(plan, process, place);
+    loop {
+        match strand.step(plan) {
+            Stepped::Silent => {}
+            Stepped::Event(_) => {}
+            Stepped::Ended => return strand.place(),
+        }
+    }
+}

@@ -5,7 +5,7 @@ ghost use Rattle.fm_program.specs.Process.{plan_lines};
 ghost use Rattle.fm_strand.specs.Course.{start_place};
 
 use crate::ends::start_from;
-use crate::process::line_of;
+use crate::process::{end_of, line_of};
 use fm_line::Line;
 use fm_strand::{Place, Plan};
 use std::alloc::{AllocError, Global};
@@ -27,7 +27,8 @@ pub fn lines(alloc: Global, plan: &Plan) -> Result<Vec<Line>, AllocError>
 }
 
 /// Where a process starts: its position, and the levels that are open there with their origins.
-/// It runs the processes before it, one after the other.
+/// It runs the processes before it, one after the other, and keeps where each ends, but none of
+/// its events.
 pub fn start_of(alloc: Global, plan: &Plan, process: u32) -> Result<Place, AllocError>
     requires fits { PartsFit plan.now }
     requires process { process < length plan.now.programs }
@@ -36,8 +37,7 @@ pub fn start_of(alloc: Global, plan: &Plan, process: u32) -> Result<Place, Alloc
     let mut ends = Vec::new(alloc);
     for before in 0..process {
         let place = start_from(plan, before, &ends);
-        let (_, end) = line_of(alloc, plan, before, &place)?;
-        ends.push(end)?;
+        ends.push(end_of(plan, before, &place))?;
     }
     Ok(start_from(plan, process, &ends))
 }
