@@ -4,5 +4,6 @@ pub mod OfScore
 pub mod InRange
 pub mod Knows
 pub mod Refusal
+pub mod Forking
 pub mod Growing
 pub mod Walked

@@ -11,7 +11,7 @@ ghost use Rattle.fm_ranges.specs.Own.{own_faults};
 ghost use Rattle.fm_outline.specs.Knows.{Knows, names_of};
 ghost use Rattle.fm_outline.specs.Refusal.{Refuses};
 
-use crate::fork::before_fork_inside;
+use crate::fork::step_at;
 use crate::known::Known;
 use crate::lasting::Lasting;
 use crate::leaf::{
@@ -172,11 +172,7 @@ pub(crate) fn outline_items(
     for item in items {
         answered(check_own(item, known.whole))?;
         let what = outline_item(alloc, item, known, tables)?;
-        let step = Step {
-            spot: item.spot,
-            before_fork: before_fork_inside(&what, &known.forking),
-            what,
-        };
+        let step = step_at(item.spot, what, &known.forking);
         append(&mut steps, step)?;
     }
     Ok(steps)

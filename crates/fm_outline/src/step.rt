@@ -11,7 +11,8 @@ use fm_program::{Count, Draw, Point};
 pub struct Step {
     pub spot: Spot,
     /// How many statements of its block stand before the first that forks, all of them where none
-    /// does. No clause speaks of it, so a caller asks the statement at this index.
+    /// does. The clause of `outline_of` does not tell it, so a caller asks the statement at this
+    /// index.
     pub before_fork: usize,
     pub what: Instruction,
 }

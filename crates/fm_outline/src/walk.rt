@@ -17,7 +17,7 @@ ghost use Rattle.fm_outline.specs.Phrases.{PhrasesStand};
 ghost use Rattle.fm_outline.specs.Refusal.{Refuses};
 ghost use Rattle.fm_outline.specs.Walked.{EntryDone, EntryRefused, played};
 
-use crate::fork::{before_fork, before_fork_inside};
+use crate::fork::{before_fork, step_at};
 use crate::known::{Known, Meaning};
 use crate::outline::Outline;
 use crate::refusal::answered;
@@ -49,11 +49,7 @@ impl<'s> Walk<'s> {
     {
         answered(check_own(item, self.known.whole))?;
         let what = outline_item(alloc, item, &self.known, &mut self.tables)?;
-        let step = Step {
-            spot: item.spot,
-            before_fork: before_fork_inside(&what, &self.known.forking),
-            what,
-        };
+        let step = step_at(item.spot, what, &self.known.forking);
         Ok(append(&mut self.block, step)?)
     }
 

@@ -15,7 +15,7 @@ use Rattle.fm_names.specs.Named.{named}
 use Rattle.fm_ranges.specs.Own.{own_faults}
 use Rattle.fm_version.proofs.RangeLemmas.{none_first, none_second}
 use Rattle.fm_outline.specs.Knows.{names_of, shape_index}
-use Rattle.fm_outline.specs.View.{tables_view, block_view, step_view}
+use Rattle.fm_outline.specs.View.{tables_view, block_view, instruction_view, step_view}
 use Rattle.fm_outline.specs.Growing.{followed, joined_behind}
 use Rattle.fm_outline.specs.declared.step.Step.{Step}
 use Rattle.fm_outline.proofs.ItemLemmas.{note_what, play_what, rest_what, control_what, program_what, bend_what, set_what, choice_what, repeat_what, again_what, par_what, warp_what, channel_what, volume_what, gate_what, rhythm_what, artic_what, loud_what}
@@ -493,7 +493,8 @@ outline_items-loop-item-preserved t c = λ k look knows.
     let here = (item_view x).what in
     let rest = items_view (drop (i + 1) xs) in
     let left = items_from xs i x c.loop-item-test.true c.item-item.is in
-    let s : Step = record { spot = x.spot; before_fork = c.before_fork_inside.result; what = c.in_ok-what.what } in
+    let s : Step = c.step_at-step.result in
+    let made = c.step_at-step.ensures in
     let so_far = c.loop-item.invariant k look knows in
     let inside = c.in_ok-what.ensures.ok k look knows in (
       so_far.0
@@ -501,8 +502,9 @@ outline_items-loop-item-preserved t c = λ k look knows.
           ∙ behind (stmt_faults (names_of k) here) (body_faults (names_of k) rest) (sym inside.0),
       steps_more k look xs i x c.loop-item.steps.items c.append.new.list.items s
           (block_of k (items_view xs) (tables_view c.args.tables.now)) (tables_view c.loop-item.tables)
-          (tables_view c.outline_item.new.tables) c.loop-item-test.true c.item-item.is refl c.in_ok-append.ensures
-          so_far.1 inside.1,
+          (tables_view c.outline_item.new.tables) c.loop-item-test.true c.item-item.is (ap (λ (z : Step). z.spot) made)
+          c.in_ok-append.ensures so_far.1
+          (ap (λ (z : Step). numbered (instruction_view look z.what) (tables_view c.outline_item.new.tables)) made ∙ inside.1),
     )
 
 pub outline_items-returns-clause-ok : goal.outline_items-returns-clause-ok

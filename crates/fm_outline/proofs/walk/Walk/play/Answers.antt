@@ -1,9 +1,10 @@
-use Rattle.std.proofs.Common.{sym}
+use Rattle.std.proofs.Common.{sym, ap, ◌∙◌}
 use Rattle.fm_grammar.specs.View.{item_view}
 use Rattle.fm_fault.specs.Why.{fault_at}
 use Rattle.fm_ranges.specs.Own.{own_faults}
 use Rattle.fm_outline.specs.declared.step.Step.{Step}
-use Rattle.fm_outline.specs.View.{tables_view}
+use Rattle.fm_expansion.specs.Numbering.{numbered}
+use Rattle.fm_outline.specs.View.{instruction_view, tables_view}
 use Rattle.fm_outline.proofs.GrowingLemmas.{item_spot}
 use Rattle.fm_outline.proofs.InsideLemmas.{own_told}
 use Rattle.fm_outline.proofs.RefusalLemmas.{handed, failed}
@@ -28,6 +29,11 @@ returns-in_err-what-clause-refused c = λ why spot is score rest r.
 pub returns-clause-ok : goal.returns-clause-ok
 returns-clause-ok c = λ score rest r.
     let x = c.args.item.now in
-    let s : Step = record { spot = x.spot; before_fork = c.before_fork_inside.result; what = c.in_ok-what.what } in
-    play_walked (tables_view c.outline_item.new.tables) s r (sym (item_spot x)) c.in_ok-append.ensures
-    (λ k look knows. c.in_ok-what.ensures.ok k look knows)
+    let s : Step = c.step_at-step.result in
+    let made = c.step_at-step.ensures in
+    play_walked (tables_view c.outline_item.new.tables) s r (ap (λ (z : Step). z.spot) made ∙ sym (item_spot x)) c.in_ok-append.ensures
+    (λ k look knows.
+    let inside = c.in_ok-what.ensures.ok k look knows in (
+      inside.0,
+      ap (λ (z : Step). numbered (instruction_view look z.what) (tables_view c.outline_item.new.tables)) made ∙ inside.1,
+    ))
