@@ -82,6 +82,20 @@ const LAST: Op = Op::Note {
     scope: 1,
 };
 
+/// Where a node of an expression is said to stand.
+const SPOT: Spot2 = Spot2 {
+    line: 3,
+    column: 14,
+};
+
+// An expression with the spot of its first node.
+fn expr_at_spot(alloc: Global, nodes: Vec<Node>) -> Result<Expr, AllocError>
+    ensures { IfOk result (λ e. expr_nodes e ≡ nodes.items) }
+{
+    let spots = vec![in alloc; SPOT]?;
+    Ok(Expr { nodes, spots })
+}
+
 // An expression that stands in no text.
 fn expr(alloc: Global, nodes: Vec<Node>) -> Expr
     ensures { expr_nodes result ≡ nodes.items }
@@ -106,8 +120,9 @@ fn exprs(alloc: Global) -> Result<Vec<Expr>, AllocError>
         Node::Subtract,
     ]?;
     let rounds = vec![in alloc; Node::Literal(3), Node::Pick, Node::Literal(1), Node::Add]?;
+    let key = expr_at_spot(alloc, key)?;
     Ok(vec![in alloc;
-        expr(alloc, key),
+        key,
         expr(alloc, round),
         expr(alloc, control),
         expr(alloc, rounds),
@@ -324,6 +339,16 @@ fn is_expected(event: &Event, index: usize, time: u64, bytes: [u8; 3]) -> bool {
         && event.index() as usize == index
         && event.time() == time
         && found == bytes
+}
+
+// No clause tells the spots of a plan's expressions.
+#[test]
+fn a_copy_of_a_plan_has_the_spots_of_its_expressions(rt: HostRuntime) -> Result<(), Fail> {
+    let copy = plan(rt.alloc())?.copy(rt.alloc())?;
+    let expr = copy.stock().exprs.first();
+    let spot = expr.and_then(|expr| expr.spots.first().copied());
+    assert!(rt; spot == Some(SPOT));
+    Ok(())
 }
 
 #[test]
