@@ -1,2 +1,3 @@
+mod CutAgain
 mod ExcerptFiles
 mod PartsFiles

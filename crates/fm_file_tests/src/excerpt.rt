@@ -1,12 +1,12 @@
 //! Excerpts byte by byte as the format has them, faults of the sink, and one caller.
-ghost use Rattle.std.specs.Prelude.{◌≡◌, ◌≤◌, length, Ok};
+ghost use Rattle.std.specs.Prelude.{◌≡◌, ◌≤◌, [], length, Ok};
 ghost use Rattle.fm_edge.specs.Content.{IsNew};
 ghost use Rattle.fm_read.specs.Files.{Contents, contents};
 ghost use Rattle.fm_excerpt.specs.Written.{HasExcerpts};
 
 use crate::memory::memory_of;
 use crate::same::{same, same_bytes};
-use fm_edge::Sink;
+use fm_edge::{MemorySink, Sink};
 use fm_excerpt::excerpt;
 use fm_msg::Profile;
 use fm_read::{MAX_FILE, read};
@@ -32,6 +32,13 @@ const SECOND_BLANK: [u8; 45] = [
     0x4D, 0x54, 0x68, 0x64, 0, 0, 0, 6, 0, 0, 0, 1, 1, 0xE0, 0x4D, 0x54, 0x72, 0x6B, 0, 0, 0, 0, 0,
     0xFF, 0x51, 3, 7, 0xA1, 0x20, 0, 0xC0, 5, 0, 0x90, 0x3E, 0x40, 0x83, 0x30, 0x80, 0x3E, 0x40,
     0x30, 0xFF, 0x2F, 0,
+];
+
+/// Its first 432 ticks.
+const SECOND_CUT: [u8; 45] = [
+    0x4D, 0x54, 0x68, 0x64, 0, 0, 0, 6, 0, 0, 0, 1, 1, 0xE0, 0x4D, 0x54, 0x72, 0x6B, 0, 0, 0, 0x17,
+    0, 0xFF, 0x51, 3, 7, 0xA1, 0x20, 0, 0xC0, 5, 0, 0x90, 0x3E, 0x40, 0x83, 0x30, 0x80, 0x3E, 0x40,
+    0, 0xFF, 0x2F, 0,
 ];
 
 /// The first note.
@@ -126,6 +133,35 @@ fn excerpt_of<K: Sink>(
     }
 }
 
+// Another caller: of the bytes of a file the excerpt of an excerpt. The first one is a file, so it
+// is read again, where it is within the limit.
+fn excerpt_again<K: Sink>(
+    bytes: &[u8],
+    profile: &Profile,
+    windows: [(u64, Option<u64>); 2],
+    memory: &mut MemorySink,
+    sink: &mut K,
+) -> Option<u64>
+    requires empty { memory.old.content ≡ [] }
+    requires new { IsNew (K.content sink.old) }
+    requires small { length bytes.now ≤ MAX_FILE }
+    requires written { (c : Contents) → contents bytes.now ≡ Ok c → HasExcerpts profile.now c }
+{
+    let Ok(file) = read(bytes) else {
+        return None;
+    };
+    let (begin, until) = windows[0];
+    let Ok(_count) = excerpt(&file, profile, begin, until, memory) else {
+        return None;
+    };
+    let content = memory.content();
+    if content.len() > MAX_FILE {
+        return None;
+    }
+    let (begin, until) = windows[1];
+    excerpt_of(content, profile, begin, until, sink)
+}
+
 // The excerpt of the bytes of a file from a tick to a tick, put to a sink of which these calls
 // fail, has this length, and leaves this.
 fn has_excerpt<R: Abort + AllocGlobal>(
@@ -211,4 +247,17 @@ fn an_excerpt_without_its_patch_has_no_length(rt: HostRuntime) -> Result<(), All
         None,
         &SECOND_BLANK,
     )
+}
+
+// From the second note on, and of that what stands before its note-off, which is put at the end.
+#[test]
+fn an_excerpt_is_cut_again(rt: HostRuntime) -> Result<(), AllocError> {
+    let windows = [(480, None), (0, Some(432))];
+    let profile = Profile::first();
+    let mut middle = memory_of(rt.alloc(), 100, &[])?;
+    let mut sink = memory_of(rt.alloc(), 100, &[])?;
+    let answer = excerpt_again(&TWO, &profile, windows, &mut middle, &mut sink);
+    same(&rt, &answer, &Some(SECOND_CUT.len() as u64));
+    same_bytes(&rt, sink.content(), &SECOND_CUT);
+    Ok(())
 }
