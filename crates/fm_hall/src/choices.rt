@@ -8,7 +8,6 @@ ghost use Rattle.fm_core.specs.Tags as words;
 ghost use Rattle.fm_progress.specs.Left.{can_lower, waits_for_visit, workable};
 ghost use Rattle.fm_progress.specs.NextStep.{claims, gives_back, lowers, next_step, releases, startable, starts, sweeps, visits, works};
 
-use crate::refusals::misses_a_visit;
 use crate::searches::{
     computes_next, first_held, first_lowering, first_starting, first_unvisited, first_waiting,
     first_working, has_finished, has_stale_sweep,
@@ -70,7 +69,7 @@ fn releasing(rules: &Rules, tables: &Tables) -> Option<Step>
     requires sound { Sound rules.now tables.now.state }
     ensures { result ≡ releases rules.now tables.now.state }
 {
-    if !is_due(tables.due()) || misses_a_visit(tables) {
+    if !is_due(tables.due()) || tables.misses_a_visit() {
         return None;
     }
     let count = tables.gathered();

@@ -5,10 +5,28 @@ ghost use Rattle.fm_core.specs.Steps.{Allowed};
 ghost use Rattle.fm_core.specs.Effects.{after, claimed, begun, noted, given};
 ghost use Rattle.fm_core.specs.Invariant.{Sound};
 ghost use Rattle.fm_state.specs.Stored.{IsHall};
+ghost use Rattle.fm_hall.specs.Looks.{entered};
 
 use crate::handover::Handover;
 use fm_core::{Cell, Step, Tag};
-use fm_state::{Rules, Tables, is_due, least_pair, sight_of, start_of, waiting_events};
+use fm_state::{Rules, Tables, is_due, sight_of, start_of, waiting_events};
+
+// What a seat sees at a process is entered in its sweep. A look at the last process of the sweep
+// leaves it, so nothing is read off the lines for it.
+fn enter_look(rules: &Rules, tables: &mut Tables, seat: u32, process: u32)
+    requires seat { seat < length tables.old.state.desks }
+    requires process { process < length tables.old.state.cells }
+    requires lined { length tables.old.state.cells ≡ length rules.now.lines }
+    ensures { tables.new ≡ record tables.old {
+      state = entered rules.now tables.old.state seat process;
+    } }
+{
+    if process != 0 && process as usize != tables.sweep(seat).len() {
+        return;
+    }
+    let sight = sight_of(rules, tables, tables.sweep(seat), process);
+    tables.enter(seat, process, sight);
+}
 
 fn look(rules: &Rules, tables: &mut Tables, seat: u32, process: u32)
     requires hall { IsHall rules.now tables.old }
@@ -17,9 +35,8 @@ fn look(rules: &Rules, tables: &mut Tables, seat: u32, process: u32)
       state = after rules.now tables.old.state (Step.Look seat process);
     } }
 {
-    let sight = sight_of(rules, tables, tables.sweep(seat), process);
     let visits = seat == 0 && tables.cell(process).tag.has_nothing();
-    tables.enter(seat, process, sight);
+    enter_look(rules, tables, seat, process);
     if visits {
         tables.visit(process);
     }
@@ -116,8 +133,7 @@ fn publish(rules: &Rules, tables: &mut Tables)
       state = after rules.now tables.old.state Step.Publish;
     } }
 {
-    let least = least_pair(tables.sweep(0));
-    tables.publish(least);
+    tables.publish(tables.least(0));
 }
 
 /// Takes an allowed step.

@@ -18,7 +18,7 @@ use crate::refusals::why_not;
 use fm_core::{Floor, MAX_SEATS, Step};
 use fm_line::Line;
 use fm_msg::Event;
-use fm_state::{Rules, Tables, least_pair};
+use fm_state::{Rules, Tables};
 use std::alloc::{AllocError, Global};
 use std::marker::Model;
 
@@ -122,7 +122,7 @@ impl Hall {
         requires complete { length (desk self.now.state seat).sweep ≡ length self.now.state.cells }
         ensures { result ≡ least (desk self.now.state seat).sweep }
     {
-        least_pair(self.tables.sweep(seat))
+        self.tables.least(seat)
     }
 }
 

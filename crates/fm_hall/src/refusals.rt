@@ -5,7 +5,7 @@ ghost use Rattle.fm_core.specs.Numbers.{any_below};
 ghost use Rattle.fm_core.specs.State.{Setting, cell, desk};
 ghost use Rattle.fm_core.specs.Floors.{within};
 ghost use Rattle.fm_core.specs.Tags as words;
-ghost use Rattle.fm_core.specs.Steps.{first, reason, waits, unvisited, wrong_clock, wrong_end};
+ghost use Rattle.fm_core.specs.Steps.{first, reason, waits, wrong_clock, wrong_end};
 ghost use Rattle.fm_core.specs.Invariant.{Sound};
 ghost use Rattle.fm_hall.specs.Given.{given_table};
 
@@ -23,18 +23,6 @@ pub(crate) fn is_waiting(rules: &Rules, tables: &Tables, process: u32) -> bool
     let predecessors = rules.predecessors(process);
     for i in 0..predecessors.len() {
         if !tables.cell(predecessors[i]).tag.is_ended() {
-            return true;
-        }
-    }
-    false
-}
-
-/// Whether some process was not visited since the last publish.
-pub(crate) fn misses_a_visit(tables: &Tables) -> bool
-    ensures { result ≡ any_below (length tables.now.state.cells) (unvisited tables.now.state) }
-{
-    for process in 0..tables.processes() {
-        if !tables.is_visited(process) {
             return true;
         }
     }
@@ -269,7 +257,7 @@ fn why_not_release(tables: &Tables, count: u32) -> Option<Reason>
     if !is_due(tables.due()) {
         return Some(Reason::NotDue);
     }
-    if misses_a_visit(tables) {
+    if tables.misses_a_visit() {
         return Some(Reason::NotVisited);
     }
     if count as usize != tables.gathered() {

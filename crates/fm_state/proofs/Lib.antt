@@ -1,3 +1,6 @@
+pub mod Counts
 pub mod Desks
 pub mod Holding
+pub mod Marks
+pub mod PairLemmas
 pub mod Waiting

@@ -1,8 +1,8 @@
-//! What a look sees, and the least pair of a sweep.
-ghost use Rattle.std.specs.Prelude.{◌≡◌, ◌^◌, ◌<◌, length, map, if◌then◌else◌};
+//! What a look sees.
+ghost use Rattle.std.specs.Prelude.{◌≡◌, ◌<◌, length, map};
 ghost use Rattle.fm_line.specs.Line.{line, greatest, start};
 ghost use Rattle.fm_core.specs.State.{Setting};
-ghost use Rattle.fm_core.specs.Sweep.{sight, sighted, lesser, least};
+ghost use Rattle.fm_core.specs.Sweep.{sight, sighted};
 
 use crate::rules::Rules;
 use crate::tables::Tables;
@@ -75,38 +75,4 @@ pub fn start_of(rules: &Rules, process: u32) -> u64
     ensures { result ≡ start rules.now.lines process }
 {
     greatest_end(rules.lines(), rules.predecessors(process))
-}
-
-// The lesser of two pairs; the first of equal clocks.
-fn lesser_pair(first: Option<(u64, u32)>, second: Option<(u64, u32)>) -> Option<(u64, u32)>
-    ensures { result ≡ lesser first second }
-{
-    match (first, second) {
-        (None, _) => second,
-        (Some(_), None) => first,
-        (Some(one), Some(other)) => { if other.0 < one.0 { second } else { first } }
-    }
-}
-
-// The clock and the number of a process, none where it was seen ended.
-fn pair_of(look: Sight, process: u32) -> Option<(u64, u32)>
-    ensures { result ≡ (if look.ended then None else Some (look.clock, process)) }
-{
-    if look.ended {
-        None
-    } else {
-        Some((look.clock, process))
-    }
-}
-
-/// The least clock and process of a sweep over the processes that were not seen ended.
-pub fn least_pair(seen: &[Sight]) -> Option<(u64, u32)>
-    requires { length seen.now < 2 ^ 32 }
-    ensures { result ≡ least seen.now }
-{
-    let mut found = None;
-    for i in 0..seen.len() {
-        found = lesser_pair(found, pair_of(seen[i], i as u32));
-    }
-    found
 }

@@ -1,16 +1,19 @@
 //! The state of the core in vectors whose memory is taken once.
-ghost use Rattle.std.specs.Prelude.{◌≡◌, ◌+◌, ◌<◌, ◌≤◌, ◌++◌, [], length, map, IfOk, true, false, replicate, slice_set, vec_len, vec_capacity};
+ghost use Rattle.std.specs.Prelude.{◌≡◌, ◌+◌, ◌<◌, ◌≤◌, ◌++◌, [], length, map, IfOk, true, replicate, slice_set, vec_len, vec_capacity};
 ghost use Rattle.fm_line.specs.Piece.{sorted};
 ghost use Rattle.fm_line.proofs.Sorting.{Ordered};
 ghost use Rattle.fm_core.specs.State.{cell, desk, visited, no_desk, opening};
 ghost use Rattle.fm_core.specs.Effects.{with_cell, with_desk, published};
-ghost use Rattle.fm_core.specs.Steps.{holding};
-ghost use Rattle.fm_core.specs.Sweep.{swept};
+ghost use Rattle.fm_core.specs.Numbers.{any_below};
+ghost use Rattle.fm_core.specs.Steps.{holding, unvisited};
+ghost use Rattle.fm_core.specs.Sweep.{least, swept};
 ghost use Rattle.fm_core.specs.declared.due.Due.TheVariants.{Nothing};
-ghost use Rattle.fm_state.specs.Stored.{Stored, desk_of, HasSweeps};
+ghost use Rattle.fm_state.specs.Stored.{Stored, desk_of, IsDesk, AreDesks};
 
 use crate::desk::Desk;
 use crate::holds::{begin_hold, end_hold};
+use crate::pairs::{lesser_pair, pair_of};
+use crate::visits::Visits;
 use fm_buffer::Gather;
 use fm_core::{Cell, Due, Floor, Sight, Tag};
 use fm_msg::Event;
@@ -35,7 +38,7 @@ pub struct Tables {
     // How many processes each seat holds.
     holds: Vec<u32>,
     due: Due,
-    visited: Vec<bool>,
+    visited: Visits,
     gather: Gather,
     released: Vec<Event>,
 }
@@ -52,7 +55,7 @@ impl Model for Tables {
         floor = t.floor;
         desks = map desk_of t.desks.items;
         due = t.due;
-        visited = t.visited.items;
+        visited = t.visited;
         gather = t.gather.events;
         released = t.released.items;
       };
@@ -61,7 +64,7 @@ impl Model for Tables {
     } };
 
     ghost invariant = { λ t.
-        IsTables t.cells.items (length t.visited.items) t.desks.items t.holds.items };
+        IsTables t.cells.items (length t.visited) t.desks.items t.holds.items };
 }
 
 impl Tables {
@@ -83,7 +86,7 @@ impl Tables {
     {
         let mut cells = vec![in alloc; UNBORN; processes as usize]?;
         cells[0].tag = Tag::Home;
-        let visited = vec![in alloc; false; processes as usize]?;
+        let visited = Visits::new(alloc, processes)?;
         let gather = Gather::new(alloc, gathers)?;
         let released = Vec::with_capacity(alloc, releases)?;
         let desks = empty_desks(alloc, processes, seats)?;
@@ -149,7 +152,14 @@ impl Tables {
         requires { process < length self.now.state.cells }
         ensures { result ≡ visited self.now.state process }
     {
-        self.visited[process as usize]
+        self.visited.has(process)
+    }
+
+    /// Whether some process was not visited since the last publish: one look at what is counted.
+    pub fn misses_a_visit(&self) -> bool
+        ensures { result ≡ any_below (length self.now.state.cells) (unvisited self.now.state) }
+    {
+        self.visited.misses_one()
     }
 
     /// The looks of a seat's sweep.
@@ -158,6 +168,14 @@ impl Tables {
         ensures { result.now ≡ (desk self.now.state seat).sweep }
     {
         self.desks[seat as usize].sweep.as_slice()
+    }
+
+    /// The least clock and process of a seat's sweep over the processes that were not seen ended.
+    pub fn least(&self, seat: u32) -> Option<(u64, u32)>
+        requires { seat < length self.now.state.desks }
+        ensures { result ≡ least (desk self.now.state seat).sweep }
+    {
+        self.desks[seat as usize].least
     }
 
     /// The floor that a seat last paced.
@@ -200,7 +218,7 @@ impl Tables {
           state = record self.old.state { visited = slice_set self.old.state.visited process true };
         } }
     {
-        self.visited[process as usize] = true;
+        self.visited.add(process);
     }
 
     /// Enters a look in a seat's sweep.
@@ -214,7 +232,7 @@ impl Tables {
               });
         } }
     {
-        enter_sight(&mut self.desks[seat as usize].sweep, process, sight);
+        enter_sight(&mut self.desks[seat as usize], process, sight);
     }
 
     /// Writes down the floor as the one that a seat last paced.
@@ -244,8 +262,8 @@ impl Tables {
                 self.due = Due::Everything;
             }
         }
-        self.desks[0].sweep.clear();
-        forget(self.visited.as_mut_slice());
+        clear_sweep(&mut self.desks[0]);
+        self.visited.forget();
     }
 
     /// Appends events to the gather.
@@ -281,7 +299,7 @@ impl Tables {
 // So many empty sweeps, each with memory for all processes.
 fn empty_desks(alloc: Global, processes: u32, seats: u32) -> Result<Vec<Desk>, AllocError>
     ensures desks { IfOk result (λ desks. map desk_of desks.items ≡ replicate seats no_desk) }
-    ensures sweeps { IfOk result (λ desks. HasSweeps processes desks.items) }
+    ensures sweeps { IfOk result (λ desks. AreDesks processes desks.items) }
 {
     let mut desks = Vec::with_capacity(alloc, seats as usize)?;
     for _ in 0..seats {
@@ -293,27 +311,45 @@ fn empty_desks(alloc: Global, processes: u32, seats: u32) -> Result<Vec<Desk>, A
 // An empty sweep with memory for all processes.
 fn empty_desk(alloc: Global, processes: u32) -> Result<Desk, AllocError>
     ensures desk { IfOk result (λ desk. desk_of desk ≡ no_desk) }
-    ensures sweep { IfOk result (λ desk. processes ≤ vec_capacity desk.sweep) }
+    ensures sweep { IfOk result (λ desk. IsDesk processes desk) }
 {
     let sweep = Vec::with_capacity(alloc, processes as usize)?;
     Ok(Desk {
         sweep,
+        least: None,
         paced: Floor::At(0),
     })
 }
 
 // Enters a look in a sweep.
-fn enter_sight(sweep: &mut Vec<Sight>, process: u32, sight: Sight)
-    requires { process < vec_capacity sweep.old }
-    ensures items { sweep.new.items ≡ swept sweep.old.items process sight }
-    ensures capacity { vec_capacity sweep.new ≡ vec_capacity sweep.old }
+fn enter_sight(desk: &mut Desk, process: u32, sight: Sight)
+    requires memory { process < vec_capacity desk.old.sweep }
+    requires least { desk.old.least ≡ least desk.old.sweep.items }
+    ensures desk { desk_of desk.new ≡ record (desk_of desk.old) {
+      sweep = swept desk.old.sweep.items process sight;
+    } }
+    ensures least { desk.new.least ≡ least desk.new.sweep.items }
+    ensures capacity { vec_capacity desk.new.sweep ≡ vec_capacity desk.old.sweep }
 {
+    let pair = pair_of(sight, process);
     if process == 0 {
-        sweep.clear();
-        sweep.push_reserved(sight);
-    } else if process as usize == sweep.len() {
-        sweep.push_reserved(sight);
+        desk.sweep.clear();
+        desk.sweep.push_reserved(sight);
+        desk.least = pair;
+    } else if process as usize == desk.sweep.len() {
+        desk.sweep.push_reserved(sight);
+        desk.least = lesser_pair(desk.least, pair);
     }
+}
+
+// Leaves a sweep without looks.
+fn clear_sweep(desk: &mut Desk)
+    ensures desk { desk_of desk.new ≡ record (desk_of desk.old) { sweep = [] } }
+    ensures least { desk.new.least ≡ least desk.new.sweep.items }
+    ensures capacity { vec_capacity desk.new.sweep ≡ vec_capacity desk.old.sweep }
+{
+    desk.sweep.clear();
+    desk.least = None;
 }
 
 // Appends events to a gather.
@@ -343,14 +379,5 @@ fn release_all(released: &mut Vec<Event>, events: &[Event])
 {
     for event in events {
         released.push_reserved(*event);
-    }
-}
-
-// Nothing is visited.
-fn forget(visited: &mut [bool])
-    ensures { visited.new ≡ replicate (length visited.old) false }
-{
-    for one in visited {
-        *one = false;
     }
 }

@@ -14,9 +14,8 @@ returns c =
     let lt = seat_there m.desks.items c.args.seat
     (subst (λ (m : Stored). c.args.seat < length m.state.desks) (sym c.self.view_is) c.requires.seat) in
     ap (with_desks (the_view m)) (desk_set (λ d. record d { sweep = swept d.sweep c.args.process c.args.sight })
-    m.desks.items c.args.seat c.index_mut.result.now (record (c.index_mut.result.now) { sweep = c.enter_sight.new.sweep })
-    lt c.index_mut.ensures.value
-    (ap (λ seen. record { sweep = seen; paced = c.index_mut.result.now.paced }) c.enter_sight.ensures.items))
+    m.desks.items c.args.seat c.index_mut.result.now c.enter_sight.new.desk lt c.index_mut.ensures.value
+    c.enter_sight.ensures.desk)
     ∙ ap (λ (m : Stored). record m {
       state = with_desk m.state c.args.seat
           (record (core.desk m.state c.args.seat) { sweep = swept (core.desk m.state c.args.seat).sweep c.args.process c.args.sight });

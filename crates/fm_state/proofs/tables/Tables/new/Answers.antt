@@ -11,13 +11,12 @@ invariant_of-result c =
     let a = c.args in
     let cells = c.in_ok-cells.ensures.items_if_clones_equal (λ y same. same) in
     let holds = c.in_ok-holds.ensures.items_if_clones_equal (λ y same. same) in
-    let visited = c.in_ok-visited.ensures.items_if_clones_equal (λ y same. same) in
     let size : length c.in_ok-cells.cells.items ≡ a.processes = ap length cells ∙ length-replicate a.processes unborn in
     let desks : length c.in_ok-desks.desks.items ≡ a.seats =
     sym (length-map c.in_ok-desks.desks.items desk_of) ∙ ap length c.in_ok-desks.ensures.desks ∙ length-replicate a.seats no_desk in
     record {
-      sweeps = rw (length-set, size) c.in_ok-desks.ensures.sweeps;
-      marked = ap length visited ∙ length-replicate a.processes false ∙ sym size
+      swept = rw (length-set, size) c.in_ok-desks.ensures.sweeps;
+      marked = ap length c.in_ok-visited.ensures ∙ length-replicate a.processes false ∙ sym size
           ∙ sym (length-set c.in_ok-cells.cells.items 0 _);
       few = rw (length-set, size) c.ranges.processes.fits;
       few_seats = rw desks c.ranges.seats.fits;

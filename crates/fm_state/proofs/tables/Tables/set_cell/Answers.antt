@@ -29,7 +29,7 @@ invariant_of-self c =
     c.index-from.ensures ∙ get_or_default m.cells.items c.args.process c.index-from.result.now unborn within in
     let same = length-set m.cells.items c.args.process c.args.next in
     record {
-      sweeps = rw same kept.sweeps;
+      swept = rw same kept.swept;
       marked = kept.marked ∙ sym same;
       few = rw same kept.few;
       few_seats = kept.few_seats;
