@@ -2,13 +2,7 @@ use Rattle.std.proofs.Common.{◌+◌, ap, ◌∙◌}
 use Rattle.fm_record.specs.Head.{head_bytes}
 use Rattle.fm_record.specs.Recording.{Recording}
 use Rattle.fm_top.proofs.OnRecord.{plan_taken, record_cut, record_done}
-use Rattle.fm_top.proofs.Splitting.{plan_small}
 use Rattle.fm_top.proofs.taping.record_score.Goals as goal
-
-pub play_on_tape-requires-clause-fits : goal.play_on_tape-requires-clause-fits
-play_on_tape-requires-clause-fits g c κs within =
-    plan_small c.plans_play_the_score.ensures c.scores_end_with_their_last_line.ensures c.accepted_files_are_read.ensures
-    _ _ c.in_ok-text.plan (plan_taken _ _ _ _ c.in_ok-text.ensures.text c.in_ok-text.ensures.planned)
 
 -- the record is put
 pub returns-in-Ok-clause-ok : goal.returns-in-Ok-clause-ok
