@@ -10,6 +10,7 @@
 
 mod audits;
 mod excerpt;
+mod growing;
 mod input;
 mod judge;
 mod laws;

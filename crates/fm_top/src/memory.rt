@@ -10,11 +10,12 @@ ghost use Rattle.fm_smf.specs.File.{file};
 ghost use Rattle.fm_words.specs.View.{HasRanges, options_view};
 ghost use Rattle.fm_tell.specs.declared.run_fault.RunFault.TheVariants.{Memory};
 
+use crate::growing::GrowingSink;
 use crate::play::play;
-use fm_edge::{Gate, MemorySink};
+use fm_edge::Gate;
 use fm_play::Played;
 use fm_program::Plan;
-use fm_read::{File, MAX_FILE, read};
+use fm_read::{File, read};
 use fm_tell::RunFault;
 use fm_words::Options;
 use std::alloc::Global;
@@ -22,27 +23,24 @@ use std::sync::Wait;
 use std::thread::Threads;
 
 /// The file of the plan's piece in memory, played in the way that the options ask for, and its
-/// size. A file of that size is within the sink's capacity, so that no call fails.
+/// size. Memory is taken as the file grows; a sink in memory fails only where it finds none.
 pub fn play_in_memory<R: Threads + Wait + Sync, G: Gate + Sync>(
     rt: &R,
     alloc: Global,
     plan: Plan,
     options: &Options,
     gate: &G,
-) -> Result<(MemorySink, Played), RunFault>
+) -> Result<(GrowingSink, Played), RunFault>
     requires ranges { HasRanges (options_view options.now) }
-    requires fits { length (file plan.profile (piece (plan_lines plan))
-        (piece_end (plan_lines plan))) ≤ MAX_FILE }
-    ensures file { IfOk result (λ r. r.0.content
+    ensures file { IfOk result (λ r. r.0.bytes.items
         ≡ file plan.profile (piece (plan_lines plan)) (piece_end (plan_lines plan))) }
     ensures played { IfOk result (λ r. r.1 ≡ played_of plan) }
     ensures err { IfErr result (λ fault. fault ≡ Memory) }
 {
-    let mut memory = MemorySink::new(alloc, MAX_FILE, Vec::new(alloc))?;
+    let mut memory = GrowingSink::new(alloc);
     match play(rt, alloc, plan, options, gate, &mut memory) {
         Ok(played) => Ok((memory, played)),
-        Err(RunFault::Memory) => Err(RunFault::Memory),
-        Err(_) => unreachable!(),
+        Err(_) => Err(RunFault::Memory),
     }
 }
 

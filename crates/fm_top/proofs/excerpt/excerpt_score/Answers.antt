@@ -4,11 +4,6 @@ use Rattle.fm_top.proofs.Excerpting.{excerpt_cut, excerpt_done, file_of_plan, ha
 use Rattle.fm_top.proofs.Splitting.{plan_read, plan_small}
 use Rattle.fm_top.proofs.excerpt.excerpt_score.Goals as goal
 
-pub play_in_memory-requires-clause-fits : goal.play_in_memory-requires-clause-fits
-play_in_memory-requires-clause-fits g c κs within =
-    plan_small c.plans_play_the_score.ensures c.scores_end_with_their_last_line.ensures c.accepted_files_are_read.ensures
-    _ _ c.in_ok-plan.plan c.in_ok-plan.ensures.planned
-
 pub open_written-file-requires-clause-small : goal.open_written-file-requires-clause-small
 open_written-file-requires-clause-small g c =
     subst (λ z. length z ≤ MAX_FILE) (sym (c.content.ensures ∙ c.in_ok-memory.ensures.file))

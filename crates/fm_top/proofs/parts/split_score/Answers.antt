@@ -3,11 +3,6 @@ use Rattle.fm_read.specs.declared.limits.TheConstants.{MAX_FILE}
 use Rattle.fm_top.proofs.Splitting.{file_read, is_written, plan_read, plan_small, split_cut, split_done}
 use Rattle.fm_top.proofs.parts.split_score.Goals as goal
 
-pub play_in_memory-requires-clause-fits : goal.play_in_memory-requires-clause-fits
-play_in_memory-requires-clause-fits g c κs within =
-    plan_small c.plans_play_the_score.ensures c.scores_end_with_their_last_line.ensures c.accepted_files_are_read.ensures
-    _ _ c.in_ok-plan.plan c.in_ok-plan.ensures.planned
-
 pub open_written-file-requires-clause-small : goal.open_written-file-requires-clause-small
 open_written-file-requires-clause-small g c =
     subst (λ z. length z ≤ MAX_FILE) (sym (c.content.ensures ∙ c.in_ok-memory.ensures.file))
