@@ -2,7 +2,8 @@
 //! each beginning of a text.
 
 use super::{
-    CAPACITY, FILES, NOTE, QUARTER, Ran, SOUND, check_left, file_with, memory_of, run_on, words_of,
+    FILES, NOTE, QUARTER, Ran, SOUND, THREE_BRANCHES, THREE_TRACK, check_left, file_with,
+    memory_of, run_on, words_of,
 };
 use fm_edge::{MemorySource, OpenGate};
 use fm_top::formula;
@@ -26,20 +27,68 @@ const WAYS: &[&str] = &[
     "a.txt b.mid --lead 0",
 ];
 
-/// The calls of the sink that append, where they begin and how many bytes they have: the header,
-/// the note-on, the note-off and End of Track.
-const CALLS: &[(u64, usize, u32)] = &[(1, 0, 29), (2, 29, 4), (3, 33, 5), (4, 38, 4)];
+/// A way in which processes run beside the conductor, in queues of one event.
+const BESIDE: &[&str] = &["a.txt b.mid --workers 4 --lead 0 --room 1"];
 
-// Compares what is left where a call of the sink fails, with a file of a quarter note.
+/// Ways to play, a text, its track behind the tempo, and the calls of the sink that append: where
+/// they begin and how many bytes they have. These are the header, the events and End of Track.
+type Broken = (
+    &'static [&'static str],
+    &'static [u8],
+    &'static [u8],
+    &'static [(usize, u32)],
+);
+
+const BROKEN: &[Broken] = &[
+    (WAYS, NOTE, QUARTER, &[(0, 29), (29, 4), (33, 5), (38, 4)]),
+    (
+        BESIDE,
+        THREE_BRANCHES,
+        THREE_TRACK,
+        &[
+            (0, 29),
+            (29, 4),
+            (33, 4),
+            (37, 4),
+            (41, 5),
+            (46, 5),
+            (51, 5),
+            (56, 4),
+        ],
+    ),
+];
+
+// Compares what is left of a text, played in these ways, where a call of the sink fails.
 fn check_call<R: Threads + Wait + Sync + Abort>(
     rt: &R,
     alloc: Global,
+    (ways, text): (&[&str], &[u8]),
     call: (u64, u32),
     file: &[u8],
 ) -> Result<(), AllocError> {
-    for words in WAYS {
-        let ran = run_on(rt, alloc, words, NOTE, (&[], &[call], &[]))?;
+    for words in ways {
+        let ran = run_on(rt, alloc, words, text, (&[], &[call], &[]))?;
         check_left(rt, &ran, (4, WRITE, file), words);
+    }
+    Ok(())
+}
+
+// Compares what is left where one call that appends fails after each byte.
+fn check_append<R: Threads + Wait + Sync + Abort>(
+    rt: &R,
+    alloc: Global,
+    (ways, text, track, calls): &Broken,
+    index: usize,
+) -> Result<(), AllocError> {
+    let blank = file_with(alloc, track, 0)?;
+    if let Some((begin, length)) = calls.get(index) {
+        for count in 0..=*length {
+            let front = blank
+                .get(..begin.saturating_add(count as usize))
+                .unwrap_or(&[]);
+            let call = ((index as u64).saturating_add(1), count);
+            check_call(rt, alloc, (ways, text), call, front)?;
+        }
     }
     Ok(())
 }
@@ -47,12 +96,9 @@ fn check_call<R: Threads + Wait + Sync + Abort>(
 #[test]
 fn each_append_fails_after_each_byte(rt: HostRuntime) -> Result<(), Fail> {
     let alloc = rt.alloc();
-    let blank = file_with(alloc, QUARTER, 0)?;
-    for (call, begin, length) in CALLS {
-        for count in 0..=*length {
-            let end = begin.saturating_add(count as usize);
-            let front = blank.get(..end).unwrap_or(&[]);
-            check_call(&rt, alloc, (*call, count), front)?;
+    for row in BROKEN {
+        for index in 0..row.3.len() {
+            check_append(&rt, alloc, row, index)?;
         }
     }
     Ok(())
@@ -62,9 +108,12 @@ fn each_append_fails_after_each_byte(rt: HostRuntime) -> Result<(), Fail> {
 #[test]
 fn the_length_fails_after_each_byte(rt: HostRuntime) -> Result<(), Fail> {
     let alloc = rt.alloc();
-    for count in 0u32..=4 {
-        let patched = file_with(alloc, QUARTER, count as usize)?;
-        check_call(&rt, alloc, (5, count), patched.as_slice())?;
+    for (ways, text, track, calls) in BROKEN {
+        let last = (calls.len() as u64).saturating_add(1);
+        for count in 0u32..=4 {
+            let patched = file_with(alloc, track, count as usize)?;
+            check_call(&rt, alloc, (ways, text), (last, count), &patched)?;
+        }
     }
     Ok(())
 }

@@ -194,6 +194,20 @@ fn damaged_bytes_are_refused(rt: HostRuntime) -> Result<(), Fail> {
     Ok(())
 }
 
+/// The greatest length of a file that is listed, in bytes.
+const LONGEST_FILE: usize = 33_554_432;
+
+// One byte more is refused before any of it is judged.
+#[test]
+fn a_file_of_a_byte_too_many_is_refused(rt: HostRuntime) -> Result<(), Fail> {
+    let alloc = rt.alloc();
+    let zeros = vec![in alloc; 0; LONGEST_FILE + 1]?;
+    let ran = run_on(&rt, alloc, LIST, &zeros, SOUND)?;
+    let said: &[u8] = b"formula: file refused: byte 0 fault 35\n";
+    check_left(&rt, &ran, (3, said, b""), "a byte too many");
+    Ok(())
+}
+
 /// Words, and the head of the record up to the lead.
 const WAYS: &[(&str, &[u8; 10])] = &[
     ("a.txt b.record --record", b"FMR1\x05\x20\0\0\x1E\0"),

@@ -2,7 +2,7 @@
 
 use super::damaged::RECORD;
 use super::scores::STARTS;
-use super::tasks::TASKS;
+use super::tasks::{TASKS, UNREAD};
 use super::{FILES, Faults, NOTE, QUARTER, SOUND, check_left, file_with, run_on};
 use std::alloc::{AllocError, Global};
 use std::process::Abort;
@@ -213,7 +213,7 @@ fn check_row<R: Threads + Wait + Sync + Abort>(
 #[test]
 fn runs_leave_what_was_worked_out(rt: HostRuntime) -> Result<(), Fail> {
     let alloc = rt.alloc();
-    for rows in [PLAYED, TASKS, STARTS, RECORDS] {
+    for rows in [PLAYED, TASKS, UNREAD, STARTS, RECORDS] {
         for row in rows {
             check_row(&rt, alloc, row)?;
         }

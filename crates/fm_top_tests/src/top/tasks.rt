@@ -2,7 +2,7 @@
 
 use super::runs::{Left, NO_PROCESS, READ, Row, SKIP, SKIP_REFUSED, UNTOUCHED, WRITE};
 use super::ways::PIECE;
-use super::{QUARTER_FILE, SOUND};
+use super::{NOTE, QUARTER_FILE, SOUND};
 
 /// The listing of a quarter note's file.
 const LISTING: &[u8] = b"format 0 tracks 1 division 480
@@ -51,6 +51,42 @@ pub const MANY_PROCESSES: &[u8] = b"formula 1; repeat 1365 { par { branch { } br
 
 /// A program and two notes.
 const PAIR: &[u8] = b"formula 1; program 5; note c4 1/4; note d4 1/4;";
+
+/// Runs of further tasks, of which a read fails.
+pub const UNREAD: &[Row] = &[
+    (
+        "a.txt b.record --record --workers 1",
+        NOTE,
+        (&[1], &[], &[]),
+        2,
+        READ,
+        UNTOUCHED,
+    ),
+    (
+        "a.txt b.mid --locate 60",
+        NOTE,
+        (&[2], &[], &[]),
+        2,
+        READ,
+        UNTOUCHED,
+    ),
+    (
+        "a.txt b.mid --parts",
+        NOTE,
+        (&[2], &[], &[]),
+        2,
+        READ,
+        UNTOUCHED,
+    ),
+    (
+        "a.txt b.mid --from 5",
+        NOTE,
+        (&[1], &[], &[]),
+        2,
+        READ,
+        UNTOUCHED,
+    ),
+];
 
 /// Runs that list, split, locate and write excerpts.
 pub const TASKS: &[Row] = &[

@@ -180,6 +180,10 @@ const REFUSED: &[(&str, &str)] = &[
         "1:12 fault 13",
     ),
     (
+        "formula 2; repeat 8192 { par { branch { } } }",
+        "1:12 fault 13",
+    ),
+    (
         "formula 1; repeat 1000000 { repeat 1000000 { repeat 0 { par { branch { } } } } }",
         "1:12 fault 14",
     ),
