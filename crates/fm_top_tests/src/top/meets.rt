@@ -1,8 +1,12 @@
-//! Processes that two threads run beside one another, as a gate sees them.
+//! Processes that threads run beside one another, as a gate sees them, and as they stand on record.
 
 use super::{SOUND, THREE_BRANCHES, THREE_TRACK, check_left, file_with, run_at};
-use fm_edge::MeetGate;
+use fm_edge::{Gate, MeetGate, Moment};
+use fm_record::{Step, read_step};
+use std::hint::spin_loop;
+use std::sync::atomic::{AtomicU64, Ordering};
 use std::test::Fail;
+use std::thread::yield_now;
 
 /// Two notes, the second one behind a thousand rests without a length, and their track.
 const SLICES: &[u8] =
@@ -34,5 +38,97 @@ fn branches_run_beside_one_another(rt: HostRuntime) -> Result<(), Fail> {
         check_left(&rt, &ran, (0, b"", file.as_slice()), "a meeting");
         assert_eq!(rt; gate.met(), true);
     }
+    Ok(())
+}
+
+/// How many processes are held at a time.
+const CROWD: u64 = 3;
+
+/// Of so many turns of waiting one lets other threads run first.
+const SPINS: u32 = 16_384;
+
+/// Holds the first time slices of the processes behind the first one until three have begun: three
+/// threads are in them then.
+#[derive(Drop)]
+struct CrowdGate {
+    begun: AtomicU64,
+}
+
+impl Gate for CrowdGate {
+    fn pass(&self, _actor: u32, process: u32, moment: Moment) {
+        if moment == Moment::End || process == 0 {
+            return;
+        }
+        self.begun.fetch_add(1, Ordering::SeqCst);
+        for turn in 0..TURNS {
+            if CROWD <= self.begun.load(Ordering::SeqCst) {
+                return;
+            }
+            if turn % SPINS == 0 {
+                yield_now();
+            } else {
+                spin_loop();
+            }
+        }
+    }
+}
+
+// The seat that takes a step; 0 where the step names none.
+fn seat_of(step: Step) -> u32 {
+    match step {
+        Step::Look { seat, .. } => seat,
+        Step::Claim { seat, .. } => seat,
+        Step::Start { seat, .. } => seat,
+        Step::Record { seat, .. } => seat,
+        Step::Recall { seat, .. } => seat,
+        Step::Give { seat, .. } => seat,
+        Step::Pace { seat } => seat,
+        Step::Publish => 0,
+        Step::Release { .. } => 0,
+    }
+}
+
+// How many events are computed in the first hold of process 1, where this step ends it.
+fn computed_first(step: Step, before: Option<u32>) -> Option<u32> {
+    match step {
+        Step::Give {
+            process: 1,
+            computed,
+            ..
+        } => before.or(Some(computed)),
+        _ => before,
+    }
+}
+
+// The highest seat of these steps, and how many events the first hold of process 1 computes.
+fn summed(steps: &[u8]) -> (u32, Option<u32>) {
+    let (mut highest, mut computed, mut rest) = (0, None, steps);
+    for _ in 0..steps.len() {
+        if rest.is_empty() {
+            break;
+        }
+        let Some((step, size)) = read_step(rest) else {
+            break;
+        };
+        highest = highest.max(seat_of(step));
+        computed = computed_first(step, computed);
+        rest = rest.get(size..).unwrap_or(&[]);
+    }
+    (highest, computed)
+}
+
+// While three threads are held the floor stays at 0. Two events wait in one queue all the same, and
+// the second, at 432, lies within the lead.
+#[test]
+fn a_record_has_the_seats_the_room_and_the_lead_of_its_run(rt: HostRuntime) -> Result<(), Fail> {
+    let alloc = rt.alloc();
+    let gate = CrowdGate {
+        begun: AtomicU64::new(0),
+    };
+    let words = "a.txt b.record --record --workers 4";
+    let ran = run_at(&rt, alloc, words, THREE_BRANCHES, SOUND, &gate)?;
+    let record = ran.sink.content();
+    let (highest, computed) = summed(record.get(14 + THREE_BRANCHES.len()..).unwrap_or(&[]));
+    assert_eq!(rt; (ran.status, 1 < highest, computed), (0, true, Some(2)));
     Ok(())
 }
