@@ -122,8 +122,14 @@ class Batch(Folder):
                                                     "of scores that are gone there is 1 result: 3"])
         self.assertEqual((self.out / "0.mid").read_bytes(), foretold(made[1]))
         (self.out / "1.mid").unlink()
+        with open(self.out / "batch.results", "a", encoding="ascii") as file:
+            file.write('["2", "0", "form')  # what is cut off is no result, and the older one stands
         self.assertIn("1 of 3 scores were played anew", self.run_it("--audit").stdout)
         self.assertEqual((self.out / "1.mid").read_bytes(), foretold(made[1]))
+        (self.folder / "0.score").write_text(made[2].text)
+        os.utime(self.folder / "0.score", (1, 1))  # older than the file of what stood there
+        self.assertIn("1 of 3 scores were played anew", self.run_it().stdout)
+        self.assertEqual((self.out / "0.mid").read_bytes(), foretold(made[2]))
 
     def test_what_it_cannot_begin_with(self) -> None:
         rows: tuple[tuple[tuple[str, ...], str], ...] = (
@@ -162,7 +168,7 @@ case $last in */0.part) : >"$last" ;; *) sleep 300.25 ;; esac
             told = "batch: interrupted: 1 of 9 scores are done; run it again for the rest\n"
             self.assertEqual(ended, (130, "", told))
             self.assertEqual(self.at_work() + self.at_work("sleep 300.25"), [])
-            self.assertEqual(sorted(path.name for path in self.out.iterdir()), ["0.mid", "0.status"])
+            self.assertEqual(sorted(path.name for path in self.out.iterdir()), ["0.mid", "batch.results"])
 
 
 def own_lines(told: str) -> str:
