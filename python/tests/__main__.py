@@ -1,0 +1,35 @@
+"""Runs the tests, each module in a process of its own, as many at a time as there are processors: `python3 -m tests`
+in the folder python. What a module that fails says is printed; the status is 1 where one does."""
+
+from __future__ import annotations
+
+import os
+import pathlib
+import subprocess
+import sys
+from concurrent.futures import ThreadPoolExecutor
+
+HOME = pathlib.Path(__file__).resolve().parent
+#: Those that take longest begin first.
+LONG = ("test_packaging", "test_batch")
+
+
+def run(module: str) -> tuple[str, int, str]:
+    """The name of a module of tests, the status of its run and what that says."""
+    done = subprocess.run([sys.executable, "-B", "-m", "unittest", f"tests.{module}"], cwd=HOME.parent,
+                          stdout=subprocess.PIPE, stderr=subprocess.STDOUT, text=True, errors="replace", check=False)
+    return module, done.returncode, done.stdout
+
+
+def main() -> int:
+    modules = sorted((path.stem for path in HOME.glob("test_*.py")), key=lambda name: (name not in LONG, name))
+    with ThreadPoolExecutor(len(os.sched_getaffinity(0))) as pool:
+        failed = [(module, said) for module, status, said in pool.map(run, modules) if status]
+    for module, said in failed:
+        print(f"{module}:\n{said}")
+    print(f"{len(modules) - len(failed)} of {len(modules)} modules of tests pass")
+    return 1 if failed else 0
+
+
+if __name__ == "__main__":
+    sys.exit(main())
