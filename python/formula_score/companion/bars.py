@@ -206,7 +206,7 @@ def _tell_bar(walk: Played, meter: Meter, tick: int, process: Optional[int]) -> 
     for each in playing:
         position = position_at(walk.reading, each.levels, tick)
         written = each.end if position is None else each.begin + position - each.position
-        place = f"line {each.statement.line}, column {each.statement.first.column}{_ring(each.place, written, meter)}"
+        place = f"line {each.statement.line}, column {each.statement.first.column}{ring(each.place, written, meter)}"
         found.setdefault(written, []).append((each, place))
     for written, several in found.items():
         print(f"tick {tick}: written in {meter.tell(written)}; played in {meter.tell(tick)} of the file, which has 120 "
@@ -216,8 +216,8 @@ def _tell_bar(walk: Played, meter: Meter, tick: int, process: Optional[int]) -> 
     return 0
 
 
-def _ring(place: Place, written: int, meter: Meter) -> str:
-    """Where in the phrase or loop round it."""
+def ring(place: Place, written: int, meter: Meter) -> str:
+    """Where in the phrases and loops round it."""
     said, seen = [], place
     while True:
         inside = meter.tell(written - seen.begin + meter.upbeat)

@@ -27,13 +27,16 @@ QUARTER = 48  # width of a quarter note, unless the piece is long
 WIDEST = 1500
 MOST_LINES = 256
 
+#: The colours that are too dark for a dark page, and what stands for them there.
+DARKER = {"#000000": "#e6edf3", "#7b1c3a": "#d4577f", "#0b5fa5": "#4a9fe8"}
+
 # what changes where the reader's page is dark
 DARK = (
     "@media (prefers-color-scheme: dark) { .ground { fill: #0d1117 } .black { fill: #1c2128 } "
     "text { fill: #e6edf3 } text.quiet { fill: #9198a1 } .strong { stroke: #8b949e } .weak { stroke: #3d444d } "
-    '.edge { stroke: #e6edf3 } [fill="#000000"] { fill: #e6edf3 } [stroke="#000000"] { stroke: #e6edf3 } '
-    '[fill="#7b1c3a"] { fill: #d4577f } [stroke="#7b1c3a"] { stroke: #d4577f } '
-    '[fill="#0b5fa5"] { fill: #4a9fe8 } [stroke="#0b5fa5"] { stroke: #4a9fe8 } }'
+    ".edge { stroke: #e6edf3 } "
+    + " ".join(f'[fill="{light}"] {{ fill: {dark} }} [stroke="{light}"] {{ stroke: {dark} }}'
+               for light, dark in DARKER.items()) + " }"
 )
 
 _KINDS = {11: "control", 12: "program", 14: "bend"}

@@ -9,7 +9,6 @@ import re
 import sys
 import tempfile
 import time
-from bisect import bisect_left
 from typing import Callable, Iterator, Optional
 
 from . import meter as meters
@@ -18,7 +17,7 @@ from .meter import Meter
 from .midi_file import save
 from .playing import Failed, Listing, listed, listing_of_file, must_differ, needs, run as play, text_of
 from .reading import Reading, read
-from .ticks import Spot, ticks_of
+from .ticks import spots_of, ticks_of
 from .walk import Played
 
 _LOOK = 0.2  # seconds between two looks at a score that is followed
@@ -64,7 +63,7 @@ def run(options: argparse.Namespace) -> int:
     must_differ(options.file, options.out)
     if not options.follow:
         data = text_of(options.file)
-        save(options.out, _picture(_listing(options.file, data), _reading(data), options).encode())
+        save(options.out, picture(_listing(options.file, data), _reading(data), options).encode())
         return 0
     if options.out.lower().endswith(".svg"):
         raise Failed(2, "with --follow OUT is a page: give it a name as roll.html")
@@ -99,7 +98,8 @@ def _reading(data: bytes) -> Optional[Reading]:
     return read(data) if _is_score(data) else None
 
 
-def _picture(listing: Listing, reading: Optional[Reading], options: argparse.Namespace) -> str:
+def picture(listing: Listing, reading: Optional[Reading], options: argparse.Namespace) -> str:
+    """A picture as text, with the bars that the options --meter and --upbeat ask for."""
     if listing.division == 0:
         raise Failed(1, "with a division of 0 there are no quarter notes to draw")
     if not options.meter:
@@ -115,26 +115,10 @@ def _score_bars(reading: Reading, meter: Meter) -> list[Rule]:
     walk.run()
     last = walk.ended[len(walk.begun) - 1]
     written = bars(meter, last.written)
-    spots = _spots(walk, [rule.tick for rule in written])
+    spots = spots_of(walk, [rule.tick for rule in written])
     known = [(rule, spot) for rule, spot in zip(written, spots) if spot is not None]
     ticks = ticks_of(reading, [spot for _, spot in known])
     return [Rule(tick, rule.label) for tick, (rule, _) in zip(ticks, known)]
-
-
-def _spots(walk: Played, written: list[int]) -> list[Optional[Spot]]:
-    """Where positions as written lie, in one pass over what takes time; behind the end there is none."""
-    found: dict[int, Spot] = {}
-    last = walk.ended[len(walk.begun) - 1]
-    wanted = sorted(set(written))
-    for each in walk.happenings:
-        for position in _between(wanted, each.begin, each.end):
-            found.setdefault(position, Spot(each.process, each.levels, each.position + position - each.begin))
-    found.setdefault(last.written, Spot(len(walk.begun) - 1, last.levels, last.position))
-    return [found.get(position) for position in written]
-
-
-def _between(rising: list[int], first: int, behind: int) -> list[int]:
-    return rising[bisect_left(rising, first):bisect_left(rising, behind)]
 
 
 # ---- following
@@ -142,7 +126,7 @@ def _between(rising: list[int], first: int, behind: int) -> list[int]:
 def follow(options: argparse.Namespace, is_over: Callable[[], bool]) -> None:
     """Plays and draws a score whenever its text has changed, until it is over."""
     seen: Optional[bytes] = None
-    picture = ""
+    drawing = ""
     for data in _texts(options.file, is_over):
         if data == seen:
             continue
@@ -150,16 +134,16 @@ def follow(options: argparse.Namespace, is_over: Callable[[], bool]) -> None:
         now = time.strftime("%H:%M:%S")
         try:
             listing = _listing(options.file, data)
-            picture = _picture(listing, read(data), options)
+            drawing = picture(listing, read(data), options)
             words, state = f"<p>{now}: played, to tick {listing.end}.</p>", "fresh"
             print(f"{now} played, to tick {listing.end}", flush=True)
         except Failed as failed:
-            before = "The picture is of the text before." if picture else ""
+            before = "The picture is of the text before." if drawing else ""
             words, state = f"<p>{now}: refused. {before}</p>{_paragraphs(failed.why)}", "stale"
             print(f"{now} {failed.said or 'not played'}", flush=True)
             print(failed.why, file=sys.stderr, flush=True)
         title = html.escape(os.path.basename(options.file))
-        _replace(options.out, _PAGE.format(title=title, state=state, picture=picture, words=words).encode())
+        _replace(options.out, _PAGE.format(title=title, state=state, picture=drawing, words=words).encode())
 
 
 def _paragraphs(why: str) -> str:

@@ -7,6 +7,7 @@ what the program plays before anything is told.
 
 from __future__ import annotations
 
+from bisect import bisect_left
 from typing import Iterator, Optional, Sequence
 
 from ..shapes import Part
@@ -120,9 +121,14 @@ def position_at(reading: Reading, levels: Sequence[Level], tick: int) -> Optiona
     """The first position of the innermost level at a tick of the file, or behind it; None where there is none."""
     if not levels:
         return tick
-    text = _head(reading, levels) + _within(levels, "par { branch { } }") + "\n"
-    found = located(text.encode(), tick, 1)
+    found = positions_at(reading, levels, tick)
     return found[-1] if found else None
+
+
+def positions_at(reading: Reading, levels: Sequence[Level], tick: int) -> Optional[tuple[int, ...]]:
+    """The first position of each of the levels at a tick of the file, or behind it; None where there is none."""
+    text = _head(reading, levels) + _within(levels, "par { branch { } }") + "\n"
+    return located(text.encode(), tick, 1)
 
 
 def spots_at(walk: Played, written: int) -> list[Spot]:
@@ -135,6 +141,22 @@ def spots_at(walk: Played, written: int) -> list[Spot]:
     if not found and written == last.written:
         found[len(walk.begun) - 1] = Spot(len(walk.begun) - 1, last.levels, last.position)
     return [found[process] for process in sorted(found)]
+
+
+def spots_of(walk: Played, written: list[int]) -> list[Optional[Spot]]:
+    """Where positions as written lie, of the first process that plays there; behind the end there is none."""
+    found: dict[int, Spot] = {}
+    last = walk.ended[len(walk.begun) - 1]
+    wanted = sorted(set(written))
+    for each in walk.happenings:
+        for position in _between(wanted, each.begin, each.end):
+            found.setdefault(position, Spot(each.process, each.levels, each.position + position - each.begin))
+    found.setdefault(last.written, Spot(len(walk.begun) - 1, last.levels, last.position))
+    return [found.get(position) for position in written]
+
+
+def _between(rising: list[int], first: int, behind: int) -> list[int]:
+    return rising[bisect_left(rising, first):bisect_left(rising, behind)]
 
 
 def happening_at(walk: Played, tick: int) -> list[Happening]:

@@ -107,12 +107,14 @@ _OPERATORS: dict[str, Callable[[int, int], int]] = {
 
 
 class Walk:
-    """Goes over what a reading plays. After `run`, `begun` and `ended` have each process by its number."""
+    """Goes over what a reading plays. After `run`, `begun` and `ended` have each process by its number, and `waits_for`
+    the processes that end where it begins."""
 
     def __init__(self, reading: Reading):
         self.reading = reading
         self.begun: list[Process] = []
         self.ended: dict[int, Process] = {}
+        self.waits_for: list[tuple[int, ...]] = []
         self.levels: tuple[Level, ...] = ()
         self.rounds: list[int] = []     # of each open loop, the outermost first, its round
         self.open_lists: list[Entries] = []
@@ -136,15 +138,16 @@ class Walk:
 
     def run(self) -> "Walk":
         """Goes over the whole."""
-        self._start(0, 0)
+        self._start(0, 0, ())
         for statement in self.reading.statements:
             self._go(statement)
         self._end()
         self.closed(self.place, self.now.written)
         return self
 
-    def _start(self, position: int, written: int) -> None:
+    def _start(self, position: int, written: int, waits_for: tuple[int, ...]) -> None:
         self.now = _Now(len(self.begun), position, written, self.reading.seed)
+        self.waits_for.append(waits_for)
         self.begun.append(self._here())
         self.open_lists = [Entries(each.kind, each.entries, each.statement) for each in self.open_lists]
 
@@ -256,13 +259,14 @@ class Walk:
     def on_par(self, of: Statement) -> None:
         forked = self.now
         self._end()
-        position, written = forked.position, forked.written
+        position, written, last = forked.position, forked.written, []
         for number, block in enumerate(of.blocks):
-            self._start(forked.position, forked.written)
+            self._start(forked.position, forked.written, (forked.number,))
             self._inside("branch", of, block, number)
             self._end()
             position, written = max(position, self.now.position), max(written, self.now.written)
-        self._start(position, written)
+            last.append(self.now.number)
+        self._start(position, written, tuple(last))
 
     def on_warp(self, of: Statement) -> None:
         shape, round_it = self.reading.shapes[of.name], self.levels
