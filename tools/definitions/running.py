@@ -109,20 +109,21 @@ class Joined(Pair):
 
     def force(self) -> Any:
         if self.made is None:
-            items: list[Any] = []
-            waiting = [self]
+            # the lists that it is made of, in turn; the last one is shared, and not copied
+            leaves: list[Any] = []
+            waiting: list[Any] = [self]
             while waiting:
-                at: Any = waiting.pop()
-                while at is not NIL:
-                    if isinstance(at, Joined):
-                        if at.made is None:
-                            waiting.append(at.parts[1])
-                            at = at.parts[0]
-                            continue
-                        at = at.made
-                    items.append(at.head)
-                    at = at.tail
-            self.made, self.parts = listed(items), ()
+                at = waiting.pop()
+                if isinstance(at, Joined):
+                    if at.made is None:
+                        waiting += (at.parts[1], at.parts[0])
+                        continue
+                    at = at.made
+                leaves.append(at)
+            made = leaves.pop()
+            while leaves:
+                made = listed(leaves.pop(), made)
+            self.made, self.parts = made, ()
         return self.made
 
     head = property(lambda self: self.force().head)
@@ -133,6 +134,45 @@ def joined(left: Any, right: Any) -> Any:
     if left is NIL:
         return right
     return left if right is NIL else Joined(left, right)
+
+
+# What was computed once: of each definition without arguments its value, and of one with one argument what it gave, by
+# the argument itself.
+KEPT: list[dict[int, Any]] = []
+MOST_KEPT = 100_000
+
+
+def forget() -> None:
+    for table in KEPT:
+        table.clear()
+
+
+def kept0(function: Callable[[], Any]) -> Callable[[], Any]:
+    table: dict[int, Any] = {}
+    KEPT.append(table)
+
+    def look() -> Any:
+        if 0 not in table:
+            table[0] = function()
+        return table[0]
+    return look
+
+
+def kept1(function: Callable[[Any], Any]) -> Callable[[Any], Any]:
+    table: dict[int, Any] = {}
+    KEPT.append(table)
+
+    def look(argument: Any) -> Any:
+        found = table.get(id(argument))
+        if found is not None and found[0] is argument:
+            return found[1]
+        value = function(argument)
+        if len(table) > MOST_KEPT:
+            table.clear()
+        # the argument is kept too, so that no other takes its place
+        table[id(argument)] = (argument, value)
+        return value
+    return look
 
 
 def curried(function: Callable[..., Any], count: int, *given: Any) -> Any:

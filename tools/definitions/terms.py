@@ -61,7 +61,7 @@ class Parser:
         left = self.applied()
         while self.at < len(self.words):
             word = self.words[self.at]
-            if word.kind != "name" or word.text not in FIXITY:
+            if word.kind == "text" or word.text not in FIXITY:
                 break
             binds, side = FIXITY[word.text]
             if binds < least:

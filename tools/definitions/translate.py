@@ -64,6 +64,8 @@ class Translator:
         self.made: dict[Target, str] = {}
         self.arities: dict[Target, int] = {}
         self.refused: dict[Target, NotRead] = {}
+        # the constructors without parts
+        self.plains: set[str] = set()
         # what says something and is computed all the same, as true or false
         self.wanted: set[Target] = set()
 
@@ -117,10 +119,17 @@ class Translator:
             waiting += self.repository.definition(one).names
         return global_name(target)
 
+    def plain(self, name: str) -> str:
+        """A constructor without parts: one value, made once."""
+        self.plains.add(name)
+        return f"C_{safe(name)}"
+
     def module(self) -> str:
         """All that was made, as the text of a Python module."""
         head = ('"""Made from the definitions of specs/ by tools/definitions/translate.py."""\n'
-                "from running import *  # noqa: F403\n\n\n")
+                "from running import *  # noqa: F403\n\n"
+                + "".join(f"L_{safe(name)} = LIBRARY[{name!r}][1]\n" for name in LIBRARY)
+                + "".join(f"C_{safe(name)} = Made({name!r})\n" for name in sorted(self.plains)) + "\n\n")
         return head + "\n\n\n".join(text for text in self.made.values() if text) + "\n"
 
 
@@ -237,7 +246,8 @@ class Body:
             lines.append(f"    raise NoClause({self.target.name!r})")
         names = [*(local(name) for name in fixed), *arguments]
         place = f"    # {self.file.path}:{item.start}"
-        return "\n".join([f"def {global_name(self.target)}({', '.join(names)}):", place, *lines])
+        kept = [f"@kept{len(names)}"] if len(names) < 2 else []
+        return "\n".join([*kept, f"def {global_name(self.target)}({', '.join(names)}):", place, *lines])
 
     # ---- patterns
 
@@ -366,7 +376,7 @@ class Body:
 
     def operator(self, term: Term, bound: dict[str, str]) -> str:
         left, right = (self.term(it, bound) for it in term.parts)  # type: ignore[arg-type]
-        own = self.translator.repository.resolve(self.file, (term.word.text,), term.word.line)
+        own = None if term.word.kind == "mark" else self.resolved(term.word)
         if own and own.kind == "definition":
             return f"{global_name(own)}({left}, {right})"
         if term.word.text not in OPERATORS:
@@ -460,6 +470,8 @@ class Body:
 
     def constructed(self, target: Target, name: str, arguments: list[str]) -> str:
         count = self.translator.constructor_arity(target, name)
+        if count == 0 and not arguments:
+            return self.translator.plain(name)
         if len(arguments) == count:
             inner = "".join(f"{it}, " for it in arguments)
             return f"Made({name!r}, ({inner}))"
@@ -487,7 +499,7 @@ class Body:
             return "()"
         if name not in LIBRARY:
             raise self.refuse(word, f"a name of {target.module} that is not known to compute")
-        return self.call(f"LIBRARY[{name!r}][1]", LIBRARY[name][0], arguments)
+        return self.call(f"L_{safe(name)}", LIBRARY[name][0], arguments)
 
 
 def constant(repository: Repository, crate: str, name: str) -> int:
