@@ -1,6 +1,7 @@
 """Finds what each name of a definition means: a definition of the repository, an item of its code, or a library's."""
 from __future__ import annotations
 
+import glob
 import os
 import re
 from dataclasses import dataclass, field
@@ -13,6 +14,12 @@ from notation import (
 
 # What the notation itself brings.
 BUILT_IN = frozenset("Unit tt absurd ⊥ ¬ IsProp IsSet Dec yes no search grind cc rw simp omega refl ℓ ∥◌∥₁".split())
+
+def row_files(top: str) -> list[str]:
+    """The files of rows: those named for them, and those of worked examples."""
+    return sorted(path for folder in ("specs", "proofs") for name in ("*Rows", "Examples")
+                  for path in glob.glob(f"{top}/crates/*/{folder}/{name}.antt"))
+
 
 # Constructors of the libraries: a name of theirs that stands in a pattern has to be one of these.
 LIBRARY_CONSTRUCTORS = frozenset(

@@ -6,7 +6,6 @@ Every row whose two sides compute has to come out true. A row that says somethin
 reason. With --module the Python that was made is written to a file."""
 from __future__ import annotations
 
-import glob
 import os
 import sys
 import threading
@@ -14,7 +13,7 @@ from collections import Counter
 
 sys.dont_write_bytecode = True
 from notation import File, Item, NotRead, is_row, signature_of  # noqa: E402
-from repository import Repository, Target  # noqa: E402
+from repository import Repository, Target, row_files  # noqa: E402
 from terms import Parser  # noqa: E402
 from translate import Body, Translator, run  # noqa: E402
 
@@ -43,10 +42,12 @@ class Rows:
         behind, unfolded, _ = signature_of(item)
         parser = Parser(file.path, item.words[:unfolded], lambda word: self.repository.is_constructor(file, word))
         parser.at = behind + 1
+        given = parser.given()
         term = parser.term()
         if parser.at != unfolded:
             raise parser.refuse("a row of another form")
-        made = Body(self.translator, file, item, Target("definition", file.module, item.name)).term(term, {})
+        bound = {name: "ANYTHING" for name in given}
+        made = Body(self.translator, file, item, Target("definition", file.module, item.name)).term(term, bound)
         for name in self.repository.definition(Target("definition", file.module, item.name)).names:
             self.translator.definition(name)
         return made
@@ -71,9 +72,8 @@ def judge(rows: Rows) -> int:
 
 def main() -> int:
     rows = Rows(Repository(TOP))
-    for folder in ("specs", "proofs"):
-        for path in sorted(glob.glob(f"{TOP}/crates/*/{folder}/*Rows.antt")):
-            rows.read(path)
+    for path in row_files(TOP):
+        rows.read(path)
     if "--module" in sys.argv:
         with open(sys.argv[sys.argv.index("--module") + 1], "w", encoding="utf-8") as file:
             file.write(rows.translator.module())

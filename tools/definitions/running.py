@@ -183,6 +183,8 @@ def curried(function: Callable[..., Any], count: int, *given: Any) -> Any:
 
 
 NONE = Made("None")
+# What stands for a value of which a row says that it is any.
+ANYTHING = Made("anything")
 
 
 def some(value: Any) -> Made:

@@ -8,7 +8,7 @@ from collections import defaultdict
 from dataclasses import dataclass, field
 
 from notation import Block, File, Item, NotRead, Uses, is_row, names_in_signature
-from repository import Needed, Repository, Target
+from repository import Needed, Repository, Target, row_files
 from rust import Clause, Function, code_files
 
 # The crates of each subject, in the order in which a reader comes to them.
@@ -141,8 +141,7 @@ def chapters_of(needed: dict[Target, Needed]) -> list[tuple[str, list[tuple[str,
 def rows_of(repository: Repository, needed: dict[Target, Needed]) -> dict[Target, list[str]]:
     """The rows that name a definition which computes: lemmas of a file of rows that are closed by computing."""
     rows: dict[Target, list[str]] = defaultdict(list)
-    paths = [path for folder in ("specs", "proofs") for path in glob.glob(f"{repository.top}/crates/*/{folder}/*Rows.antt")]
-    for path in sorted(paths):
+    for path in row_files(repository.top):
         module = "Rattle." + os.path.relpath(path, f"{repository.top}/crates").removesuffix(".antt").replace("/", ".")
         file = repository.file(module)
         if file is None:

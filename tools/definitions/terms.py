@@ -13,6 +13,8 @@ FIXITY = {
     "&&": (35, "l"), "||": (30, "l"), ">>=": (10, "l"), "≡": (4, "n"), "≢": (4, "n"), "×": (2, "r"), "⊎": (1, "r"),
 }
 IF = 5
+# A term that begins with one of these is a proof.
+TACTICS = frozenset(("omega", "grind", "search", "simp", "cc"))
 
 
 @dataclass(frozen=True)
@@ -57,6 +59,21 @@ class Parser:
 
     # ---- terms
 
+    def given(self) -> list[str]:
+        """The names of `(x y : A) →` in front of a term."""
+        names: list[str] = []
+        while self.next_is("("):
+            at = self.at + 1
+            while self.words[at].kind == "name":
+                at += 1
+            if self.words[at].text != ":":
+                break
+            names += [word.text for word in self.words[self.at + 1:at]]
+            while not self.next_is("→"):
+                self.at += 1
+            self.take("→")
+        return names
+
     def term(self, least: int = 0) -> Term:
         left = self.applied()
         while self.at < len(self.words):
@@ -82,6 +99,10 @@ class Parser:
 
     def applied(self) -> Term:
         head = self.atom()
+        if head.word.text in TACTICS and head.kind == "name":
+            # a proof: what it is made of is nothing
+            self.skip_atoms()
+            return Term("proof", head.word)
         while self.starts_atom():
             if self.next_is("{"):
                 # an implicit argument: a type, or a level
@@ -90,6 +111,18 @@ class Parser:
             argument = self.atom()
             head = Term("apply", head.word, (head, argument))
         return head
+
+    def skip_atoms(self) -> None:
+        while self.starts_atom():
+            if self.next_is("("):
+                depth = 0
+                while True:
+                    word = self.take()
+                    depth += (word.text == "(") - (word.text == ")")
+                    if depth == 0:
+                        break
+            else:
+                self.take()
 
     def skip_braces(self) -> None:
         depth = 0

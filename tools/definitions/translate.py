@@ -14,7 +14,7 @@ from notation import Block, File, Item, NotRead, Word, is_row, signature_of
 from repository import Repository, Target
 from running import LIBRARY
 from rust import CodeItem
-from terms import FIXITY, Parser, Pattern, Term
+from terms import FIXITY, Clause, Parser, Pattern, Term
 
 OPERATORS = {
     "+": "({} + {})", "-": "less({}, {})", "*": "({} * {})", "/": "quotient({}, {})", "%": "remainder({}, {})",
@@ -84,6 +84,11 @@ class Translator:
             parser = Parser(file.path, item.clauses[0], lambda word: self.repository.is_constructor(file, word))
             self.arities[target] = len(self.parameters(file, item)) + len(parser.clause(item.name).patterns)
         return self.arities[target]
+
+    def clauses(self, file: File, item: Item) -> list[Clause]:
+        """The clauses of a definition as terms."""
+        parsers = [Parser(file.path, words, lambda word: self.repository.is_constructor(file, word)) for words in item.clauses]
+        return [parser.clause(item.name) for parser in parsers]
 
     def found(self, target: Target) -> tuple[File, Item]:
         file = self.repository.known_file(target.module)
@@ -207,10 +212,11 @@ def variant_size(item: CodeItem, name: str) -> int:
 
 
 class Body:
-    """One definition on its way to Python."""
+    """One definition on its way to Python; its clauses may be others than those of its file."""
 
-    def __init__(self, translator: Translator, file: File, item: Item, target: Target):
+    def __init__(self, translator: Translator, file: File, item: Item, target: Target, clauses: list[Clause] | None = None):
         self.translator, self.file, self.item, self.target = translator, file, item, target
+        self.clauses = clauses
         self.fresh = 0
 
     def refuse(self, word: Word, why: str) -> NotRead:
@@ -220,9 +226,7 @@ class Body:
         item, fixed = self.item, self.translator.parameters(self.file, self.item)
         lines: list[str] = []
         arguments: list[str] = []
-        for words in item.clauses:
-            parser = Parser(self.file.path, words, lambda word: self.translator.repository.is_constructor(self.file, word))
-            clause = parser.clause(item.name)
+        for clause in self.clauses or self.translator.clauses(self.file, item):
             arguments = [f"a{k}" for k in range(len(clause.patterns))]
             tests: list[str] = []
             bound: dict[str, str] = {name: local(name) for name in fixed}
@@ -335,6 +339,10 @@ class Body:
                 return self.let(lets, self.term(parts[2], inside))
             case "elim":
                 return self.elim(term, bound)
+            case "proof":
+                return "()"
+            case "made":
+                return self.applied(term, [], bound)
         raise self.refuse(term.word, f"a {term.kind}")
 
     def let(self, lets: list[tuple[str, str]], body: str) -> str:
@@ -390,9 +398,13 @@ class Body:
 
     def applied(self, head: Term, arguments: list[Term], bound: dict[str, str]) -> str:
         made = [self.term(it, bound) for it in arguments]
-        if head.kind != "name":
+        if head.kind not in ("name", "made"):
             return self.calls(self.term(head, bound), made)
         word = head.word
+        if head.kind == "made" and word.text in ("Onset", "Ending"):
+            return self.translator.plain(word.text)
+        if head.kind == "made":
+            return self.library(Target("library", "", word.text), word.text, word, made)
         first, *rest = word.parts
         if first in bound:
             return self.calls(bound[first] + "".join(map(label_of, rest)), made)

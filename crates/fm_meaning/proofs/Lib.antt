@@ -6,6 +6,7 @@ mod ForkRows
 mod WarpRows
 mod OverlapRows
 mod PieceRows
+mod MarkRows
 mod RangeRows
 mod PlaceRows
 mod DepthRows

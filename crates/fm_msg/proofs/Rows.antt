@@ -1,5 +1,5 @@
 -- Bytes and ranges of single messages, and the order of five events.
-use Rattle.std.proofs.Common.{◌≡◌, [], ◌∷◌, true, false, refl}
+use Rattle.std.proofs.Common.{◌≡◌, [], ◌∷◌, map, true, false, refl}
 use Rattle.std.specs.declared.cmp.Ordering.TheVariants.{Less, Equal, Greater}
 use Rattle.fm_msg.specs.declared.msg.Msg.TheVariants.{On, Off, Control, Program, Bend}
 use Rattle.fm_msg.specs.Message.{is_in_range, message_bytes}
@@ -26,6 +26,10 @@ no_bend = refl
 highest_bend : message_bytes (Bend 15 16383) ≡ 0xEF ∷ 0x7F ∷ 0x7F ∷ []
 highest_bend = refl
 
+last_channel : message_bytes (Control 15 7 100) ∷ message_bytes (Program 15 5) ∷ []
+    ≡ (0xBF ∷ 0x07 ∷ 0x64 ∷ []) ∷ (0xCF ∷ 0x05 ∷ []) ∷ []
+last_channel = refl
+
 greatest_in_range : is_in_range (Bend 15 16383) ≡ true
 greatest_in_range = refl
 
@@ -37,6 +41,22 @@ key_above = refl
 
 channel_above : is_in_range (Program 16 0) ≡ false
 channel_above = refl
+
+-- the greatest numbers of each kind
+greatest_of_each : map is_in_range (On 15 127 127 ∷ Off 15 127 ∷ Control 15 127 127 ∷ Program 15 127 ∷ [])
+    ≡ true ∷ true ∷ true ∷ true ∷ []
+greatest_of_each = refl
+
+-- a channel too great
+channels_above : map is_in_range (On 16 0 0 ∷ Off 16 0 ∷ Control 16 0 0 ∷ Bend 16 0 ∷ [])
+    ≡ false ∷ false ∷ false ∷ false ∷ []
+channels_above = refl
+
+-- a data byte too great
+data_above :
+    map is_in_range (On 0 0 128 ∷ Off 0 128 ∷ Control 0 128 0 ∷ Control 0 0 128 ∷ Program 0 128 ∷ [])
+    ≡ false ∷ false ∷ false ∷ false ∷ false ∷ []
+data_above = refl
 
 abbrev earlier : TimedMessage
 earlier = record { time = 479; process = 2; index = 9; msg = Bend 15 16383 }

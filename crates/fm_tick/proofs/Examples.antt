@@ -24,3 +24,8 @@ slope_whole = refl
 slope_of_one : sloped_of 1 1 1000 2000 ≡ 1
 unfolding sloped_of
 slope_of_one = refl
+
+-- ticks that stay as many
+slope_of_none : sloped_of 4000 4000 1000 1000 ≡ 4000
+unfolding sloped_of
+slope_of_none = refl
