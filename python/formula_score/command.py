@@ -195,7 +195,7 @@ def _play(text: Union[str, bytes], path: Path, program: Optional[str], options: 
         return _run(program, options, _stored(data, folder, "in.score"), os.fspath(path), data)
 
 
-def _environment() -> dict[str, str]:
+def environment() -> dict[str, str]:
     """The environment without FORMULA: a program that runs `scripts/formula` would be run by it again."""
     return {name: value for name, value in os.environ.items() if name != "FORMULA"}
 
@@ -218,7 +218,7 @@ def answer(program: Optional[str], words: Sequence[str]) -> tuple[int, str]:
         raise CommandError(127, "", "there is no program: name it, or let FORMULA name it, or put formula into PATH")
     try:
         run = subprocess.run([command, *words], stdin=subprocess.DEVNULL, stdout=subprocess.PIPE,
-                             stderr=subprocess.DEVNULL, check=False, env=_environment())
+                             stderr=subprocess.DEVNULL, check=False, env=environment())
     except (OSError, ValueError) as error:  # a name that no file has is the one or the other
         reason = error.strerror if isinstance(error, OSError) else str(error)
         raise CommandError(127, "", f"{command} cannot be run: {reason}") from error

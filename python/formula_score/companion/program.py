@@ -7,6 +7,7 @@ import importlib
 import io
 import os
 import sys
+from types import ModuleType
 from typing import NamedTuple, NoReturn, Optional, Sequence
 
 from .. import __version__
@@ -23,18 +24,23 @@ in PATH, else the one that scripts/formula builds."""
 
 STATUSES = """\
 status: 0 all is well; 1 something was found, or refused; 2 the words are no use of the verb, or a file cannot be
-read; where a verb plays (excerpt, listen, roll), the status of formula."""
+read; where a verb plays (play, excerpt, listen, roll), the status of formula."""
 
 
 class Verb(NamedTuple):
-    """A module of this package that has `arguments(parser)` and `run(options) -> int`, and what it is for."""
+    """A module of this package that has `arguments(parser)` and `run(options) -> int`, and what it is for.
+
+    One that takes the words of the program has `main(words, name, version) -> int`.
+    """
 
     module: str
     about: str
+    takes_words: bool = False
 
 
 #: The verbs, in the order in which they are told.
 VERBS: dict[str, Verb] = {
+    "play": Verb("play", "run formula so that OUT is the old file or the whole new one, or standard output", True),
     "bars": Verb("bars", "count the bars of a score, check the comments that count them, tell the tick of a bar"),
     "excerpt": Verb("excerpt", "write some bars of a score as a MIDI file, its channels in tracks, or one channel"),
     "show": Verb("show", "print the events of a MIDI file for a person, with names, bars and beats"),
@@ -61,6 +67,15 @@ def _usage(name: str) -> str:
             f"verbs:\n{verbs}\n\n{STATUSES}\n")
 
 
+def _options(module: ModuleType, verb: Verb, name: str, words: Sequence[str]) -> argparse.Namespace:
+    """The options of a verb that its words give."""
+    parser = Parser(prog=name, description=f"{verb.about[0].upper()}{verb.about[1:]}.", epilog=STATUSES,
+                    formatter_class=argparse.RawDescriptionHelpFormatter)
+    parser.add_argument("--version", action="version", version=VERSION)
+    module.arguments(parser)
+    return parser.parse_args(words)
+
+
 def main(words: Optional[Sequence[str]] = None, name: str = "formula-score") -> int:
     """Runs a verb on the words behind the program's name, and gives its status."""
     given = list(sys.argv[1:] if words is None else words)
@@ -79,13 +94,11 @@ def main(words: Optional[Sequence[str]] = None, name: str = "formula-score") -> 
         return MISUSED
     verb = VERBS[given[0]]
     module = importlib.import_module(f".{verb.module}", __package__)
-    parser = Parser(prog=f"{name} {given[0]}", description=f"{verb.about[0].upper()}{verb.about[1:]}.",
-                    epilog=STATUSES, formatter_class=argparse.RawDescriptionHelpFormatter)
-    parser.add_argument("--version", action="version", version=VERSION)
-    module.arguments(parser)
     try:
-        status: int = module.run(parser.parse_args(given[1:]))
-        sys.stdout.flush()
+        status: int = (module.main(given[1:], f"{name} {given[0]}", VERSION) if verb.takes_words
+                       else module.run(_options(module, verb, f"{name} {given[0]}", given[1:])))
+        if sys.stdout:
+            sys.stdout.flush()
     except SystemExit as ended:
         return int(ended.code or 0)
     except Failed as failed:

@@ -259,14 +259,14 @@ class Walk:
     def on_par(self, of: Statement) -> None:
         forked = self.now
         self._end()
-        position, written, last = forked.position, forked.written, []
+        position, written, ends = forked.position, forked.written, list[int]()
         for number, block in enumerate(of.blocks):
             self._start(forked.position, forked.written, (forked.number,))
             self._inside("branch", of, block, number)
             self._end()
             position, written = max(position, self.now.position), max(written, self.now.written)
-            last.append(self.now.number)
-        self._start(position, written, tuple(last))
+            ends.append(self.now.number)
+        self._start(position, written, tuple(ends))
 
     def on_warp(self, of: Statement) -> None:
         shape, round_it = self.reading.shapes[of.name], self.levels
