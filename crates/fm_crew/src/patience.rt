@@ -5,7 +5,7 @@ ghost use Rattle.fm_crew.specs.Conduct.{Attends, Stays};
 ghost use Rattle.fm_crew.specs.Onward.{Grows};
 ghost use Rattle.fm_crew.specs.Visiting.{Visited};
 
-use crate::Calls;
+use fm_taping::Calls;
 use crate::conductor::Conductor;
 use crate::idle::{Idle, LONG_SPINS};
 use crate::limits::Pass;
