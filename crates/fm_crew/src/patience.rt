@@ -5,12 +5,12 @@ ghost use Rattle.fm_crew.specs.Conduct.{Attends, Stays};
 ghost use Rattle.fm_crew.specs.Onward.{Grows};
 ghost use Rattle.fm_crew.specs.Visiting.{Visited};
 
-use fm_taping::Calls;
 use crate::conductor::Conductor;
 use crate::idle::{Idle, LONG_SPINS};
 use crate::limits::Pass;
 use crate::pass::attend;
 use fm_edge::Gate;
+use fm_taping::Calls;
 use std::sync::Wait;
 
 /// What a conductor does while a process is in other hands.
@@ -32,8 +32,8 @@ pub(crate) trait Patience {
             conductor.old pass process }
         requires turn { InTurn conductor.old.seat.mind.view process }
         ensures waited { waits self.now ≡ true → IsSome result }
-        ensures visited { IfSome result (Visited (B.table board.now) (B.about board.now) pass process
-            conductor.old conductor.new) }
+        ensures visited { IfSome result (Visited (B.table board.now) (B.about board.now)
+            pass process conductor.old conductor.new) }
         ensures stays { IfSome result
             (λ _. Stays conductor.old.seat.mind.view conductor.new.seat.mind.view) }
         ensures swept { IfSome result
