@@ -202,6 +202,12 @@ def sounding_branches(count):
     return b"formula 2;par{" + b"branch{note c4 ticks 9;}" * (count - 2) + b"}"
 
 
+def tied_branches(count):
+    """So many processes of version 2, all of one fork, with a note each whose note-off comes at the tick of its note-on:
+    with room for one event each of them waits until those before it are at their ends."""
+    return b"formula 2;par{" + b"branch{note c4 ticks 1;}" * (count - 2) + b"}"
+
+
 def sounding_in_turn(count):
     """So many processes of version 2, or one less, one after another, with a note in each second one."""
     return b"formula 2;repeat %d{par{branch{note c4 ticks 9;}}}" % ((count - 1) // 2)

@@ -2,7 +2,6 @@ pub mod Words
 pub mod View
 pub mod Runs
 pub mod Calls
-pub mod Stalls
 pub mod StandsFor
 pub mod Given
 pub mod Quantum

@@ -23,7 +23,6 @@ use crate::plays::{ClaimPlay, GivePlay, Kept, LookPlay, PacePlay, PublishPlay};
 use crate::room::Room;
 use crate::seat::BoardSeat;
 use crate::seen::Seen;
-use crate::stall::Stall;
 use crate::sweep::{enter, sight_of};
 use crate::view::Mind;
 use crate::words::{
@@ -32,7 +31,7 @@ use crate::words::{
 use atomic_table::Table;
 use fm_buffer::Gather;
 use fm_core::Floor;
-use fm_strand::Plan;
+use fm_strand::{Plan, Stall};
 use std::alloc::Global;
 use std::marker::{Send, Sync};
 

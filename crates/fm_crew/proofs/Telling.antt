@@ -6,7 +6,6 @@ use Rattle.fm_msg.specs.Event.{TimedMessage}
 use Rattle.fm_core.specs.Numbers.{bit}
 use Rattle.fm_core.specs.Taking.{count_due, covers}
 use Rattle.fm_core.specs.declared.due.Due.{Due}
-use Rattle.fm_core.specs.declared.step.Step.TheVariants.{Give}
 use Rattle.fm_program.specs.Parts.{PlanParts}
 use Rattle.fm_board.specs.declared.about.About.{About}
 use Rattle.fm_board.specs.declared.view.Hold.{Hold}
@@ -15,9 +14,10 @@ use Rattle.fm_board.specs.Answers.{Hands}
 use Rattle.fm_board.specs.Seats.{Sight}
 use Rattle.fm_board.specs.declared.seen.Seen.{Seen}
 use Rattle.fm_board.specs.declared.berth.Berth.{Berth}
-use Rattle.fm_board.specs.View.{giving, holding, is_over, must_take, noted, noted_hold, takes_of, waiting, waits_of, was_visited}
-use Rattle.fm_crew.specs.Crew.{IsWorkOf, TakesFresh}
-use Rattle.fm_crew.specs.declared.calls.Work.{Work}
+use Rattle.fm_board.specs.View.{holding, is_over, must_take, noted, noted_hold, takes_of, waiting, waits_of, was_visited}
+use Rattle.fm_taping.specs.Works.{IsWorkOf}
+use Rattle.fm_taping.specs.declared.calls.Work.{Work}
+use Rattle.fm_crew.specs.Crew.{TakesFresh}
 
 -- no more are due than there are
 count_le : (d : Due) (es : List TimedMessage) → count_due d es ≤ length es
@@ -97,8 +97,3 @@ told_recorded v h left w is taken computed ended =
       computed = computed ∙ (λ i. left + takes i - waits i);
       ended = ended ∙ sym (ap (λ (o : Option Hold). is_over (noted_hold o)) is);
     }
-
--- so the step that is told is the one that the seat makes
-pub told_is : (v : View) (p left clock : ℕ) (w : Work) → IsWorkOf v left w
-    → Give v.number p w.taken w.computed clock w.ended ≡ giving v p left clock
-told_is v p left clock w told = λ i. Give v.number p (told.taken i) (told.computed i) clock (told.ended i)

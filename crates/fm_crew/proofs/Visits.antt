@@ -11,22 +11,22 @@ use Rattle.fm_core.specs.declared.tag.Tag.TheVariants.{Unborn, Home, Full, Out, 
 use Rattle.fm_buffer.specs.Gather.{EventGather}
 use Rattle.fm_program.specs.Parts.{PlanParts}
 use Rattle.fm_strand.specs.Course.{steps_of}
-use Rattle.fm_board.specs.Answers.{Found, Hands}
+use Rattle.fm_board.specs.Answers.{Hands, Looks}
 use Rattle.fm_board.specs.Knowing.{IsWide, Knows}
 use Rattle.fm_board.specs.Plays.{Marked}
 use Rattle.fm_board.specs.Seats.{Sight}
-use Rattle.fm_board.specs.View.{gave, holding, lines_of, processes}
+use Rattle.fm_board.specs.View.{gave, holding, lines_of, looked, processes}
 use Rattle.fm_board.specs.declared.about.About.{About}
 use Rattle.fm_board.specs.declared.berth.Berth.{Berth}
 use Rattle.fm_board.specs.declared.seen.Seen.{Seen}
 use Rattle.fm_board.specs.declared.view.Hold.{Hold}
-use Rattle.fm_board.specs.declared.view.Log.{Log}
 use Rattle.fm_board.specs.declared.view.Mind.{Mind}
 use Rattle.fm_board.specs.declared.view.View.{View}
 use Rattle.fm_board.proofs.Knowing.{found_knows, hands_knows}
 use Rattle.fm_crew.specs.declared.conductor.Conductor.{Conductor}
 use Rattle.fm_crew.specs.Onward.{Advances, Brings, BringsHeld, GoesOn, Grows, HoldsBack, IsFull, Moves}
 use Rattle.fm_crew.specs.Visiting.{Rests}
+use Rattle.fm_crew.proofs.Looking.{seated}
 use Rattle.fm_crew.proofs.Onward.{goes_back, goes_front, moves_back, moves_front, still_back}
 use Rattle.fm_crew.proofs.Startings.{seen_unborn}
 
@@ -131,14 +131,20 @@ module _ (a : About) (due : Due) (limit p : ℕ) (old mid new : Conductor) (s : 
 
 -- ---- a process that was looked at
 
-module _ (due : Due) (limit p : ℕ) (old mid new : Conductor) (s : Seen) (v : View) (xs : Log)
-    (found : Found old.seat p s v xs mid.seat) (plan : v.plan ≡ old.seat.mind.view.plan) (same : mid.gather ≡ old.gather) where
-  pub looked_grows : Grows old mid
-  looked_grows = record {
-    plan = ap (λ (x : Sight). x.mind.view.plan) found.sight ∙ plan;
-    knows = found_knows old.seat p s v xs mid.seat found;
-    gathers = let n = ap (λ (x : EventGather). length x.events) same in omega (arith, n);
-  }
+-- the conductor knows no less after a look
+pub looked_grows : (old : Conductor) (p : ℕ) (s : Seen) (x : Sight) → Looks old.seat p s x → Grows old (seated old x)
+looked_grows old p s x found = record {
+  plan = ap (λ (y : Sight). y.mind.view.plan) found.sight;
+  knows = found_knows old.seat p s (looked old.seat.mind.view p s.tag s.clock) _ x found;
+  gathers = omega arith;
+}
+
+module _ (due : Due) (limit p : ℕ) (old new : Conductor) (s : Seen) (x : Sight) (found : Looks old.seat p s x) where
+  abbrev mid : Conductor
+  mid = seated old x
+
+  learned : Grows old mid
+  learned = looked_grows old p s x found
 
   -- of which nothing is to be taken: it is at its end, or is started
   pub begun_on : has_nothing s.tag ≡ true → Grows mid new
@@ -159,7 +165,7 @@ module _ (due : Due) (limit p : ℕ) (old mid new : Conductor) (s : Seen) (v : V
                 ∙ (get_or-set_same old.seat.mind.over p (is_ended s.tag) false (let n = full.over in omega (arith, n, there))
                 ∙ ap is_ended drained),
           ))) grows.knows)
-      which (inl unborn) = go (still_back old.seat.mind mid.seat.mind tick p looked_grows.plan looked_grows.knows back)
+      which (inl unborn) = go (still_back old.seat.mind mid.seat.mind tick p learned.plan learned.knows back)
         where
           more : steps_of mid.seat.mind.view.plan p < get_or mid.seat.mind.left p 0
           more =
@@ -167,12 +173,12 @@ module _ (due : Due) (limit p : ℕ) (old mid new : Conductor) (s : Seen) (v : V
               ap (λ (x : Sight). get_or x.mind.left p 0) found.sight
               ∙ ap (λ (xs : List ℕ). get_or xs p 0) (seen_unborn old.seat.mind p s.tag unborn) in
               let tells = found.tells.unborn unborn in
-              subst (λ (q : PlanParts). steps_of q p < get_or mid.seat.mind.left p 0) (sym looked_grows.plan)
+              subst (λ (q : PlanParts). steps_of q p < get_or mid.seat.mind.left p 0) (sym learned.plan)
               (omega (arith, is_left, tells))
 
           go : HoldsBack mid.seat.mind tick p ⊎ Moves p old.seat.mind mid.seat.mind → GoesOn p old new
           go (inl now) =
-              inr (moves_front p old.seat.mind mid.seat.mind new.seat.mind looked_grows.knows (begins unborn more tick now))
+              inr (moves_front p old.seat.mind mid.seat.mind new.seat.mind learned.knows (begins unborn more tick now))
           go (inr moved) = inr (moves_back p old.seat.mind mid.seat.mind new.seat.mind moved grows.knows)
 
 -- a process that is started, if it can be, has moved

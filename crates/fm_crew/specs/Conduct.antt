@@ -1,5 +1,5 @@
 -- What a conductor's passes need and leave.
-use Rattle.std.specs.Prelude.{◌≡◌, ℕ, ◌-◌, ◌*◌, ◌<◌, ◌≤◌, List, [], length, take, true, false, Option, IfSome}
+use Rattle.std.specs.Prelude.{◌≡◌, ℕ, ◌-◌, ◌*◌, ◌<◌, ◌≤◌, List, [], length, true, false, Option, IfSome}
 use Rattle.atomic_table.specs.Seated.{TableId}
 use Rattle.fm_msg.specs.Event.{TimedMessage}
 use Rattle.fm_line.specs.Line.{line}
@@ -8,7 +8,7 @@ use Rattle.fm_buffer.specs.Gather.{EventGather}
 use Rattle.fm_core.specs.Floors.{floor_of}
 use Rattle.fm_core.specs.Taking.{due_of, is_due}
 use Rattle.fm_core.specs.declared.due.Due.{Due}
-use Rattle.fm_core.specs.declared.due.Due.TheVariants.{Nothing, Everything}
+use Rattle.fm_core.specs.declared.due.Due.TheVariants.{Nothing}
 use Rattle.fm_core.specs.declared.floor.Floor.{Floor}
 use Rattle.fm_core.specs.declared.floor.Floor.TheVariants.{At, Done}
 use Rattle.fm_program.specs.Process.{plan_lines}
@@ -27,19 +27,31 @@ use Rattle.fm_crew.specs.Onward.{IsFull}
 use Rattle.fm_crew.specs.declared.conductor.Conductor.{Conductor}
 use Rattle.fm_crew.specs.declared.limits.Pass.{Pass}
 
--- in a pass, after so many processes: while something is due these are visited and no other is
-pub record Passing (a : About) (v : View) (gather : EventGather) (due : Due) (limit n : ℕ) : Type 0 where
+-- the conductor's view in a pass about what is due, in which processes are run up to a limit
+pub record IsInPass (a : About) (v : View) (due : Due) (limit : ℕ) : Type 0 where
   pub plan : v.plan ≡ a.plan
   pub conductor : v.number ≡ 0
   pub due_is : v.due ≡ due
   pub in_lead : IsLimit v.paced a.lead limit
   pub marks : length v.visited ≡ processes v
+
+-- while something is due, the first n processes are visited and no other is
+pub record HasVisited (v : View) (due : Due) (n : ℕ) : Type 0 where
   pub front : is_due due ≡ true → (k : ℕ) → k < n → was_visited v k ≡ true
   pub back : is_due due ≡ true → (k : ℕ) → n ≤ k → was_visited v k ≡ false
+
+-- what was taken of the first n processes is gathered, and there is room for what the others may have
+pub record HasGathered (a : About) (v : View) (gather : EventGather) (due : Due) (n : ℕ) : Type 0 where
   pub taken : gather.events ≡ v.gathered
   pub few : length gather.events ≤ n * a.room
   pub none : is_due due ≡ false → gather.events ≡ []
   pub space : processes v * a.room ≤ gather.capacity
+
+-- in a pass, after so many processes
+pub record Passing (a : About) (v : View) (gather : EventGather) (due : Due) (limit n : ℕ) : Type 0 where
+  pub pass : IsInPass a v due limit
+  pub visits : HasVisited v due n
+  pub gathers : HasGathered a v gather due n
 
 -- a conductor in a pass, after so many processes: its seat holds nothing
 pub record Attends (t : TableId) (a : About) (c : Conductor) (p : Pass) (n : ℕ) : Type 0 where
@@ -62,20 +74,18 @@ TellsEnd v p clock = v.published ≡ Done → clock ≡ (line (lines_of v) p).en
 abbrev pub TellsLast : View → ℕ → ℕ → Type 0
 TellsLast v n clock = v.published ≡ Done → 0 < n → clock ≡ (line (lines_of v) (n - 1)).end
 
--- a seat and a gather as a conductor begins with them: as a new board's first seat is, and empty with room for all
--- that the outboxes can hold
-pub record MayConduct (t : TableId) (a : About) (s : Sight) (gather : EventGather) : Type 0 where
-  pub idle : IsIdle t a s
-  pub conductor : s.mind.view.number ≡ 0
-  pub due : s.mind.view.due ≡ Nothing
-  pub paced : s.mind.view.paced ≡ At 0
-  pub marks : length s.mind.view.visited ≡ processes s.mind.view
-  pub gathered : s.mind.view.gathered ≡ []
-  pub released : s.mind.view.released ≡ 0
-  pub running : s.mind.view.halted ≡ false
-  pub full : IsFull s.mind
-  pub empty : gather.events ≡ []
-  pub space : processes s.mind.view * a.room ≤ gather.capacity
+-- the first pass: nothing is due, and processes are run up to the lead
+abbrev pub first_pass : About → Pass
+first_pass a = record { due = Nothing; limit = a.lead }
+
+-- a conductor as it begins: before the first pass, with nothing released, and an empty gather with room for all that
+-- the outboxes can hold
+pub record MayConduct (t : TableId) (a : About) (c : Conductor) : Type 0 where
+  pub attends : Attends t a c (first_pass a) 0
+  pub paced : c.seat.mind.view.paced ≡ At 0
+  pub released : c.seat.mind.view.released ≡ 0
+  pub running : c.seat.mind.view.halted ≡ false
+  pub full : IsFull c.seat.mind
 
 -- a conductor's seat after an Ok: it has released every event of the piece, its last floor says that all is done, and a
 -- run of the core, in which its steps are those that it made, has played the whole piece
@@ -102,24 +112,32 @@ pub record IsConductor (t : TableId) (a : About) (s : Sight) : Type 0 where
   pub idle : IsIdle t a s
   pub conductor : s.mind.view.number ≡ 0
 
+-- the next events were released
+pub record ReleasesNext (old new : View) (events : List TimedMessage) : Type 0 where
+  pub releases : Releases old events
+  pub view : new ≡ released old (length events)
+
 module _ {K : Type 0} (content : K → Option (List ℕ)) (sure : K → Option ℕ) (faults : K → ℕ) where
-  -- the next events were released and written
-  pub record WritesNext (old new : View) (gather gather' : EventGather) (begin now : K) (writer writer' : Written)
-      (n : ℕ) : Type 0 where
+  -- the next events were released and written, and the gather is empty
+  pub record WritesNext (old new : Conductor) (begin now : K) (writer writer' : Written) (n : ℕ) : Type 0 where
     pub events : List TimedMessage
-    pub releases : Releases old events
-    pub view : new ≡ released old (length events)
-    pub many : length events ≡ length gather.events
-    pub cleared : gather' ≡ record gather { events = [] }
+    pub next : ReleasesNext old.seat.mind.view new.seat.mind.view events
+    pub gathered : length events ≡ length old.gather.events
+    pub cleared : new.gather ≡ record old.gather { events = [] }
     pub count : n ≡ length events
     pub writes : Writes content sure faults begin now events writer writer'
 
   -- the next events were released, and the sink failed before all were written
-  pub record BreaksNext (old new : View) (begin now : K) (writer : Written) : Type 0 where
+  pub record BreaksNext (old new : Conductor) (begin now : K) (writer : Written) : Type 0 where
     pub events : List TimedMessage
-    pub releases : Releases old events
-    pub view : new ≡ released old (length events)
+    pub next : ReleasesNext old.seat.mind.view new.seat.mind.view events
     pub breaks : Breaks content sure faults begin now (events_bytes writer.state events)
+
+  -- what comes next can be put into the sink
+  pub record CanPutNext (v : View) (begin : K) (writer : Written) : Type 0 where
+    pub within : v.released ≤ length (piece (lines_of v))
+    pub follow : (events : List TimedMessage) → Releases v events → CanFollow writer events
+    pub at_end : IfSome (content begin) (λ c. length c ≡ writer.put)
 
   -- a conductor that has visited what is due, and can put what comes next into the sink
   pub record CanRelease (t : TableId) (a : About) (c : Conductor) (due : Due) (begin : K) (writer : Written)
@@ -130,17 +148,4 @@ module _ {K : Type 0} (content : K → Option (List ℕ)) (sure : K → Option �
         → was_visited c.seat.mind.view p ≡ true
     pub taken : c.gather.events ≡ c.seat.mind.view.gathered
     pub none : is_due due ≡ false → c.gather.events ≡ []
-    pub within : c.seat.mind.view.released ≤ length (piece (lines_of c.seat.mind.view))
-    pub follow : (events : List TimedMessage) → Releases c.seat.mind.view events → CanFollow writer events
-    pub at_end : IfSome (content begin) (λ c. length c ≡ writer.put)
-
-  -- between two passes: what the seat counts as released is what the sink holds
-  pub record Conducting (a : About) (v : View) (gather : EventGather) (due : Due) (limit : ℕ) (start now : K)
-      (first writer : Written) (events : ℕ) : Type 0 where
-    pub passing : Passing a v gather due limit 0
-    pub running : v.halted ≡ false
-    pub done : due ≡ Everything → v.published ≡ Done
-    pub many : events ≡ v.released
-    pub within : v.released ≤ length (piece (lines_of v))
-    pub writes : Writes content sure faults start now (take v.released (piece (lines_of v))) first writer
-    pub at_end : IfSome (content now) (λ c. length c ≡ writer.put)
+    pub next : CanPutNext c.seat.mind.view begin writer

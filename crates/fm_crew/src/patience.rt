@@ -5,12 +5,13 @@ ghost use Rattle.fm_crew.specs.Conduct.{Attends, Stays};
 ghost use Rattle.fm_crew.specs.Onward.{Grows};
 ghost use Rattle.fm_crew.specs.Visiting.{Visited};
 
-use crate::Calls;
+use crate::bell::Bell;
 use crate::conductor::Conductor;
-use crate::idle::{Idle, LONG_SPINS};
+use crate::idle::Idle;
 use crate::limits::Pass;
 use crate::pass::attend;
 use fm_edge::Gate;
+use fm_taping::Calls;
 use std::sync::Wait;
 
 /// What a conductor does while a process is in other hands.
@@ -32,8 +33,8 @@ pub(crate) trait Patience {
             conductor.old pass process }
         requires turn { InTurn conductor.old.seat.mind.view process }
         ensures waited { waits self.now ≡ true → IsSome result }
-        ensures visited { IfSome result (Visited (B.table board.now) (B.about board.now) pass process
-            conductor.old conductor.new) }
+        ensures visited { IfSome result (Visited (B.table board.now) (B.about board.now)
+            pass process conductor.old conductor.new) }
         ensures stays { IfSome result
             (λ _. Stays conductor.old.seat.mind.view conductor.new.seat.mind.view) }
         ensures swept { IfSome result
@@ -41,7 +42,7 @@ pub(crate) trait Patience {
         ensures grows { IfSome result (λ _. Grows conductor.old conductor.new) };
 }
 
-/// A conductor beside other seats, which yields to them.
+/// A conductor beside other seats, which yields to them, and rests after a while.
 #[derive(Drop)]
 pub(crate) struct Patient<'a, R> {
     pub rt: &'a R,
@@ -99,9 +100,10 @@ fn wait_for<R: Wait, B: Calls, G: Gate>(
     ensures swept { length conductor.new.seat.mind.view.sweep ≡ process + 1 }
     ensures grows { Grows conductor.old conductor.new }
 {
-    let mut idle = Idle::new();
+    let mut idle = Idle::new(1);
+    let bell = Bell::new();
     for _ in rt.forever() {
-        idle.yield_soon(LONG_SPINS);
+        idle.stand(rt, &bell);
         if let Some(clock) = attend(board, gate, pass, conductor, process) {
             return clock;
         }

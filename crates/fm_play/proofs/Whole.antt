@@ -1,5 +1,7 @@
 -- The file of a plan's piece, from its start to its end.
 use Rattle.std.proofs.Common.{◌≡◌, ℕ, ◌+◌, ◌≤◌, List, [], length, Option, ap, ◌∙◌, subst, refl, arith, append-nil}
+use Rattle.std.specs.Prelude.{Result, IsErr}
+use Rattle.std.proofs.lemmas.Result.{MatchResult-from_err}
 use Rattle.fm_edge.specs.Runs.{Breaks}
 use Rattle.fm_line.specs.Piece.{piece}
 use Rattle.fm_program.specs.Parts.{PlanParts}
@@ -12,13 +14,23 @@ use Rattle.fm_smf.specs.declared.limits.TheConstants.{MAX_TIME}
 use Rattle.fm_smf.proofs.InTime.{end_fits}
 use Rattle.fm_smf.proofs.Writing.{broken_end, broken_more, finished_length, written_finished, written_last, written_more}
 use Rattle.fm_play.specs.Ends.{piece_end}
-use Rattle.fm_play.specs.Performance.{HasPiece, played_of}
+use Rattle.fm_play.specs.Performance.{HasPiece, HasWholeFile, Performs, played_of}
+use Rattle.fm_play.specs.declared.played.Played.{Played}
 use Rattle.fm_play.proofs.InTime.{CanWrite, can_write}
 use Rattle.fm_play.proofs.PlanFacts.{plan_valid}
 
 -- what is needed of the piece of a plan that fits
 pub plan_writable : (p : PlanParts) → PartsFit p → CanWrite p.profile (piece (plan_lines p)) (piece_end (plan_lines p))
 plan_writable p fits = can_write p.profile (plan_lines p) (plan_valid p fits)
+
+module _ {K : Type 0} (content : K → Option (List ℕ)) (sure : K → Option ℕ) (faults : K → ℕ) (p : PlanParts) (begin now : K) where
+  -- an error that is handed on, where the sink failed
+  pub broke_off : {E : Type 0} (r : Result Played E) → IsErr r
+      → IsBroken content sure faults begin now p.profile (piece (plan_lines p)) (piece_end (plan_lines p))
+      → Performs content sure faults begin now p r
+  broke_off r is broken =
+      MatchResult-from_err r (HasWholeFile content sure faults begin now p)
+      (λ _. IsBroken content sure faults begin now p.profile (piece (plan_lines p)) (piece_end (plan_lines p))) is (λ _. broken)
 
 module _ {K : Type 0} (content : K → Option (List ℕ)) (sure : K → Option ℕ) (faults : K → ℕ) (p : PlanParts) (begin : K) where
   module _ (a b : K) (w : Written) (begun : IsWritten content sure faults begin a p.profile [] w) where

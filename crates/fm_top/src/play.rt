@@ -1,11 +1,7 @@
 //! Plays a plan: alone, in rounds of threads, or by a crew of threads that run freely.
-ghost use Rattle.std.specs.Prelude.{◌≡◌, OnOk, OnErr, IfOk, IfErr};
+ghost use Rattle.std.specs.Prelude.{IfOk, IfErr};
 ghost use Rattle.fm_edge.specs.Content.{IsNew};
-ghost use Rattle.fm_line.specs.Piece.{piece};
-ghost use Rattle.fm_play.specs.Ends.{piece_end};
-ghost use Rattle.fm_play.specs.Performance.{played_of};
-ghost use Rattle.fm_program.specs.Process.{plan_lines};
-ghost use Rattle.fm_smf.specs.Writing.{IsFinished};
+ghost use Rattle.fm_play.specs.Performance.{HasWholeFile};
 ghost use Rattle.fm_words.specs.View.{HasRanges, options_view};
 ghost use Rattle.fm_top.specs.Outcome.{StopsAt};
 
@@ -20,7 +16,8 @@ use std::sync::Wait;
 use std::thread::Threads;
 
 /// Writes the file of the plan's piece into a new sink, in the way that the options ask for, and
-/// gives its size. All memory is taken before the first byte.
+/// gives its size. All memory is taken before the first byte. Without workers, and for a plan of one
+/// process, which has nothing to run beside it, no call is handed the runtime: none waits.
 pub fn play<R: Threads + Wait + Sync, G: Gate + Sync, K: Sink>(
     rt: &R,
     alloc: Global,
@@ -31,13 +28,13 @@ pub fn play<R: Threads + Wait + Sync, G: Gate + Sync, K: Sink>(
 ) -> Result<Played, RunFault>
     requires ranges { HasRanges (options_view options.now) }
     requires new { IsNew (K.content sink.old) }
-    ensures ok { OnOk result (IsFinished K.content K.sure K.faults sink.old sink.new
-        plan.profile (piece (plan_lines plan)) (piece_end (plan_lines plan))) }
+    ensures played { IfOk result (HasWholeFile K.content K.sure K.faults sink.old sink.new plan) }
     ensures err { IfErr result (StopsAt K.Sink sink.old sink.new plan) }
-    ensures played { IfOk result (λ played. played ≡ played_of plan) }
 {
     if options.workers == 0 {
         play_alone(alloc, plan, options, sink)
+    } else if plan.processes() < 2 {
+        conduct_only(alloc, plan, options, gate, sink)
     } else if options.rounds {
         play_in_rounds(rt, alloc, plan, options, gate, sink)
     } else {
@@ -54,13 +51,34 @@ fn play_alone<K: Sink>(
 ) -> Result<Played, RunFault>
     requires ranges { HasRanges (options_view options.now) }
     requires new { IsNew (K.content sink.old) }
-    ensures ok { OnOk result (IsFinished K.content K.sure K.faults sink.old sink.new
-        plan.profile (piece (plan_lines plan)) (piece_end (plan_lines plan))) }
+    ensures played { IfOk result (HasWholeFile K.content K.sure K.faults sink.old sink.new plan) }
     ensures err { IfErr result (StopsAt K.Sink sink.old sink.new plan) }
-    ensures played { IfOk result (λ played. played ≡ played_of plan) }
 {
     let rounds = Rounds::open(alloc, plan, options.room, options.lead)?;
     Ok(rounds.play_alone(sink)?)
+}
+
+// The same by a crew without workers, whose conductor runs all processes.
+fn conduct_only<G: Gate, K: Sink>(
+    alloc: Global,
+    plan: Plan,
+    options: &Options,
+    gate: &G,
+    sink: &mut K,
+) -> Result<Played, RunFault>
+    requires ranges { HasRanges (options_view options.now) }
+    requires new { IsNew (K.content sink.old) }
+    ensures played { IfOk result (HasWholeFile K.content K.sure K.faults sink.old sink.new plan) }
+    ensures err { IfErr result (StopsAt K.Sink sink.old sink.new plan) }
+{
+    let (board, mut conductor, _others) = fm_crew::open(
+        alloc,
+        plan,
+        options.room,
+        options.lead,
+        0,
+    )?;
+    Ok(fm_crew::conduct_alone(&board, &mut conductor, gate, sink)?)
 }
 
 // The same in rounds of as many threads as there are workers.
@@ -74,10 +92,8 @@ fn play_in_rounds<R: Threads + Sync, G: Gate + Sync, K: Sink>(
 ) -> Result<Played, RunFault>
     requires ranges { HasRanges (options_view options.now) }
     requires new { IsNew (K.content sink.old) }
-    ensures ok { OnOk result (IsFinished K.content K.sure K.faults sink.old sink.new
-        plan.profile (piece (plan_lines plan)) (piece_end (plan_lines plan))) }
+    ensures played { IfOk result (HasWholeFile K.content K.sure K.faults sink.old sink.new plan) }
     ensures err { IfErr result (StopsAt K.Sink sink.old sink.new plan) }
-    ensures played { IfOk result (λ played. played ≡ played_of plan) }
 {
     let rounds = Rounds::open(alloc, plan, options.room, options.lead)?;
     Ok(rounds.play(rt, options.workers, gate, sink)?)
@@ -94,23 +110,15 @@ fn play_by_crew<R: Threads + Wait + Sync, G: Gate + Sync, K: Sink>(
 ) -> Result<Played, RunFault>
     requires ranges { HasRanges (options_view options.now) }
     requires new { IsNew (K.content sink.old) }
-    ensures ok { OnOk result (IsFinished K.content K.sure K.faults sink.old sink.new
-        plan.profile (piece (plan_lines plan)) (piece_end (plan_lines plan))) }
+    ensures played { IfOk result (HasWholeFile K.content K.sure K.faults sink.old sink.new plan) }
     ensures err { IfErr result (StopsAt K.Sink sink.old sink.new plan) }
-    ensures played { IfOk result (λ played. played ≡ played_of plan) }
 {
-    // A plan of one process has nothing to run beside it.
-    let workers = if plan.processes() < 2 {
-        0
-    } else {
-        options.workers
-    };
     let (board, mut conductor, others) = fm_crew::open(
         alloc,
         plan,
         options.room,
         options.lead,
-        workers,
+        options.workers,
     )?;
     Ok(fm_crew::play(rt, &board, &mut conductor, others, gate, sink)?)
 }

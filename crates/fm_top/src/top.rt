@@ -22,6 +22,9 @@ use std::thread::Threads;
 /// console is told in one line of each run that does not end with that, of each large score that
 /// is played, and of a tick. Threads pass the gate round each time slice; a run with 0 workers has
 /// none, but for a record, which takes one worker at least.
+///
+/// No call waits for another thread with 0 workers, for a score of one process with any number of
+/// workers, and with `--list`, `--audit` or `--locate`. With `--record` one may.
 pub fn formula<R: Threads + Wait + Sync, S: Source, K: Sink, C: Console, G: Gate + Sync>(
     rt: &R,
     alloc: Global,

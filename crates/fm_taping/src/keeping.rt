@@ -1,4 +1,4 @@
-//! The calls of a board that are steps of the core, with a tape beside it. Each does what the
+//! The calls of a board that are steps of the core, with a recorder beside it. Each does what the
 //! board's call does, whatever becomes of the tape.
 ghost use Rattle.std.specs.Prelude.{◌≡◌, ◌&&◌, ◌<◌, ℕ, length, None, Option, Some, IfSome, if◌then◌else◌, nat_eq, slice_index_or, true};
 ghost use Rattle.fm_core.specs.Floors.{floor_eq, floor_of};
@@ -18,11 +18,12 @@ ghost use Rattle.fm_board.specs.Plays.{MayRelease};
 ghost use Rattle.fm_board.specs.Seats.{IsOurs, making};
 ghost use Rattle.fm_board.specs.Starting.{Starts};
 ghost use Rattle.fm_board.specs.View.{InTurn, giving, noted, processes, published, released};
-ghost use Rattle.fm_crew.specs.Crew.{IsWorkOf};
-ghost use Rattle.fm_crew.specs.Keeping.{Keeps, claim_step, is_news, look_step, pace_step, start_step};
+ghost use Rattle.fm_taping.specs.Works.{IsWorkOf};
+ghost use Rattle.fm_taping.specs.Keeping.{Keeps, claim_step, is_news, look_step, pace_step, start_step};
 
 use crate::Work;
 use crate::known::Known;
+use crate::recorder::Recorder;
 use fm_board::{Berth, Board, BoardSeat, Claim, Seen, Started};
 use fm_buffer::Gather;
 use fm_core::{Floor, MAX_SEATS, Step};
@@ -30,41 +31,37 @@ use fm_record::Tape;
 
 /// A look. Of seat 0 it is kept where it changes what the core keeps; of a worker it never is.
 #[tactic(auto, using(crate::proofs::Tapes::small_process))]
-pub fn look(
-    board: &Board,
-    tape: &mut Tape,
-    known: &mut Known,
-    seat: &mut BoardSeat,
-    process: u32,
-) -> Seen
+pub fn look(board: &Board, recorder: &mut Recorder, seat: &mut BoardSeat, process: u32) -> Seen
     requires ours { IsOurs board.now.table.shared.table_id board.now.about seat.old }
     requires turn { InTurn seat.old.mind.view process }
     ensures found { Looks seat.old process result seat.new }
-    ensures kept { Keeps tape.old
-        (look_step seat.old.mind.view.number known.old.look process result) tape.new }
+    ensures kept { Keeps recorder.old.tape
+        (look_step seat.old.mind.view.number recorder.old.known.look process result)
+        recorder.new.tape }
 {
     let number = seat.number();
     let seen = board.look(seat, process);
-    let step = step_of_look(number, known, process, &seen);
-    keep(tape, step);
+    let step = step_of_look(number, &mut recorder.known, process, &seen);
+    keep(&mut recorder.tape, step);
     seen
 }
 
 /// A pace. It is kept where it finds another floor than the seat found before.
-pub fn pace(board: &Board, tape: &mut Tape, known: &mut Known, seat: &mut BoardSeat) -> Floor
+pub fn pace(board: &Board, recorder: &mut Recorder, seat: &mut BoardSeat) -> Floor
     requires ours { IsOurs board.now.table.shared.table_id board.now.about seat.old }
     ensures paced { seat.new ≡ making seat.old (step.Pace seat.old.mind.view.number)
         (record seat.old.mind.view { paced = result }) seat.new.mind.log.seen }
     ensures own { seat.old.mind.view.number ≡ 0 → result ≡ seat.old.mind.view.published }
-    ensures kept { seat.old.mind.view.number < MAX_SEATS → Keeps tape.old
+    ensures kept { seat.old.mind.view.number < MAX_SEATS → Keeps recorder.old.tape
         (pace_step seat.old.mind.view.number
-        (slice_index_or known.old.floors seat.old.mind.view.number (At 0)) result) tape.new }
+        (slice_index_or recorder.old.known.floors seat.old.mind.view.number (At 0)) result)
+        recorder.new.tape }
 {
     let number = number_of(seat);
     let floor = board.pace(seat);
-    let before = known.note_pace(number, floor);
+    let before = recorder.known.note_pace(number, floor);
     let step = step_of_pace(number, before, floor);
-    keep(tape, step);
+    keep(&mut recorder.tape, step);
     floor
 }
 
@@ -72,7 +69,7 @@ pub fn pace(board: &Board, tape: &mut Tape, known: &mut Known, seat: &mut BoardS
 #[tactic(auto, using(crate::proofs::Tapes::small_process))]
 pub fn claim(
     board: &Board,
-    tape: &mut Tape,
+    recorder: &mut Recorder,
     seat: &mut BoardSeat,
     process: u32,
     expected: &Seen,
@@ -83,79 +80,75 @@ pub fn claim(
     requires tag { is_claimable seat.old.mind.view.number expected.now.tag ≡ true }
     ensures claims { Claims board.now.about seat.old process expected.now result seat.new }
     ensures kept { seat.old.mind.view.number < MAX_SEATS
-        → Keeps tape.old (claim_step seat.old.mind.view.number process result) tape.new }
+        → Keeps recorder.old.tape (claim_step seat.old.mind.view.number process result)
+        recorder.new.tape }
 {
     let number = number_of(seat);
     let claim = board.claim(seat, process, expected);
     let step = step_of_claim(number, process, &claim);
-    keep(tape, step);
+    keep(&mut recorder.tape, step);
     claim
 }
 
 /// A start. It is kept where it takes the process.
 #[tactic(auto, using(crate::proofs::Tapes::small_process))]
-pub fn start(board: &Board, tape: &mut Tape, seat: &mut BoardSeat, process: u32) -> Started
+pub fn start(board: &Board, recorder: &mut Recorder, seat: &mut BoardSeat, process: u32) -> Started
     requires ours { IsOurs board.now.table.shared.table_id board.now.about seat.old }
     requires there { process < processes seat.old.mind.view }
     requires idle { seat.old.mind.view.holds ≡ None }
     ensures starts { Starts board.now.about seat.old process result seat.new }
     ensures kept { seat.old.mind.view.number < MAX_SEATS
-        → Keeps tape.old (start_step seat.old.mind.view.number process result) tape.new }
+        → Keeps recorder.old.tape (start_step seat.old.mind.view.number process result)
+        recorder.new.tape }
 {
     let number = number_of(seat);
     let started = board.start(seat, process);
     let step = step_of_start(number, process, &started);
-    keep(tape, step);
+    keep(&mut recorder.tape, step);
     started
 }
 
 /// A record, which is always kept.
 #[tactic(auto, using(crate::proofs::Tapes::small_recorded))]
-pub fn record(board: &Board, tape: &mut Tape, seat: &mut BoardSeat, berth: &Berth)
+pub fn record(board: &Board, recorder: &mut Recorder, seat: &mut BoardSeat, berth: &Berth)
     requires ours { IsOurs board.now.table.shared.table_id board.now.about seat.old }
     requires may { MayRecord board.now.about seat.old.mind.view
         berth.now.process berth.now.strand }
     ensures seat { seat.new ≡ making seat.old
         (step.Record seat.old.mind.view.number berth.now.process) (noted seat.old.mind.view)
         seat.new.mind.log.seen }
-    ensures kept { seat.old.mind.view.number < MAX_SEATS → Keeps tape.old
-        (Some (step.Record seat.old.mind.view.number berth.now.process)) tape.new }
+    ensures kept { seat.old.mind.view.number < MAX_SEATS → Keeps recorder.old.tape
+        (Some (step.Record seat.old.mind.view.number berth.now.process)) recorder.new.tape }
 {
     let step = Step::Record {
         seat: number_of(seat),
         process: berth.process,
     };
     board.record(seat, berth);
-    keep(tape, Some(step));
+    keep(&mut recorder.tape, Some(step));
 }
 
 /// A give, which is always kept: just the step that the seat makes.
-pub fn give(board: &Board, tape: &mut Tape, seat: &mut BoardSeat, berth: Berth, work: Work)
+pub fn give(board: &Board, recorder: &mut Recorder, seat: &mut BoardSeat, berth: Berth, work: Work)
     requires ours { IsOurs board.now.table.shared.table_id board.now.about seat.old }
     requires may { MayGive board.now.about seat.old.mind.view
         berth.process berth.strand berth.outbox }
     requires told { IsWorkOf seat.old.mind.view (length berth.outbox.events) work }
     ensures gave { Gave board.now.about seat.old berth seat.new }
     ensures knows { Knows seat.old.mind seat.new.mind }
-    ensures kept { seat.old.mind.view.number < MAX_SEATS → Keeps tape.old
+    ensures kept { seat.old.mind.view.number < MAX_SEATS → Keeps recorder.old.tape
         (Some (giving seat.old.mind.view berth.process (length berth.outbox.events)
-        (clock_of board.now.about.plan berth.strand))) tape.new }
+        (clock_of board.now.about.plan berth.strand))) recorder.new.tape }
 {
     let number = number_of(seat);
     let clock = berth.strand.clock();
     let step = step_of_give(number, berth.process, clock, work);
     board.give(seat, berth);
-    keep(tape, Some(step));
+    keep(&mut recorder.tape, Some(step));
 }
 
 /// A publish, which is always kept. The next look of seat 0 begins a sweep.
-pub fn publish(
-    board: &Board,
-    tape: &mut Tape,
-    known: &mut Known,
-    seat: &mut BoardSeat,
-    floor: Floor,
-)
+pub fn publish(board: &Board, recorder: &mut Recorder, seat: &mut BoardSeat, floor: Floor)
     requires ours { IsOurs board.now.table.shared.table_id board.now.about seat.old }
     requires conductor { seat.old.mind.view.number ≡ 0 }
     requires swept { length seat.old.mind.view.sweep ≡ processes seat.old.mind.view }
@@ -164,16 +157,16 @@ pub fn publish(
     ensures seat { seat.new ≡ making seat.old step.Publish
         (published seat.old.mind.view floor (due_of (least seat.old.mind.view.sweep)))
         seat.new.mind.log.seen }
-    ensures kept { Keeps tape.old (Some step.Publish) tape.new }
-    ensures begins { known.new.look ≡ None }
+    ensures kept { Keeps recorder.old.tape (Some step.Publish) recorder.new.tape }
+    ensures begins { recorder.new.known.look ≡ None }
 {
     board.publish(seat, floor);
-    known.note_publish();
-    keep(tape, Some(Step::Publish));
+    recorder.known.note_publish();
+    keep(&mut recorder.tape, Some(Step::Publish));
 }
 
 /// A release, which is always kept, with how many events it settles.
-pub fn release(board: &Board, tape: &mut Tape, seat: &mut BoardSeat, gather: &mut Gather)
+pub fn release(board: &Board, recorder: &mut Recorder, seat: &mut BoardSeat, gather: &mut Gather)
     requires ours { IsOurs board.now.table.shared.table_id board.now.about seat.old }
     requires may { MayRelease seat.old.mind.view }
     requires taken { gather.old.events ≡ seat.old.mind.view.gathered }
@@ -182,11 +175,12 @@ pub fn release(board: &Board, tape: &mut Tape, seat: &mut BoardSeat, gather: &mu
     ensures gather { Releases seat.old.mind.view gather.new.events }
     ensures many { length gather.new.events ≡ length gather.old.events }
     ensures capacity { gather.new.capacity ≡ gather.old.capacity }
-    ensures kept { Keeps tape.old (Some (step.Release (length gather.new.events))) tape.new }
+    ensures kept { Keeps recorder.old.tape (Some (step.Release (length gather.new.events)))
+        recorder.new.tape }
 {
     board.release(seat, gather);
     let count = gather.events().len() as u32;
-    keep(tape, Some(Step::Release { count }));
+    keep(&mut recorder.tape, Some(Step::Release { count }));
 }
 
 // Puts a step on a tape, if there is one.

@@ -1,4 +1,4 @@
-//! The calls of a board that a crew makes.
+//! The calls of a board that its conductor and its workers make.
 ghost use Rattle.std.specs.Prelude.{◌≡◌, ◌<◌, ℕ, length, None, true};
 ghost use Rattle.atomic_table.specs.Seated.{TableId};
 ghost use Rattle.fm_core.specs.Floors.{floor_of};
@@ -15,7 +15,7 @@ ghost use Rattle.fm_board.specs.Seats.{IsOurs, making, seeing};
 ghost use Rattle.fm_board.specs.Starting.{Starts};
 ghost use Rattle.fm_board.specs.View.{InTurn, noted, processes, published, released};
 ghost use Rattle.fm_board.specs.declared.about.About.{About};
-ghost use Rattle.fm_crew.specs.Crew.{IsWorkOf};
+ghost use Rattle.fm_taping.specs.Works.{IsWorkOf};
 
 use fm_board::{Berth, Board, BoardSeat, Claim, Seen, Started};
 use fm_buffer::Gather;
@@ -31,6 +31,19 @@ pub struct Work {
     pub computed: u16,
     /// Whether it is at its end.
     pub ended: bool,
+}
+
+impl Work {
+    /// What was done with a process that was at its end: so many of its events were taken.
+    pub fn of_ended(taken: u8) -> Work
+        ensures { result ≡ record { taken = taken; computed = 0; ended = true } }
+    {
+        Work {
+            taken,
+            computed: 0,
+            ended: true,
+        }
+    }
 }
 
 /// The calls of a board that its conductor and its workers make. Whoever makes the same calls on a
