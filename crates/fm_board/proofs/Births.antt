@@ -48,6 +48,7 @@ use Rattle.fm_board.specs.Words.{IsSpoken, spell, word_at}
 use Rattle.fm_board.proofs.Starts.{starts_of}
 use Rattle.fm_strand.proofs.CallLemmas.{begun-place}
 use Rattle.fm_board.proofs.Steps.{Tidy, below_count, same_some, still_swept}
+use Rattle.fm_line.specs.declared.limits.TheConstants.{LAST_TICK}
 
 one_more : (f : ℕ → ℕ) (xs : List ℕ) (i : ℕ) → i < length xs
     → greatest (map f (take (suc i) xs)) ≡ max (greatest (map f (take i xs))) (f (get_or xs i 0))
@@ -131,7 +132,7 @@ starts_at key a t slots id i p new tick number m x same ours is at there idle ma
     (new_is ∙ (λ k. spell Out (starts_there k) (number_is k))))
 
 -- a process starts no later than the last tick
-pub start_low : (a : About) (p : ℕ) → start (plan_lines a.plan) p ≤ 2 ^ 40
+pub start_low : (a : About) (p : ℕ) → start (plan_lines a.plan) p ≤ LAST_TICK
 start_low a p =
     let l = line (plan_lines a.plan) p in
     let valid = lines-valid a.plan a.fits in

@@ -42,6 +42,7 @@ use Rattle.fm_board.proofs.Looking.{tells}
 use Rattle.fm_board.proofs.Runs.{begins_all, extends_on, extends_still, runs_on, runs_still}
 use Rattle.fm_board.proofs.Looks.{finds, found_tells, lined, says, sees_now, turned_seat, valid_of}
 use Rattle.fm_board.proofs.Found.{saw}
+use Rattle.fm_core.specs.declared.limits.TheConstants.{MAX_SEATS}
 
 pub same_some : {A : Type 0} (x y : A) → Some x ≡ Some y → x ≡ y
 same_some x y e = cc
@@ -246,7 +247,7 @@ module _ (a : About) (s : Table) (k : StandsForSome a s) (p id : ℕ) (m : Place
       )
 
 -- a claim is the core's claim where the word is the expected one, and none else
-pub claims_of : (a : About) (slots id p clock n old new : ℕ) (t : Tag) (m : Place) → m.0.view.holds ≡ None → p < count a → n ≤ 16
+pub claims_of : (a : About) (slots id p clock n old new : ℕ) (t : Tag) (m : Place) → m.0.view.holds ≡ None → p < count a → n < MAX_SEATS
     → is_claimable m.0.view.number t ≡ true → old ≡ spell t clock n → new ≡ spell (claimed_tag t) clock m.0.view.number
     → Allows (StandsForSome a) slots id m (word_at p) (λ x. either (eqb x old) new x) (claims (step slots (word_at p) old new none) m)
 claims_of a slots id p clock n old new t m holds near small_n can is_old is_new s k sized at small =

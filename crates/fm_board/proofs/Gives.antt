@@ -41,7 +41,7 @@ use Rattle.fm_board.specs.declared.view.Hold.{Hold}
 use Rattle.fm_board.specs.declared.view.Log.{Log}
 use Rattle.fm_board.specs.declared.view.Mind.{Mind}
 use Rattle.fm_board.specs.Calls as calls
-use Rattle.fm_board.specs.Given.{MayGiveAll}
+use Rattle.fm_board.proofs.Given.{MayGiveAll}
 use Rattle.fm_board.specs.Minds.{did, noticed}
 use Rattle.fm_board.specs.Plays.{GivesBack, Place, gives_back}
 use Rattle.fm_board.specs.StandsFor.{AtHome, Going, HoldsIn, IsSeat, IsSightOfZero, IsViewOf, Shown, StandsFor, StandsForSome, Table, count, setting}
@@ -54,6 +54,7 @@ use Rattle.fm_board.proofs.Runs.{begins_all, extends_on, runs_on}
 use Rattle.fm_board.proofs.Looks.{lined, sees_now, valid_of}
 use Rattle.fm_board.proofs.Spellings.{one_word, set_or_same, yes_or_no}
 use Rattle.fm_board.proofs.Views as views
+use Rattle.fm_line.specs.declared.limits.TheConstants.{LAST_TICK}
 
 same_some : {A : Type 0} (x y : A) → Some x ≡ Some y → x ≡ y
 same_some x y e = cc
@@ -265,7 +266,7 @@ module _ (a : About) (s : Table) (k : StandsForSome a s) (p id : ℕ) (m : Mind)
       left = length-set m.left p (steps_left a.plan t) ∙ w.left;
       known = length-set m.known p now ∙ w.known;
       over = length-set m.over p (is_ended tag) ∙ w.over;
-      low = set_or_same m.known p now 0 (λ j n. n ≤ 2 ^ 40) w.low
+      low = set_or_same m.known p now 0 (λ j n. n ≤ LAST_TICK) w.low
           (let late = end-late a.plan t may.strand.course in let top = ((valid_of a).lines.ends t.process).0 in
           omega (arith, late, top));
     };

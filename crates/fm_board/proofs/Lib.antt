@@ -1,6 +1,7 @@
 pub mod Frames
 pub mod Runs
 pub mod Releasing
+pub mod Given
 pub mod Giving
 pub mod Looking
 pub mod Views
@@ -29,7 +30,6 @@ pub mod Halts
 pub mod Recalls
 pub mod Findings
 pub mod Meetings
-pub mod Pairs
 pub mod Sweeping
 pub mod Advancing
 pub mod Taking

@@ -9,8 +9,7 @@ use Rattle.fm_core.proofs.Keeps as core
 use Rattle.fm_core.proofs.May.{may_look, may_pace}
 use Rattle.fm_core.specs.Effects.{after, visits_by_look}
 use Rattle.fm_core.specs.State.{Desk, State, cell, desk}
-use Rattle.fm_core.specs.Sweep.{swept}
-use Rattle.fm_core.specs.Sweep as sweep
+use Rattle.fm_core.specs.Sweep.{sighted, swept}
 use Rattle.fm_core.specs.Tags.{has_nothing}
 use Rattle.fm_core.specs.declared.cell.Cell.{Cell}
 use Rattle.fm_core.specs.declared.floor.Floor.{Floor}
@@ -58,7 +57,7 @@ looks_of a slots id p m near turn s k sized at small =
     let mine_is = ap (λ (n : ℕ). m.0.log.mine ++ Look n p ∷ []) seat.is.number in
     let w : Mind = spotted m.0 p c.tag c.clock word v xs in
     let h' : State = after (setting a) h (Look id p) in
-    let d : Desk = record (desk h id) { sweep = swept (desk h id).sweep p (sweep.sighted (setting a) h (desk h id).sweep p) } in
+    let d : Desk = record (desk h id) { sweep = swept (desk h id).sweep p (sighted (setting a) h (desk h id).sweep p) } in
     let same : 0 ≢ id → SameForZero h h' = (λ n. record {
       due = refl;
       visited = ap (λ b. if b && has_nothing c.tag then slice_set h.visited p true else h.visited) (ne_eqb id 0 (λ e. n (sym e)));

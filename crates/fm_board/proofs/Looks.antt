@@ -36,6 +36,8 @@ use Rattle.fm_core.specs.State.{held_by}
 use Rattle.fm_board.proofs.Looking.{tells}
 use Rattle.fm_board.specs.Runs.{Extends}
 use Rattle.fm_board.proofs.Spellings.{one_word, set_or_same, upper_low, yes_or_no}
+use Rattle.fm_line.specs.declared.limits.TheConstants.{LAST_TICK}
+use Rattle.fm_core.specs.declared.limits.TheConstants.{MAX_SEATS}
 
 -- the setting of a board is valid
 pub valid_of : (a : About) → ValidSetting (setting a)
@@ -49,10 +51,10 @@ module _ (a : About) (s : Table) (k : StandsForSome a s) where
   lined = k.sound.lined ∙ plan-lines-length a.plan
 
   -- a clock is at most the last tick
-  pub low : (p : ℕ) → p < length h.cells → (cell h p).clock ≤ 2 ^ 40
+  pub low : (p : ℕ) → p < length h.cells → (cell h p).clock ≤ LAST_TICK
   low p lt = by_case (yes_or_no (is_unborn (cell h p).tag))
     where
-      by_case : (is_unborn (cell h p).tag ≡ true) ⊎ (is_unborn (cell h p).tag ≡ false) → (cell h p).clock ≤ 2 ^ 40
+      by_case : (is_unborn (cell h p).tag ≡ true) ⊎ (is_unborn (cell h p).tag ≡ false) → (cell h p).clock ≤ LAST_TICK
       by_case (inl unborn) = let none_yet = (k.stands.words.shown p lt).unborn unborn in omega arith
       by_case (inr born) =
           let fits = k.sound.fits p lt in
@@ -60,10 +62,10 @@ module _ (a : About) (s : Table) (k : StandsForSome a s) where
           let top = upper_low (plan_lines a.plan) (valid_of a).lines p (cell h p).computed fits.computed in omega (arith, timed, top)
 
   -- a seat that is shown is at most 16
-  pub few : (p : ℕ) → p < length h.cells → (cell h p).seat ≤ 16
+  pub few : (p : ℕ) → p < length h.cells → (cell h p).seat < MAX_SEATS
   few p lt = by_case (yes_or_no (is_held (cell h p).tag))
     where
-      by_case : (is_held (cell h p).tag ≡ true) ⊎ (is_held (cell h p).tag ≡ false) → (cell h p).seat ≤ 16
+      by_case : (is_held (cell h p).tag ≡ true) ⊎ (is_held (cell h p).tag ≡ false) → (cell h p).seat < MAX_SEATS
       by_case (inl held) = let near = k.sound.seated p lt held in let crew = k.stands.crew in let most = a.crew.1 in omega arith
       by_case (inr free) = let none_yet = (k.stands.words.shown p lt).idle free in omega arith
 
@@ -78,7 +80,7 @@ module _ (a : About) (s : Table) (k : StandsForSome a s) where
       )
 
   -- what the word of a process says is what the process is
-  pub says : (p : ℕ) → p < length h.cells → (t : Tag) (c n : ℕ) → n ≤ 16 → get_or s.words (word_at p) 0 ≡ spell t c n
+  pub says : (p : ℕ) → p < length h.cells → (t : Tag) (c n : ℕ) → n < MAX_SEATS → get_or s.words (word_at p) 0 ≡ spell t c n
       → ((cell h p).tag ≡ t) × ((cell h p).clock ≡ c) × ((cell h p).seat ≡ n)
   says p lt t c n small e =
       one_word (cell h p).tag t (cell h p).clock c (cell h p).seat n (few p lt) small (sym (k.stands.words.spelt p lt) ∙ e)

@@ -23,9 +23,20 @@ use Rattle.fm_board.specs.declared.about.About.{About}
 use Rattle.fm_board.specs.declared.room.Room.{Room}
 use Rattle.fm_board.specs.declared.view.Mind.{Mind}
 use Rattle.fm_board.specs.Minds.{all_lefts, first_mind, lefts_from}
-use Rattle.fm_board.specs.StandsFor.{AtHome, Going, IsSeat, IsStocked, Shown, StandsForSome, count, halt_at, setting}
+use Rattle.fm_board.specs.StandsFor.{AtHome, Going, IsSeat, Shown, StandsForSome, count, halt_at, setting}
 use Rattle.fm_board.specs.Words.{spelt, word_at}
 use Rattle.fm_board.proofs.Looks.{valid_of}
+use Rattle.fm_strand.specs.declared.strand.Strand.{Strand}
+use Rattle.fm_strand.specs.Strand.{steps_left}
+
+-- the slots of a new board
+pub record IsStocked (a : About) (rooms : List (Option Room)) : Type 0 where
+  pub many : length rooms ≡ count a
+  pub each : (j : ℕ) → j < count a
+      → (stock : Room) × (get_elem? rooms j ≡ some (Some stock))
+      × AtHome a j (cell_in (root ∷ replicate (count a - 1) unborn) j) stock
+  pub first : (j : ℕ) (stock : Room) (x : Strand) → get_elem? rooms j ≡ some (Some stock) → stock.strand ≡ Some x
+      → (j ≡ 0) × (steps_left a.plan x ≡ steps_of a.plan 0)
 
 pub at_opening : (P : ℕ → Cell → Type 0) (n : ℕ) → P 0 root → ((q : ℕ) → P (suc q) unborn) → (p : ℕ)
     → P p (cell_in (root ∷ replicate (n - 1) unborn) p)

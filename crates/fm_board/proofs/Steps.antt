@@ -32,6 +32,7 @@ use Rattle.fm_board.specs.declared.seen.Seen.{Seen}
 use Rattle.fm_board.proofs.Loads.{looks_of}
 use Rattle.fm_board.proofs.Claims.{claims_of}
 use Rattle.fm_board.proofs.Starts.{recalls_of}
+use Rattle.fm_core.specs.declared.limits.TheConstants.{MAX_SEATS}
 
 -- a process below the view's count is below the board's
 pub below_count : (key a : About) (t : TableId) (x : Sight) (p : ℕ) → key ≡ a → IsOurs t a x → p < processes x.mind.view → p < count key
@@ -51,7 +52,7 @@ looks_at key a t slots id i p m x same ours is at turn =
 -- what was found, as it is told
 pub found_as : (t t' : TableId) (p r : ℕ) (m m' : Place) (f : View → Tag → ℕ → View) (g : Mind → Tag → Log) (s : Seen) (x : Sight)
     → Finds m p r (f m.0.view) (g m.0) m'
-    → s.seat ≤ 16
+    → s.seat < MAX_SEATS
     → r ≡ spell s.tag s.clock s.seat → t' ≡ t → record { table = t; mind = m.0 } ≡ x
     → Found x p s (f x.mind.view s.tag s.clock) (g x.mind s.tag) (record { table = t'; mind = m'.0 })
 found_as t t' p r m m' f g s x finds few word kept is =
@@ -69,7 +70,7 @@ found_as t t' p r m m' f g s x finds few word kept is =
 -- what a seat keeps of itself
 abbrev pub Tidy : ℕ → Bool → List Look → ℕ → Place → Type 0
 Tidy n o xs c m =
-    (n ≡ m.0.view.number) × (n ≤ 16) × (m.1 ≡ carried m.0.view.holds) × (m.0.view.holds ≢ None → o ≡ is_over m.0.view.holds)
+    (n ≡ m.0.view.number) × (n < MAX_SEATS) × (m.1 ≡ carried m.0.view.holds) × (m.0.view.holds ≢ None → o ≡ is_over m.0.view.holds)
     × IsSwept xs c m.0.view.sweep (length m.0.view.plan.programs)
 
 -- a step that leaves the sweep
@@ -105,7 +106,7 @@ idle_tidy n o xs c m m' tidy number holds sweep plan out = (
 pub claims_at : (key a : About) (t : TableId) (slots id i p old new : ℕ) (tag held : Tag) (clock n number : ℕ) (m : Place) (x : Sight)
     → key ≡ a → IsOurs t a x
     → m.0 ≡ x.mind → i ≡ word_at p → p < processes x.mind.view → x.mind.view.holds ≡ None → is_claimable x.mind.view.number tag ≡ true
-    → n ≤ 16
+    → n < MAX_SEATS
     → old ≡ spell tag clock n → held ≡ claimed_tag tag → number ≡ m.0.view.number → new ≡ spell held clock number
     → Allows (StandsForSome key) slots id m i (λ z. either (eqb z old) new z) (claims (step slots i old new none) m)
 claims_at key a t slots id i p old new tag held clock n number m x same ours is at there idle can few is_old is_held is_number is_new =

@@ -25,9 +25,9 @@ use Rattle.fm_program.specs.Process.{plan_lines}
 use Rattle.fm_board.specs.declared.about.About.{About}
 use Rattle.fm_board.specs.declared.room.Room.{Room}
 use Rattle.fm_board.specs.Minds.{fresh}
-use Rattle.fm_board.specs.StandsFor.{IsStocked, StrandAt, count}
+use Rattle.fm_board.specs.StandsFor.{StrandAt, count}
 use Rattle.fm_board.proofs.Frames.{at_below}
-use Rattle.fm_board.proofs.Openings.{at_opening}
+use Rattle.fm_board.proofs.Openings.{IsStocked, at_opening}
 
 -- a strand of the first process at its start, which stands at tick 0
 pub first_given : (p : PlanParts) (s : Strand) → PartsFit p → s.process ≡ 0 → InCourse p s → clock_of p s ≡ start (plan_lines p) 0

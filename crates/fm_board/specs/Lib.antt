@@ -4,9 +4,7 @@ pub mod Runs
 pub mod Calls
 pub mod Stalls
 pub mod StandsFor
-pub mod Given
 pub mod Quantum
-pub mod Tells
 pub mod Played
 pub mod Minds
 pub mod Plays

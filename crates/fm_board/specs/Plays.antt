@@ -27,6 +27,8 @@ use Rattle.fm_board.specs.View.{gave, giving, holding, lines_of, looked, noted, 
 use Rattle.fm_board.specs.Words.{IsLow, IsWord, floor_word, spell, word_at, place_at, place_word}
 use Rattle.fm_strand.specs.Course.{end_place, steps_of}
 use Rattle.fm_strand.specs.Strand.{steps_left}
+use Rattle.fm_line.specs.declared.limits.TheConstants.{LAST_TICK}
+use Rattle.fm_core.specs.declared.limits.TheConstants.{MAX_SEATS}
 
 -- a seat's mind, and the slots that are out with it
 abbrev pub Place : Type 0
@@ -39,7 +41,7 @@ pub record Tells (m : Mind) (p : ℕ) (t : Tag) (c : ℕ) : Type 0 where
   pub end : is_ended t ≡ true → c ≡ (line (lines_of m.view) p).end
   pub done : m.view.number ≡ 0 → m.view.published ≡ Done → is_ended t ≡ true
   pub unborn : is_unborn t ≡ true → steps_of m.view.plan p < slice_index_or m.left p 0
-  pub low : c ≤ 2 ^ 40
+  pub low : c ≤ LAST_TICK
   -- where there is no other seat, no process is in other hands
   pub alone : m.made ≡ 1 → m.view.number ≡ 0 → m.view.holds ≡ None → is_held t ≡ false
 
@@ -51,8 +53,8 @@ pub record Finds (m : Place) (p r : ℕ) (f : Tag → ℕ → View) (g : Tag →
   pub wide : length m.0.over ≡ processes m.0.view
   -- where there is no other seat, it is the word that the seat saw last of the process
   pub same : m.0.made ≡ 1 → m.0.view.number ≡ 0 → m.0.at ≡ p → r ≡ m.0.last
-  pub mind : (t : Tag) (c s : ℕ) → s ≤ 16 → r ≡ spell t c s → m'.0 ≡ spotted m.0 p t c r (f t c) (g t)
-  pub tells : (t : Tag) (c s : ℕ) → s ≤ 16 → r ≡ spell t c s → Tells m.0 p t c
+  pub mind : (t : Tag) (c s : ℕ) → s < MAX_SEATS → r ≡ spell t c s → m'.0 ≡ spotted m.0 p t c r (f t c) (g t)
+  pub tells : (t : Tag) (c s : ℕ) → s < MAX_SEATS → r ≡ spell t c s → Tells m.0 p t c
   pub extends : Extends m.0.view.number m.0.log m'.0.log
 
 -- ---- look and pace
@@ -98,7 +100,7 @@ pub record Hands (m : Place) (p : ℕ) (t : Tag) (c r : ℕ) (m' : Place) : Type
 -- the exchange of a process's word: it was the expected one, or another
 abbrev pub claims : Step (Option Room) → Place → ℕ → Place → Type 0
 claims st m r m' = (p : ℕ) → st.word ≡ word_at p
-    → (r ≡ st.first → (t : Tag) (c s : ℕ) → s ≤ 16 → st.first ≡ spell t c s → Hands m p t c r m')
+    → (r ≡ st.first → (t : Tag) (c s : ℕ) → s < MAX_SEATS → st.first ≡ spell t c s → Hands m p t c r m')
     × (r ≢ st.first → Finds m p r (λ t c. m.0.view) (λ t. m.0.log) m')
 
 -- ---- start
@@ -175,7 +177,7 @@ pub record GivesBack (m : Place) (p : ℕ) (t : Tag) (c : ℕ) (m' : Place) : Ty
 -- whatever the word that is stored spells
 abbrev pub gives_back : Step (Option Room) → Place → ℕ → Place → Type 0
 gives_back st m r m' =
-    (p : ℕ) (t : Tag) (c s : ℕ) → st.word ≡ word_at p → s ≤ 16 → st.first ≡ spell t c s → GivesBack m p t c m'
+    (p : ℕ) (t : Tag) (c s : ℕ) → st.word ≡ word_at p → s < MAX_SEATS → st.first ≡ spell t c s → GivesBack m p t c m'
 
 -- ---- publish and release
 

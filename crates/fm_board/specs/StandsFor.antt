@@ -1,5 +1,5 @@
 -- When words, slots and views stand for a state of the core.
-use Rattle.std.specs.Prelude.{nat_eq, ◌≡◌, ℕ, ◌+◌, ◌*◌, ◌<◌, ◌≤◌, ◌-◌, List, [], ◌∷◌, length, replicate, true, false, ◌||◌, All, Option, Some, None, slice_index_or}
+use Rattle.std.specs.Prelude.{nat_eq, ◌≡◌, ℕ, ◌+◌, ◌*◌, ◌<◌, ◌≤◌, List, [], ◌∷◌, length, true, false, ◌||◌, All, Option, Some, None, slice_index_or}
 use mathlib.Core.Option.{some}
 use mathlib.Core.Option as maybe
 use lib.ListN.{get_elem?}
@@ -7,7 +7,7 @@ use Rattle.atomic_table.specs.Table as table
 use Rattle.fm_line.specs.Line.{line}
 use Rattle.fm_core.specs.Invariant.{Sound}
 use Rattle.fm_core.specs.Effects.{Legal, run}
-use Rattle.fm_core.specs.State.{Setting, State, cell, cell_in, desk, no_desk, held_by, opening, root, unborn}
+use Rattle.fm_core.specs.State.{Setting, State, cell, cell_in, desk, no_desk, held_by, opening}
 use Rattle.fm_core.specs.Tags.{is_ended, is_held, is_unborn}
 use Rattle.fm_core.specs.Taking.{outbox}
 use Rattle.fm_core.specs.declared.cell.Cell.{Cell}
@@ -71,15 +71,6 @@ pub record Housed (a : About) (homes : List (maybe.Option (Option Room))) (cells
   pub many : length homes ≡ count a
   pub home : (j : ℕ) → j < length cells → is_held (cell_in cells j).tag ≡ false
       → (stock : Room) × (get_elem? homes j ≡ some (some (Some stock))) × AtHome a j (cell_in cells j) stock
-
--- the slots of a new board
-pub record IsStocked (a : About) (rooms : List (Option Room)) : Type 0 where
-  pub many : length rooms ≡ count a
-  pub each : (j : ℕ) → j < count a
-      → (stock : Room) × (get_elem? rooms j ≡ some (Some stock))
-      × AtHome a j (cell_in (root ∷ replicate (count a - 1) unborn) j) stock
-  pub first : (j : ℕ) (stock : Room) (x : Strand) → get_elem? rooms j ≡ some (Some stock) → stock.strand ≡ Some x
-      → (j ≡ 0) × (steps_left a.plan x ≡ steps_of a.plan 0)
 
 -- ---- views
 

@@ -24,14 +24,12 @@ use crate::room::Room;
 use crate::seat::BoardSeat;
 use crate::seen::Seen;
 use crate::stall::Stall;
-use crate::sweep::{enter, sight_of};
+use crate::sweep::enter;
 use crate::view::Mind;
-use crate::words::{
-    floor_of_word, held_tag, home_tag, index_of, is_at_end, seen_of, word_of, word_of_floor,
-};
+use crate::words::{floor_of_word, index_of, seen_of, word_of, word_of_floor};
 use atomic_table::Table;
 use fm_buffer::Gather;
-use fm_core::Floor;
+use fm_core::{Floor, Sight, Tag};
 use fm_strand::Plan;
 use std::alloc::Global;
 use std::marker::{Send, Sync};
@@ -80,7 +78,8 @@ impl Board {
             .token
             .load::<LookPlay>(&self.table.shared, index_of(process));
         let seen = seen_of(found);
-        let look = sight_of(&self.about.plan, seat.looks.as_slice(), process, &seen);
+        let predecessors = self.about.plan.predecessors(process);
+        let look = Sight::of(seen.tag, seen.clock, seat.looks.as_slice(), predecessors);
         enter(&mut seat.looks, process, look);
         seen
     }
@@ -107,7 +106,7 @@ impl Board {
         ensures { Claims self.now.about seat.old process expected.now result seat.new }
     {
         let old = word_of(expected.tag, expected.clock, expected.seat);
-        let new = word_of(held_tag(expected.tag), expected.clock, seat.number);
+        let new = word_of(expected.tag.claimed(), expected.clock, seat.number);
         let shared = &self.table.shared;
         let found = seat
             .token
@@ -117,7 +116,7 @@ impl Board {
                 found: seen_of(found),
             };
         }
-        seat.over = is_at_end(expected.tag);
+        seat.over = expected.tag.is_ended();
         match seat.token.exchange(shared, process as usize, None) {
             Some(room) => {
                 let Room { strand, outbox } = room;
@@ -150,7 +149,7 @@ impl Board {
             outbox,
         } = berth;
         let clock = strand.clock();
-        let tag = home_tag(self.about.room, seat.over, outbox.len());
+        let tag = Tag::given(self.about.room, seat.over, outbox.len());
         let new = word_of(tag, clock, 0);
         let shared = &self.table.shared;
         let room = Some(Room {

@@ -8,7 +8,8 @@ use Rattle.fm_edge.specs.Runs.{Breaks}
 use Rattle.fm_edge.proofs.Chains.{breaks_more}
 use Rattle.fm_smf.proofs.Tracks.{events_bytes-append}
 use Rattle.fm_msg.specs.Event.{TimedMessage}
-use Rattle.fm_line.specs.Line.{line, most_events}
+use Rattle.fm_line.specs.Line.{line}
+use Rattle.fm_line.specs.declared.limits.TheConstants.{MAX_EVENTS}
 use Rattle.fm_line.specs.Piece.{In, piece, sorted}
 use Rattle.fm_line.proofs.Members.{in_at}
 use Rattle.fm_line.proofs.Pieces.{length-piece}
@@ -104,7 +105,7 @@ module _ {K : Type 0} (content : K → Option (List ℕ)) (sure : K → Option �
 
   -- the number of events stays small
   pub few_events : (key : Option (ℕ × ℕ)) → FrontsFirst (parts p key (plan_lines p) ss)
-      → events + length (joined (map (due key) ss)) ≤ most_events
+      → events + length (joined (map (due key) ss)) ≤ MAX_EVENTS
   few_events key before =
       let valid = plan_valid p fits in
       let after = released p key (plan_lines p) ss between.done same_count between.playing before in

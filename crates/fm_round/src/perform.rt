@@ -13,12 +13,12 @@ ghost use Rattle.fm_round.specs.Watching.{Watched};
 
 use crate::begin::{begin_first, begin_next};
 use crate::least::least;
-use crate::limits::MAX_PROCESSES;
 use crate::release::release;
 use crate::slot::Slot;
 use crate::watch::Watch;
 use fm_buffer::Gather;
 use fm_edge::Sink;
+use fm_line::MAX_PROCESSES;
 use fm_smf::{SinkFault, Writer};
 use fm_strand::Plan;
 

@@ -1,8 +1,7 @@
 //! Takes what is due out of the outboxes, and writes it.
 ghost use Rattle.std.specs.Prelude.{◌≡◌, ◌+◌, ◌≤◌, ◌++◌, [], length, map, OnOk, OnErr, IfOk, IfSome};
 ghost use Rattle.fm_edge.specs.Runs.{Breaks};
-ghost use Rattle.fm_line.specs.Piece.{sorted};
-ghost use Rattle.fm_line.proofs.Sorting.{Ordered};
+ghost use Rattle.fm_line.specs.Piece.{sorted, Ordered};
 ghost use Rattle.fm_smf.specs.Track.{events_bytes};
 ghost use Rattle.fm_smf.specs.Writing.{Writes};
 ghost use Rattle.fm_play.specs.Ends.{CanFollow};

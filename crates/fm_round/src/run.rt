@@ -5,9 +5,10 @@ ghost use Rattle.fm_round.specs.Chain.{Cuts, Enters, IsChain, OthersIdleFrom, li
 ghost use Rattle.fm_round.specs.Hands.{MayRun};
 ghost use Rattle.fm_round.specs.Slots.{AreSlots, NoneRuns, RunsAll, RunsEach, SomeRuns};
 
-use crate::limits::{MAX_PROCESSES, MAX_WORKERS};
+use crate::limits::MAX_WORKERS;
 use crate::slot::{Slot, is_live, run_slot};
 use fm_edge::{Gate, OpenGate};
+use fm_line::MAX_PROCESSES;
 use fm_strand::Plan;
 use std::thread::{Threads, join_mut};
 

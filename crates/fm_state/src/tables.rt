@@ -1,7 +1,6 @@
 //! The state of the core in vectors whose memory is taken once.
 ghost use Rattle.std.specs.Prelude.{◌≡◌, ◌+◌, ◌<◌, ◌≤◌, ◌++◌, [], length, map, IfOk, true, replicate, slice_set, vec_len, vec_capacity};
-ghost use Rattle.fm_line.specs.Piece.{sorted};
-ghost use Rattle.fm_line.proofs.Sorting.{Ordered};
+ghost use Rattle.fm_line.specs.Piece.{sorted, Ordered};
 ghost use Rattle.fm_core.specs.State.{cell, desk, visited, no_desk, opening};
 ghost use Rattle.fm_core.specs.Effects.{with_cell, with_desk, published};
 ghost use Rattle.fm_core.specs.Numbers.{any_below};
@@ -12,10 +11,9 @@ ghost use Rattle.fm_state.specs.Stored.{Stored, desk_of, IsDesk, AreDesks};
 
 use crate::desk::Desk;
 use crate::holds::{begin_hold, end_hold};
-use crate::pairs::{lesser_pair, pair_of};
 use crate::visits::Visits;
 use fm_buffer::Gather;
-use fm_core::{Cell, Due, Floor, Sight, Tag};
+use fm_core::{Cell, Due, Floor, Sight, Tag, lesser_pair};
 use fm_msg::Event;
 use std::alloc::{AllocError, Global};
 use std::marker::Model;
@@ -331,7 +329,7 @@ fn enter_sight(desk: &mut Desk, process: u32, sight: Sight)
     ensures least { desk.new.least ≡ least desk.new.sweep.items }
     ensures capacity { vec_capacity desk.new.sweep ≡ vec_capacity desk.old.sweep }
 {
-    let pair = pair_of(sight, process);
+    let pair = sight.pair(process);
     if process == 0 {
         desk.sweep.clear();
         desk.sweep.push_reserved(sight);
