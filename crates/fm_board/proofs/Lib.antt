@@ -10,6 +10,7 @@ pub mod Looks
 pub mod Loads
 pub mod Claims
 pub mod Found
+pub mod ComingHome
 pub mod Gives
 pub mod Later
 pub mod Publishing
@@ -21,6 +22,7 @@ pub mod Tokens
 pub mod OneState
 pub mod Steps
 pub mod Returns
+pub mod Peeks
 pub mod Starts
 pub mod Births
 pub mod Records

@@ -20,7 +20,7 @@ use Rattle.fm_board.specs.declared.view.Log.{Log}
 use Rattle.fm_board.specs.declared.view.Mind.{Mind}
 use Rattle.fm_board.specs.declared.view.View.{View}
 use Rattle.fm_board.specs.Minds.{did, spotted, stepping}
-use Rattle.fm_board.specs.Plays.{Finds, Place, looks, paces}
+use Rattle.fm_board.specs.Plays.{Finds, Holder, looks, paces}
 use Rattle.fm_board.specs.StandsFor.{IsSeat, IsSightOfZero, IsViewOf, StandsForSome, count, setting}
 use Rattle.fm_board.specs.View.{InTurn, looked}
 use Rattle.fm_board.specs.Words.{word_at}
@@ -43,7 +43,7 @@ turned v p xs same turn = by_case turn.turn
     by_case (inr (inr e)) = or_right _ _ (eq-eqb (p + 1) (length xs) (e ∙ ap length same))
 
 -- a look is the core's look
-pub looks_of : (a : About) (slots id p : ℕ) (m : Place) → p < count a → InTurn m.0.view p
+pub looks_of : (a : About) (slots id p : ℕ) (m : Holder) → p < count a → InTurn m.0.view p
     → Allows (StandsForSome a) slots id m (word_at p) (λ n. n) (looks (step slots (word_at p) 0 0 none) m)
 looks_of a slots id p m near turn s k sized at small =
     let h : State = k.core in
@@ -92,7 +92,7 @@ looks_of a slots id p m near turn s k sized at small =
     )
 
 -- a pace is the core's pace
-pub paces_of : (a : About) (slots id : ℕ) (m : Place) → Allows (StandsForSome a) slots id m 0 (λ n. n) (paces (step slots 0 0 0 none) m)
+pub paces_of : (a : About) (slots id : ℕ) (m : Holder) → Allows (StandsForSome a) slots id m 0 (λ n. n) (paces (step slots 0 0 0 none) m)
 paces_of a slots id m s k sized at small =
     let h : State = k.core in
     let seat = k.stands.views.viewed id m.0 at in

@@ -11,7 +11,7 @@ use Rattle.fm_board.specs.declared.view.Log.{Log}
 use Rattle.fm_board.specs.declared.view.Mind.{Mind}
 use Rattle.fm_board.specs.declared.view.View.{View}
 use Rattle.fm_board.specs.Minds.{spotted}
-use Rattle.fm_board.specs.Plays.{Place}
+use Rattle.fm_board.specs.Plays.{Holder}
 use Rattle.fm_board.specs.Seats.{IsSwept, carried}
 use Rattle.fm_board.specs.View.{InTurn, entered, is_over, looked}
 use Rattle.fm_board.proofs.Steps.{Tidy}
@@ -27,7 +27,7 @@ swept_within xs p n x near within = go (nat_eq p 0) (nat_eq p (length xs)) refl 
     go false false e f = within
 
 -- after a look
-pub looked_tidy : (n : ℕ) (o : Bool) (xs xs' lent : List Look) (c c' p k r : ℕ) (t : Tag) (m m' : Place) (y : Mind) (pl : PlanParts)
+pub looked_tidy : (n : ℕ) (o : Bool) (xs xs' lent : List Look) (c c' p k r : ℕ) (t : Tag) (m m' : Holder) (y : Mind) (pl : PlanParts)
     (x : Look) (made : Log) (ps : List ℕ)
     → Tidy n o xs c m → m.0 ≡ y → InTurn y.view p → y.view.plan ≡ pl → m'.0 ≡ spotted m.0 p t k r (looked m.0.view p t k) made → m'.1 ≡ m.1
     → lent ≡ xs → ps ≡ (line (plan_lines pl) p).predecessors → x ≡ sight_at t k lent ps → xs' ≡ swept xs p x → c' ≡ c → Tidy n o xs' c' m'

@@ -17,7 +17,7 @@ use Rattle.fm_program.specs.Process.{plan_lines}
 use Rattle.fm_strand.specs.declared.strand.Strand.{Strand}
 use Rattle.fm_strand.specs.Strand.{steps_left}
 use Rattle.fm_board.specs.declared.about.About.{About}
-use Rattle.fm_board.specs.declared.room.Room.{Room}
+use Rattle.fm_board.specs.declared.deposit.Deposit.{Deposit}
 use Rattle.fm_board.specs.declared.view.Hold.{Hold}
 use Rattle.fm_board.specs.declared.view.View.{View}
 use Rattle.fm_board.specs.declared.view.Mind.{Mind}
@@ -61,16 +61,16 @@ StrandAt a j c (Some s) =
     (is_unborn c.tag ≡ false)
 
 -- the slot of a process that nobody holds
-pub record AtHome (a : About) (j : ℕ) (c : Cell) (stock : Room) : Type 0 where
+pub record AtHome (a : About) (j : ℕ) (c : Cell) (stock : Deposit) : Type 0 where
   pub strand : StrandAt a j c stock.strand
   pub box : stock.outbox ≡ record { room = a.room; events = outbox (line (plan_lines a.plan) j) c }
   pub recorded : c.recorded ≡ is_ended c.tag
 
 -- each process that nobody holds is at home
-pub record Housed (a : About) (homes : List (maybe.Option (Option Room))) (cells : List Cell) : Type 0 where
+pub record Housed (a : About) (homes : List (maybe.Option (Option Deposit))) (cells : List Cell) : Type 0 where
   pub many : length homes ≡ count a
   pub home : (j : ℕ) → j < length cells → is_held (cell_in cells j).tag ≡ false
-      → (stock : Room) × (get_elem? homes j ≡ some (some (Some stock))) × AtHome a j (cell_in cells j) stock
+      → (stock : Deposit) × (get_elem? homes j ≡ some (some (Some stock))) × AtHome a j (cell_in cells j) stock
 
 -- ---- views
 
@@ -164,7 +164,7 @@ pub record IsRun (a : About) (views : List Mind) (h : State) : Type 0 where
 
 -- a table of the board
 abbrev pub Table : Type 0
-Table = table.State (Option Room) Mind
+Table = table.State (Option Deposit) Mind
 
 -- the words, the slots and the views stand for this state
 pub record StandsFor (a : About) (s : Table) (h : State) : Type 0 where
@@ -179,7 +179,7 @@ pub record StandsFor (a : About) (s : Table) (h : State) : Type 0 where
 pub record Going (a : About) (s : Table) (h : State) : Type 0 where
   pub left : ℕ → ℕ
   -- of who is at home, and of who is held, as its seat was told
-  pub home : (j : ℕ) (stock : Room) (x : Strand) → get_elem? s.homes j ≡ some (some (Some stock))
+  pub home : (j : ℕ) (stock : Deposit) (x : Strand) → get_elem? s.homes j ≡ some (some (Some stock))
       → stock.strand ≡ Some x
       → steps_left a.plan x ≡ left j
   pub held : (k : ℕ) (m : Mind) → get_elem? s.views k ≡ some m → (x : Hold) → m.view.holds ≡ Some x

@@ -7,7 +7,7 @@ ghost use Rattle.fm_core.specs.Sweep.{least};
 ghost use Rattle.fm_core.specs.Tags.{is_claimable};
 ghost use Rattle.fm_core.specs.Taking.{due_of};
 ghost use Rattle.fm_core.specs.declared.due.Due.TheVariants.{Nothing};
-ghost use Rattle.fm_board.specs.Calls.{MayGive, Releases};
+ghost use Rattle.fm_board.specs.Calls.{MayComeBack, Releases};
 ghost use Rattle.fm_core.specs.declared.step.Step.TheVariants.{Pace, Publish, Release};
 ghost use Rattle.fm_board.specs.Seats.{IsOurs, making};
 ghost use Rattle.fm_board.specs.Answers.{Claims, Gave, Looks};
@@ -20,7 +20,7 @@ use crate::about::About;
 use crate::berth::Berth;
 use crate::claim::Claim;
 use crate::plays::{ClaimPlay, GivePlay, Kept, LookPlay, PacePlay, PublishPlay};
-use crate::room::Room;
+use crate::deposit::Deposit;
 use crate::seat::BoardSeat;
 use crate::seen::Seen;
 use crate::stall::Stall;
@@ -39,7 +39,7 @@ use std::marker::{Send, Sync};
 #[derive(Drop)]
 pub struct Board {
     pub about: About,
-    pub table: Table<Option<Room>, Mind, About, Kept, Global>,
+    pub table: Table<Option<Deposit>, Mind, About, Kept, Global>,
     ghost same: { (table.shared.key ≡ about)
         × (table.shared.table_id.words ≡ 2 + 10 * length about.plan.programs)
         × (table.shared.table_id.slots ≡ length about.plan.programs) },
@@ -119,7 +119,7 @@ impl Board {
         seat.over = expected.tag.is_ended();
         match seat.token.exchange(shared, process as usize, None) {
             Some(room) => {
-                let Room { strand, outbox } = room;
+                let Deposit { strand, outbox } = room;
                 match strand.runner() {
                     Some(strand) => Claim::Held(Berth {
                         process,
@@ -137,7 +137,7 @@ impl Board {
     /// of its word. Events of its outbox that are due, and not taken yet, seat 0 has to have taken.
     pub fn give(&self, seat: &mut BoardSeat, berth: Berth)
         requires ours { IsOurs self.now.table.shared.table_id self.now.about seat.old }
-        requires may { MayGive self.now.about seat.old.mind.view
+        requires may { MayComeBack self.now.about seat.old.mind.view
             berth.process berth.strand berth.outbox }
         ensures gave { Gave self.now.about seat.old berth seat.new }
         ensures knows { Knows seat.old.mind seat.new.mind }
@@ -152,7 +152,7 @@ impl Board {
         let tag = Tag::given(self.about.room, seat.over, outbox.len());
         let new = word_of(tag, clock, 0);
         let shared = &self.table.shared;
-        let room = Some(Room {
+        let room = Some(Deposit {
             strand: Stall::of(strand),
             outbox,
         });

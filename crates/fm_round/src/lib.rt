@@ -9,16 +9,17 @@
 
 mod begin;
 mod chain;
+mod course;
+mod lane;
 mod least;
 mod limits;
-mod perform;
 mod release;
 mod rounds;
 mod run;
-mod slot;
+mod stage;
 mod watch;
 
 pub use fm_play::Played;
 pub use fm_strand::Plan;
-pub use limits::MAX_WORKERS;
+pub use limits::{MAX_PROCESSES, MAX_WORKERS};
 pub use rounds::Rounds;

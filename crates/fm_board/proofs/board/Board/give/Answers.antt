@@ -4,13 +4,13 @@ use Rattle.fm_buffer.specs.Outbox.{EventQueue}
 use Rattle.fm_strand.specs.declared.strand.Strand.{Strand}
 use Rattle.fm_program.specs.Parts.{PlanParts}
 use Rattle.fm_board.specs.Plays.{left_of}
-use Rattle.fm_board.specs.Seats.{Sight}
-use Rattle.fm_board.specs.declared.room.Room.{Room}
+use Rattle.fm_board.specs.Seats.{SeatState}
+use Rattle.fm_board.specs.declared.deposit.Deposit.{Deposit}
 use Rattle.fm_board.proofs.Returns.{clock_low, gave_as, gave_extends, gave_knows, gave_tidy, gives_at}
 use Rattle.fm_board.proofs.board.Board.give.Goals as goal
 
 -- a slot with this in it
-abbrev holding : Option Strand → EventQueue → Room
+abbrev holding : Option Strand → EventQueue → Deposit
 holding strand box = record { strand = strand; outbox = box }
 
 pub word_of-new-requires : goal.word_of-new-requires
@@ -27,7 +27,7 @@ store-requires-clause-may c =
     ∙ ap (λ (o : Option Strand). (me.0, (c.args.berth.process, Some (holding o c.args.berth.outbox)) ∷ rest me.1)) c.of.ensures in
     gives_at _ c.args.self.now.about _ _ _ c.args.berth.process _ c.len.result _ _ _ _ _ _ c.seat.inside.token.me _ c.args.berth.strand
     c.args.berth.outbox c.args.seat.now
-    c.args.self.now.same.0 (ap (λ (x : Sight). x.mind) c.seat.view_is) c.index_of.ensures c.requires.may c.len.ensures.bound.within
+    c.args.self.now.same.0 (ap (λ (x : SeatState). x.mind) c.seat.view_is) c.index_of.ensures c.requires.may c.len.ensures.bound.within
     c.seat.invariant
     c.given-tag.ensures c.len.ensures.value (c.clock-clock.ensures c.args.self.now.about.plan c.requires.may.strand.course)
     c.word_of-new.ensures brought

@@ -1,7 +1,7 @@
 use Rattle.std.proofs.Common.{arith, ◌∙◌, sym, subst}
 use Rattle.fm_board.specs.Answers.{Found}
 use Rattle.fm_board.specs.Minds.{recalled}
-use Rattle.fm_board.specs.Seats.{Sight}
+use Rattle.fm_board.specs.Seats.{SeatState}
 use Rattle.fm_board.proofs.Findings.{marked_now, ours_seen, seen_found, there_seen}
 use Rattle.fm_board.proofs.board.Board.recall.Goals as goal
 
@@ -26,7 +26,7 @@ pub returns-then-is_ended : goal.returns-then-is_ended
 returns-then-is_ended c = (
   record {
     seen = c.peek-found.result;
-    found = subst (λ (z : Sight). Found c.args.seat.now c.args.process c.peek-found.result c.args.seat.now.mind.view
+    found = subst (λ (z : SeatState). Found c.args.seat.now c.args.process c.peek-found.result c.args.seat.now.mind.view
         (recalled c.args.seat.now.mind c.args.process z.mind.log.seen c.peek-found.result.tag) z)
         (sym c.end_of.ensures.seat)
         c.peek-found.ensures.found;
