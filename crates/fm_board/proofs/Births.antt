@@ -1,5 +1,5 @@
 -- The parts of a start: marks of predecessors, the greatest of their ends, and what the seat holds then.
-use Rattle.std.proofs.Common.{◌≡◌, ◌≢◌, ℕ, zero, suc, ◌+◌, ◌-◌, ◌^◌, ◌<◌, ◌≤◌, List, [], ◌∷◌, length, map, take, drop, get_or, set, max, Bool, true, false, Option, Some, None, refl, sym, ap, ◌∙◌, subst, arith, eqb, get_or-set_same}
+use Rattle.std.proofs.Common.{◌≡◌, ◌≢◌, ℕ, zero, suc, ◌+◌, ◌-◌, ◌<◌, ◌≤◌, List, [], ◌∷◌, length, map, take, drop, get_or, set, max, Bool, true, false, Option, Some, None, refl, sym, ap, ◌∙◌, subst, arith, eqb, get_or-set_same}
 use Rattle.std.specs.Prelude.{◌||◌}
 use Rattle.std.proofs.lemmas.List.{get_or_past}
 use Rattle.fm_msg.specs.Event.{TimedMessage}

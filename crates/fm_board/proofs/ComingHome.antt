@@ -1,27 +1,23 @@
 -- What comes home with a give is what the core says, and so is the step of it.
-use Rattle.std.proofs.Common.{◌≡◌, ◌≢◌, ◌⊎◌, ℕ, ◌+◌, ◌-◌, ◌^◌, ◌<◌, ◌≤◌, List, [], ◌∷◌, ◌++◌, length, get_or, set, take, drop, Bool, true, false, Option, Some, refl, sym, ap, ◌∙◌, subst, inl, inr, arith, eqb-true, ne_eqb, get_or-set_same, append-nil}
+use Rattle.std.proofs.Common.{◌≡◌, ◌≢◌, ◌⊎◌, ℕ, ◌+◌, ◌-◌, ◌<◌, ◌≤◌, List, [], ◌∷◌, ◌++◌, length, get_or, set, take, drop, Bool, true, false, Some, refl, sym, ap, ◌∙◌, subst, inl, inr, arith, eqb-true, ne_eqb, get_or-set_same, append-nil}
 use Rattle.std.specs.Prelude.{◌&&◌, ◌||◌, nat_eq, not, if◌then◌else◌, slice_set}
 use Rattle.std.proofs.lemmas.List.{length-drop, length-take}
-use mathlib.Core.Option.{some, none}
+use mathlib.Core.Option.{some}
 use lib.ListN.{get_elem?}
-use Rattle.atomic_table.specs.Table.{Allows, gives, step}
 use Rattle.fm_line.specs.declared.line.Line.{Line}
-use Rattle.fm_line.specs.Line.{line, last_tick}
-use Rattle.fm_core.proofs.Booleans.{both, clash, right_false, left_false}
+use Rattle.fm_line.specs.Line.{line}
+use Rattle.fm_core.proofs.Booleans.{both, right_false, left_false}
 use Rattle.fm_core.proofs.Elements.{or_set, take_none}
 use Rattle.fm_core.proofs.Given.{given_ended, given_not_held, given_not_unborn, take_le}
-use Rattle.fm_core.proofs.GiveTests.{may_give}
-use Rattle.fm_core.proofs.Keeps as core
 use Rattle.fm_core.specs.Effects.{after, given, visits_by_give}
 use Rattle.fm_core.specs.State.{State, cell, held_by, unborn}
-use Rattle.fm_core.specs.Tags.{given_tag, is_ended, is_held, is_unborn}
+use Rattle.fm_core.specs.Tags.{is_ended, is_held}
 use Rattle.fm_core.specs.Taking.{count_due, is_due, outbox}
 use Rattle.fm_core.specs.Taking as taking
 use Rattle.fm_core.specs.declared.cell.Cell.{Cell}
 use Rattle.fm_core.specs.declared.due.Due.{Due}
 use Rattle.fm_core.specs.declared.step.Step.{Step}
 use Rattle.fm_core.specs.declared.step.Step.TheVariants.{Give}
-use Rattle.fm_core.specs.declared.tag.Tag.{Tag}
 use Rattle.fm_buffer.specs.Outbox.{EventQueue}
 use Rattle.fm_program.specs.Process.{plan_lines}
 use Rattle.fm_strand.specs.declared.strand.Strand.{Strand}
@@ -30,11 +26,6 @@ use Rattle.fm_strand.specs.Course.{steps_of}
 use Rattle.std.specs.Prelude.{All}
 use Rattle.std.proofs.lemmas.List.Elements.{All-append, All-drop, All-weaker}
 use Rattle.fm_msg.specs.Event.{TimedMessage}
-use Rattle.fm_program.specs.Parts.{PlanParts}
-use Rattle.fm_board.specs.Knowing.{Knows}
-use Rattle.fm_strand.proofs.WholeLemmas.{end-late}
-use Rattle.std.proofs.lemmas.List.{length-set}
-use Rattle.fm_board.proofs.Goings.{alone_on, back_home, changes, put_left, put_less, put_same}
 use Rattle.fm_board.specs.declared.about.About.{About}
 use Rattle.fm_board.specs.declared.deposit.Deposit.{Deposit}
 use Rattle.fm_board.specs.declared.view.Hold.{Hold}
@@ -42,17 +33,13 @@ use Rattle.fm_board.specs.declared.view.Log.{Log}
 use Rattle.fm_board.specs.declared.view.Mind.{Mind}
 use Rattle.fm_board.specs.Calls as calls
 use Rattle.fm_board.proofs.Given.{MayGiveAll}
-use Rattle.fm_board.specs.Minds.{did, noticed}
-use Rattle.fm_board.specs.Plays.{GivesBack, Holder, gives_back}
-use Rattle.fm_board.specs.StandsFor.{AtHome, Going, HoldsIn, IsSeat, IsSightOfZero, IsViewOf, Shown, StandsFor, StandsForSome, Table, count, setting}
+use Rattle.fm_board.specs.Minds.{did}
+use Rattle.fm_board.specs.StandsFor.{AtHome, HoldsIn, IsSeat, IsSightOfZero, IsViewOf, StandsForSome, Table, count, setting}
 use Rattle.fm_board.specs.View.{gave, giving, is_over, must_take, takes_of, waiting, waits_of}
-use Rattle.fm_board.specs.Words.{spell, spelt, word_at}
-use Rattle.fm_board.proofs.Frames.{halt_other, halt_stays, Leaves, cell_moves, comes_home, no_word, places_stay, reseated, word_moves, written_stays}
+use Rattle.fm_board.proofs.Frames.{Leaves, cell_moves}
 use Rattle.fm_board.proofs.Giving.{allowed}
-use Rattle.fm_board.specs.Runs.{Extends}
-use Rattle.fm_board.proofs.Runs.{begins_all, extends_on, runs_on}
-use Rattle.fm_board.proofs.Looks.{lined, sees_now, valid_of}
-use Rattle.fm_board.proofs.Spellings.{one_word, set_or_same, yes_or_no}
+use Rattle.fm_board.proofs.Looks.{lined, valid_of}
+use Rattle.fm_board.proofs.Spellings.{yes_or_no}
 use Rattle.fm_board.proofs.Claims.{same_some}
 use Rattle.fm_board.proofs.Views as views
 

@@ -1,35 +1,27 @@
 -- A give keeps the rule.
-use Rattle.std.proofs.Common.{◌≡◌, ◌≢◌, ◌⊎◌, ℕ, ◌+◌, ◌-◌, ◌^◌, ◌<◌, ◌≤◌, List, [], ◌∷◌, ◌++◌, length, get_or, set, take, drop, Bool, true, false, Option, Some, refl, sym, ap, ◌∙◌, subst, inl, inr, arith, eqb-true, ne_eqb, get_or-set_same, append-nil}
-use Rattle.std.specs.Prelude.{◌&&◌, ◌||◌, nat_eq, not, if◌then◌else◌, slice_set}
-use Rattle.std.proofs.lemmas.List.{length-drop, length-take}
+use Rattle.std.proofs.Common.{◌≡◌, ◌≢◌, ℕ, ◌<◌, ◌≤◌, List, [], ◌∷◌, ◌++◌, length, get_or, set, true, false, Option, Some, refl, sym, ap, ◌∙◌, subst, arith}
+use Rattle.std.specs.Prelude.{◌||◌}
 use mathlib.Core.Option.{some, none}
 use lib.ListN.{get_elem?}
 use Rattle.atomic_table.specs.Table.{Allows, gives, step}
 use Rattle.fm_line.specs.declared.line.Line.{Line}
-use Rattle.fm_line.specs.Line.{line, last_tick}
-use Rattle.fm_core.proofs.Booleans.{both, clash, right_false, left_false}
-use Rattle.fm_core.proofs.Elements.{or_set, take_none}
-use Rattle.fm_core.proofs.Given.{given_ended, given_not_held, given_not_unborn, take_le}
+use Rattle.fm_line.specs.Line.{last_tick}
+use Rattle.fm_core.proofs.Booleans.{clash}
+use Rattle.fm_core.proofs.Given.{given_not_unborn}
 use Rattle.fm_core.proofs.GiveTests.{may_give}
 use Rattle.fm_core.proofs.Keeps as core
-use Rattle.fm_core.specs.Effects.{after, given, visits_by_give}
-use Rattle.fm_core.specs.State.{State, cell, held_by, unborn}
-use Rattle.fm_core.specs.Tags.{given_tag, is_ended, is_held, is_unborn}
-use Rattle.fm_core.specs.Taking.{count_due, is_due, outbox}
-use Rattle.fm_core.specs.Taking as taking
+use Rattle.fm_core.specs.State.{State, unborn}
+use Rattle.fm_core.specs.Tags.{given_tag, is_ended, is_unborn}
+use Rattle.fm_core.specs.Taking.{outbox}
 use Rattle.fm_core.specs.declared.cell.Cell.{Cell}
-use Rattle.fm_core.specs.declared.due.Due.{Due}
 use Rattle.fm_core.specs.declared.step.Step.{Step}
 use Rattle.fm_core.specs.declared.step.Step.TheVariants.{Give}
 use Rattle.fm_core.specs.declared.tag.Tag.{Tag}
 use Rattle.fm_buffer.specs.Outbox.{EventQueue}
-use Rattle.fm_program.specs.Process.{plan_lines}
 use Rattle.fm_strand.specs.declared.strand.Strand.{Strand}
 use Rattle.fm_strand.specs.Strand.{clock_of, steps_left}
 use Rattle.fm_strand.specs.Course.{steps_of}
 use Rattle.std.specs.Prelude.{All}
-use Rattle.std.proofs.lemmas.List.Elements.{All-append, All-drop, All-weaker}
-use Rattle.fm_msg.specs.Event.{TimedMessage}
 use Rattle.fm_program.specs.Parts.{PlanParts}
 use Rattle.fm_board.specs.Knowing.{Knows}
 use Rattle.fm_strand.proofs.WholeLemmas.{end-late}
@@ -44,17 +36,16 @@ use Rattle.fm_board.specs.Calls as calls
 use Rattle.fm_board.proofs.Given.{MayGiveAll}
 use Rattle.fm_board.specs.Minds.{did, noticed}
 use Rattle.fm_board.specs.Plays.{GivesBack, Holder, gives_back}
-use Rattle.fm_board.specs.StandsFor.{AtHome, Going, HoldsIn, IsSeat, IsSightOfZero, IsViewOf, Shown, StandsFor, StandsForSome, Table, count, setting}
-use Rattle.fm_board.specs.View.{gave, giving, is_over, must_take, takes_of, waiting, waits_of}
+use Rattle.fm_board.specs.StandsFor.{AtHome, Going, IsSeat, IsSightOfZero, IsViewOf, Shown, StandsFor, StandsForSome, Table, count, setting}
+use Rattle.fm_board.specs.View.{gave, giving}
 use Rattle.fm_board.specs.Words.{spell, spelt, word_at}
-use Rattle.fm_board.proofs.Frames.{halt_other, halt_stays, Leaves, cell_moves, comes_home, no_word, places_stay, reseated, word_moves, written_stays}
+use Rattle.fm_board.proofs.Frames.{halt_other, halt_stays, Leaves, comes_home, no_word, places_stay, reseated, word_moves, written_stays}
 use Rattle.fm_board.proofs.ComingHome.{brought}
 use Rattle.fm_board.proofs.ComingHome as back
 use Rattle.fm_board.specs.Runs.{Extends}
 use Rattle.fm_board.proofs.Runs.{begins_all, extends_on, runs_on}
 use Rattle.fm_board.proofs.Looks.{lined, sees_now, valid_of}
-use Rattle.fm_board.proofs.Spellings.{one_word, set_or_same, yes_or_no}
-use Rattle.fm_board.proofs.Views as views
+use Rattle.fm_board.proofs.Spellings.{one_word, set_or_same}
 
 module _ (a : About) (s : Table) (k : StandsForSome a s) (p id : ℕ) (m : Mind) (at : get_elem? s.views id ≡ some m) (near : p < count a)
     (t : Strand) (box : EventQueue) (may : calls.MayComeBack a m.view p t box) (fits : length box.events ≤ box.room) where

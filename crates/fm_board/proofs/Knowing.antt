@@ -1,5 +1,5 @@
 -- What a seat knows of the processes grows with each of its steps.
-use Rattle.std.proofs.Common.{◌≡◌, ℕ, ◌^◌, ◌≤◌, length, get_or, set, Bool, true, false, refl, sym, ap, ◌∙◌, subst, arith, min, length-set}
+use Rattle.std.proofs.Common.{◌≡◌, ℕ, ◌≤◌, length, get_or, set, Bool, true, false, refl, sym, ap, ◌∙◌, subst, arith, min, length-set}
 use Rattle.std.specs.Prelude.{if◌then◌else◌}
 use Rattle.fm_core.specs.Tags.{is_ended, is_unborn}
 use Rattle.fm_core.specs.declared.tag.Tag.{Tag}

@@ -1,5 +1,5 @@
 -- Looks and paces keep the rule.
-use Rattle.std.proofs.Common.{◌≡◌, ◌⊎◌, ℕ, ◌^◌, ◌<◌, ◌≤◌, List, length, get_or, set, true, false, Option, refl, sym, ap, ◌∙◌, subst, inl, inr, arith, eq-eqb, length-set, None}
+use Rattle.std.proofs.Common.{◌≡◌, ◌⊎◌, ℕ, ◌<◌, ◌≤◌, List, length, get_or, set, true, false, Option, refl, sym, ap, ◌∙◌, subst, inl, inr, arith, eq-eqb, length-set, None}
 use Rattle.std.specs.Prelude.{nat_eq}
 use mathlib.Core.Option.{some}
 use lib.ListN.{get_elem?}

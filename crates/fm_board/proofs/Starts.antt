@@ -1,6 +1,6 @@
 -- A start keeps the rule.
-use Rattle.std.proofs.Common.{◌≡◌, ◌⊎◌, inl, inr, ℕ, ◌-◌, ◌<◌, List, [], ◌∷◌, ◌++◌, Bool, length, get_or, set, take, drop, true, false, Option, Some, None, refl, sym, ap, ◌∙◌, subst, arith, eqb, eq-eqb, ne_eqb, get_or-set_same, ◌≢◌, ◌≤◌}
-use Rattle.std.specs.Prelude.{nat_eq, if◌then◌else◌}
+use Rattle.std.proofs.Common.{◌≡◌, inl, ℕ, ◌-◌, ◌<◌, List, [], ◌∷◌, ◌++◌, length, get_or, set, take, drop, true, false, Option, Some, None, refl, sym, ap, ◌∙◌, subst, arith, eqb, eq-eqb, ne_eqb, get_or-set_same, ◌≢◌, ◌≤◌}
+use Rattle.std.specs.Prelude.{nat_eq}
 use mathlib.Core.Option.{some, none}
 use lib.ListN.{get_elem?}
 use prog.Atomic.{either}
@@ -10,25 +10,24 @@ use Rattle.fm_line.specs.Line.{line, start}
 use Rattle.fm_core.proofs.Booleans.{left_false}
 use Rattle.fm_core.proofs.Elements.{take_none}
 use Rattle.fm_core.proofs.Keeps as core
-use Rattle.fm_core.proofs.May.{free, may_recall, may_start}
+use Rattle.fm_core.proofs.May.{free, may_start}
 use Rattle.fm_core.specs.Effects.{after, begun}
 use Rattle.fm_core.specs.State.{State, cell, held_by, unborn}
 use Rattle.fm_core.specs.Tags.{is_ended, is_held, is_unborn}
 use Rattle.fm_core.specs.Taking.{outbox}
 use Rattle.fm_core.specs.declared.cell.Cell.{Cell}
 use Rattle.fm_core.specs.declared.step.Step.{Step}
-use Rattle.fm_core.specs.declared.step.Step.TheVariants.{Recall, Start}
+use Rattle.fm_core.specs.declared.step.Step.TheVariants.{Start}
 use Rattle.fm_core.specs.declared.tag.Tag.TheVariants.{Out, Unborn}
 use Rattle.fm_program.specs.Parts.{PlanParts}
 use Rattle.fm_program.specs.Process.{plan_lines}
 use Rattle.fm_board.specs.declared.about.About.{About}
 use Rattle.fm_board.specs.declared.deposit.Deposit.{Deposit}
 use Rattle.fm_board.specs.declared.view.Hold.{Hold}
-use Rattle.fm_board.specs.declared.view.Log.{Log}
 use Rattle.fm_board.specs.declared.view.Mind.{Mind}
-use Rattle.fm_board.specs.Minds.{did, recalled, spotted, turned}
-use Rattle.fm_board.specs.Plays.{Begins, Finds, Marked, Holder, Tells, recalls, starts}
-use Rattle.fm_board.specs.StandsFor.{AtHome, Going, HoldsIn, IsHoldOf, IsRun, IsSeat, IsViewOf, Shown, StandsFor, StandsForSome, Table, count, setting}
+use Rattle.fm_board.specs.Minds.{did, spotted, turned}
+use Rattle.fm_board.specs.Plays.{Begins, Finds, Marked, Holder, Tells, starts}
+use Rattle.fm_board.specs.StandsFor.{AtHome, Going, HoldsIn, IsHoldOf, IsSeat, IsViewOf, Shown, StandsFor, StandsForSome, Table, count, setting}
 use Rattle.std.specs.Prelude.{All}
 use Rattle.std.proofs.lemmas.List.Elements.{All-nil}
 use Rattle.fm_strand.specs.Course.{steps_of}
@@ -38,9 +37,7 @@ use Rattle.fm_board.specs.Words.{spell, spelt, word_at}
 use Rattle.fm_board.proofs.Claims.{same_some}
 use Rattle.fm_board.proofs.Found.{saw}
 use Rattle.fm_board.proofs.Frames.{halt_other, halt_stays, Leaves, cell_moves, goes_out, no_word, places_stay, reseated, word_moves, written_stays}
-use Rattle.fm_board.specs.Runs.{BeginsWith, Extends}
 use Rattle.fm_board.proofs.Runs.{begins_all, extends_on, extends_still, runs_on, runs_still}
-use Rattle.fm_board.proofs.Spellings.{yes_or_no}
 use Rattle.fm_core.specs.declared.tag.Tag.{Tag}
 use Rattle.fm_board.proofs.Looks.{finds, found_tells, lined, says, sees_now, turned_seat, valid_of}
 

@@ -1,5 +1,5 @@
 -- What each step on a word tells the seat that makes it.
-use Rattle.std.specs.Prelude.{nat_eq, ◌≡◌, ◌≢◌, ℕ, ◌+◌, ◌^◌, ◌<◌, ◌≤◌, List, [], ◌∷◌, length, true, false, Option, Some, None, slice_index_or}
+use Rattle.std.specs.Prelude.{nat_eq, ◌≡◌, ◌≢◌, ℕ, ◌+◌, ◌<◌, ◌≤◌, List, [], ◌∷◌, length, true, false, Option, Some, None, slice_index_or}
 use Rattle.atomic_table.specs.Table.{Me, Step, rest}
 use Rattle.fm_line.specs.Line.{line, start, last_tick}
 use Rattle.fm_core.specs.Floors.{floor_of}
