@@ -111,8 +111,8 @@ class Reader:
 
     def scope(self, owner: str, is_trait: bool) -> None:
         """Reads up to the brace that closes this scope, or to the end of the file."""
-        opens, tested = "", False
-        owned, of_trait = "", False
+        # what the next brace opens, whose it is, and whether what follows is for tests alone
+        opens, owned, of_trait, tested = "", "", False, False
         while self.at < len(self.tokens):
             token = self.tokens[self.at]
             self.at += 1
@@ -121,33 +121,30 @@ class Reader:
             if token.text == "#":
                 tested = self.attribute() or tested
             elif token.text == "{":
-                self.block(opens, tested, owned, of_trait)
-                tested = tested and opens == ""
+                self.block(opens, owned, of_trait)
                 opens = ""
             elif token.text == ";":
                 opens, tested = "", False
-            elif token.text == "impl" and opens == "":
-                opens = "impl"
-                owned, of_trait = self.impl_head()
+            elif token.text == "impl":
+                opens, (owned, of_trait), tested = "" if tested else "impl", self.impl_head(), False
             elif token.text in ("fn", "mod") or token.text in TYPES:
                 name = self.tokens[self.at].text if self.at < len(self.tokens) else ""
-                if not name.isidentifier():
-                    continue
-                if token.text in SCOPES:
-                    opens, owned, of_trait = token.text, name, token.text == "trait"
-                if token.text != "mod" and not tested:
-                    kind = ("trait method" if is_trait else "method") if token.text == "fn" and owner else token.text
-                    self.found.append(Meaning(self.crate, self.path, token.line, kind, owner, name))
-                self.at += 1
+                if name.isidentifier():
+                    self.at += 1
+                    opens, owned, of_trait = "" if tested else token.text, name, token.text == "trait"
+                    if token.text != "mod" and not tested:
+                        kind = ("trait method" if is_trait else "method") if token.text == "fn" and owner else token.text
+                        self.found.append(Meaning(self.crate, self.path, token.line, kind, owner, name))
+                    tested = False
 
-    def block(self, opens: str, tested: bool, owned: str, of_trait: bool) -> None:
+    def block(self, opens: str, owned: str, of_trait: bool) -> None:
         """Reads a block that is open, or passes over it."""
-        if opens not in SCOPES or tested:
-            self.pass_over()
-        elif opens == "mod":
+        if opens == "mod":
             self.scope("", False)
-        else:
+        elif opens in SCOPES:
             self.scope(owned, of_trait)
+        else:
+            self.pass_over()
 
     def attribute(self) -> bool:
         """Passes over an attribute, and says whether what follows is for tests alone."""

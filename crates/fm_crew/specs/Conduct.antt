@@ -18,7 +18,7 @@ use Rattle.fm_edge.specs.Runs.{Breaks}
 use Rattle.fm_board.specs.Calls.{Releases}
 use Rattle.fm_board.specs.Played.{PlaysWhole}
 use Rattle.fm_board.specs.Quantum.{IsLimit}
-use Rattle.fm_board.specs.Seats.{IsIdle, Sight}
+use Rattle.fm_board.specs.Seats.{IsIdle, SeatState}
 use Rattle.fm_board.specs.View.{lines_of, processes, published, released, was_visited}
 use Rattle.fm_board.specs.declared.about.About.{About}
 use Rattle.fm_board.specs.declared.view.View.{View}
@@ -64,7 +64,7 @@ TellsLast v n clock = v.published ≡ Done → 0 < n → clock ≡ (line (lines_
 
 -- a seat and a gather as a conductor begins with them: as a new board's first seat is, and empty with room for all
 -- that the outboxes can hold
-pub record MayConduct (t : TableId) (a : About) (s : Sight) (gather : EventGather) : Type 0 where
+pub record MayConduct (t : TableId) (a : About) (s : SeatState) (gather : EventGather) : Type 0 where
   pub idle : IsIdle t a s
   pub conductor : s.mind.view.number ≡ 0
   pub due : s.mind.view.due ≡ Nothing
@@ -79,7 +79,7 @@ pub record MayConduct (t : TableId) (a : About) (s : Sight) (gather : EventGathe
 
 -- a conductor's seat after an Ok: it has released every event of the piece, its last floor says that all is done, and a
 -- run of the core, in which its steps are those that it made, has played the whole piece
-pub record HasConducted (t : TableId) (a : About) (s : Sight) : Type 0 where
+pub record HasConducted (t : TableId) (a : About) (s : SeatState) : Type 0 where
   pub idle : IsIdle t a s
   pub conductor : s.mind.view.number ≡ 0
   pub running : s.mind.view.halted ≡ false
@@ -98,7 +98,7 @@ pub record Publishes (old new : View) (paced : Floor) (due : Due) : Type 0 where
   pub view : new ≡ record (published old (floor_of pair) due) { paced = paced }
 
 -- a conductor's seat that holds nothing
-pub record IsConductor (t : TableId) (a : About) (s : Sight) : Type 0 where
+pub record IsConductor (t : TableId) (a : About) (s : SeatState) : Type 0 where
   pub idle : IsIdle t a s
   pub conductor : s.mind.view.number ≡ 0
 

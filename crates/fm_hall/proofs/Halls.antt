@@ -1,8 +1,7 @@
 -- What holds of a hall after a step, and why its memory is enough.
-use Rattle.std.proofs.Common.{◌≡◌, ◌⊎◌, inl, inr, ℕ, zero, suc, ◌+◌, ◌*◌, ◌<◌, ◌≤◌, List, [], ◌∷◌, ◌++◌, length, take, Bool, true, false, refl, ap, arith, length-append}
+use Rattle.std.proofs.Common.{◌≡◌, ◌⊎◌, inl, inr, ℕ, zero, suc, ◌+◌, ◌*◌, ◌<◌, ◌≤◌, List, ◌++◌, length, take, Bool, true, false, refl, ap, arith, length-append}
 use Rattle.std.specs.Prelude.{if◌then◌else◌, not, ◌&&◌, nat_eq}
 use Rattle.std.proofs.lemmas.Bool.{cases_order}
-use Rattle.fm_msg.specs.Event.{TimedMessage}
 use Rattle.fm_line.specs.declared.line.Line.{Line}
 use Rattle.fm_line.specs.Line.{line, sum_below, total, most_events}
 use Rattle.fm_line.specs.Piece.{piece}
