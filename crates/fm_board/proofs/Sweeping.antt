@@ -37,9 +37,9 @@ looked_tidy n o xs xs' lent c c' p k r t m m' y pl x made ps tidy is turn plan n
     let plans : pl ≡ v.plan = sym (ap (λ (z : Mind). z.view.plan) is ∙ plan) in
     let near : p < length v.plan.programs = subst (λ (z : Mind). p < length z.view.plan.programs) (sym is) turn.there in
     let look : x ≡ entered v p t k =
-        seen
-        ∙ ap (λ zs. sight_at t k zs ps) (lends ∙ old.same)
-        ∙ ap (λ qs. sight_at t k v.sweep qs) (waits ∙ ap (λ q. (line (plan_lines q) p).predecessors) plans) in
+    seen
+    ∙ ap (λ zs. sight_at t k zs ps) (lends ∙ old.same)
+    ∙ ap (λ qs. sight_at t k v.sweep qs) (waits ∙ ap (λ q. (line (plan_lines q) p).predecessors) plans) in
     let sweep : m'.0.view.sweep ≡ swept v.sweep p (entered v p t k) = ap (λ (z : Mind). z.view.sweep) now in
     let holds : m'.0.view.holds ≡ v.holds = ap (λ (z : Mind). z.view.holds) now in
     let many : length m'.0.view.plan.programs ≡ length v.plan.programs = ap (λ (z : Mind). length z.view.plan.programs) now in (

@@ -63,5 +63,5 @@ pub record IsPart (ns : List ℕ) (first head : ℕ) (ss : List Lane) : Type 0 w
   pub few : first + length ss ≤ MAX_PROCESSES
   pub chain : IsChain ns
   pub size : first + length ss ≤ length ns
-  pub head : Enters ns first (first + length ss) head
+  pub enters : Enters ns first (first + length ss) head
   pub idle : OthersIdleFrom ns first ss

@@ -6,7 +6,7 @@ use Rattle.fm_round.proofs.run.+shares.Goals as goal
 
 pub share-returns-clause-each : goal.share-returns-clause-each
 share-returns-clause-each g t c =
-    let up = cut_from c.args.round.now.next.now c.args.chain.first (c.args.chain.first + length c.args.lanes.now) c.args.chain.head c.middle-mid.result c.requires.chain.head
+    let up = cut_from c.args.round.now.next.now c.args.chain.first (c.args.chain.first + length c.args.lanes.now) c.args.chain.head c.middle-mid.result c.requires.chain.enters
     c.middle-mid.ensures (omega arith) in
     let number : c.middle-mid.result ≡ c.args.chain.first + (c.middle-mid.result - c.args.chain.first) = omega (arith, up) in
     runs_joined c.args.round.now.plan.now c.args.chain.first (c.middle-mid.result - c.args.chain.first) c.args.round.now.limit c.args.lanes.now
