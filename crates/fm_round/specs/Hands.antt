@@ -1,5 +1,5 @@
 -- Who runs the processes of a round: the caller's thread alone, or several.
-use Rattle.std.specs.Prelude.{◌≡◌, ℕ, ◌≤◌, List, length}
+use Rattle.std.specs.Prelude.{ℕ, ◌≤◌, List, length}
 use denote.Ref.{Bor, MutBor}
 use denote.Param.Members.{Shared}
 use Rattle.fm_program.specs.Parts.{PlanParts}

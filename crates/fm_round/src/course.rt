@@ -10,9 +10,9 @@ ghost use Rattle.fm_round.specs.Rounds.{AreOpened};
 ghost use Rattle.fm_round.specs.Lanes.{AllAtEnd, RunsAll};
 
 use crate::begin::{begin_first, begin_next};
+use crate::lane::Lane;
 use crate::least::least;
 use crate::release::release;
-use crate::lane::Lane;
 use crate::stage::Stage;
 use fm_edge::Sink;
 use fm_smf::{SinkFault, Writer};

@@ -12,10 +12,10 @@ ghost use Rattle.fm_round.specs.Hands.{AreHands, MayRun};
 ghost use Rattle.fm_round.specs.Rounds.{AreFresh};
 ghost use Rattle.fm_round.specs.Lanes.{AllAtEnd, IsAtEnd, IsFresh, RunsAll};
 
-use crate::limits::MAX_WORKERS;
 use crate::course::play_rounds;
-use crate::run::{Round, run_alone, run_shared};
 use crate::lane::Lane;
+use crate::limits::MAX_WORKERS;
+use crate::run::{Round, run_alone, run_shared};
 use crate::stage::Stage;
 use crate::watch::open_watch;
 use fm_buffer::{Gather, MAX_ROOM, Outbox};

@@ -5,8 +5,8 @@ ghost use Rattle.fm_round.specs.Chain.{Cuts, IsChain, IsPart, link};
 ghost use Rattle.fm_round.specs.Hands.{MayRun};
 ghost use Rattle.fm_round.specs.Lanes.{AreLanes, NoneRuns, RunsAll, RunsEach, SomeRuns};
 
-use crate::limits::{MAX_PROCESSES, MAX_WORKERS};
 use crate::lane::{Lane, is_live, run_lane};
+use crate::limits::{MAX_PROCESSES, MAX_WORKERS};
 use fm_edge::{Gate, OpenGate};
 use fm_strand::Plan;
 use std::thread::{Threads, join_mut};
@@ -30,25 +30,19 @@ pub struct Chain {
     pub workers: u32,
 }
 
-// The whole chain, which so many workers run.
-fn whole(workers: u32) -> Chain
-    ensures { result ≡ record { head = 0; first = 0; actor = 0; workers = workers } }
-{
-    Chain {
-        head: 0,
-        first: 0,
-        actor: 0,
-        workers,
-    }
-}
-
 /// One quantum of each process up to the limit, on the caller's thread. Only those in the chain are
 /// gone through.
 pub fn run_alone(round: &Round, lanes: &mut [Lane])
     requires { MayRun round.now.plan.now round.now.next.now lanes.old }
     ensures { RunsAll round.now.plan.now round.now.limit lanes.old lanes.new }
 {
-    run_chunk(&OpenGate, round, whole(1), lanes);
+    let whole = Chain {
+        head: 0,
+        first: 0,
+        actor: 0,
+        workers: 1,
+    };
+    run_chunk(&OpenGate, round, whole, lanes);
 }
 
 /// The same in exactly as many chunks as there are workers, each with a thread of its own where
@@ -64,7 +58,13 @@ pub fn run_shared<R: Threads + Sync, G: Gate + Sync>(
     requires ready { MayRun round.now.plan.now round.now.next.now lanes.old }
     ensures { RunsAll round.now.plan.now round.now.limit lanes.old lanes.new }
 {
-    share(rt, gate, round, whole(workers), lanes);
+    let whole = Chain {
+        head: 0,
+        first: 0,
+        actor: 0,
+        workers,
+    };
+    share(rt, gate, round, whole, lanes);
 }
 
 // One quantum of each of the processes of this part.

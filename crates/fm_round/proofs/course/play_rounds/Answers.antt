@@ -1,20 +1,24 @@
-use Rattle.std.proofs.Common.{rules, ◌≡◌, ◌+◌, Some, None, length, sym, ap, ◌∙◌, subst, arith}
+use Rattle.std.proofs.Common.{◌≡◌, ◌+◌, ℕ, List, map, Some, None, length, sym, ap, ◌∙◌, subst, arith}
 use Rattle.std.proofs.lemmas.List.{length-map}
 use Rattle.fm_edge.proofs.Chains.{on_err}
-use Rattle.fm_round.specs.Lanes.{AllAtEnd, AllLanes}
+use Rattle.fm_round.specs.Chain.{AreChained}
+use Rattle.fm_round.specs.Lanes.{AllAtEnd, AllLanes, without_due}
+use Rattle.fm_round.specs.declared.lane.Lane.{Lane}
 use Rattle.fm_round.proofs.Between.{due_own, falls, few_events, first_between, follows, fresh_lanes, last_count, last_ends, last_first, last_writes, next, next_first, release_breaks}
 use Rattle.fm_round.proofs.Running.{lanes_release}
-use Rattle.fm_round.proofs.Watched.{await_round, watched_round}
+use Rattle.fm_round.proofs.Watched.{await_round, watched_release, watched_round}
 use Rattle.fm_round.proofs.course.play_rounds.Goals as goal
 
 pub begin_first-requires : goal.begin_first-requires
 begin_first-requires g c = record {
-  processes = record {
-    fits = c.requires.opened.opened.fits;
-    count = c.requires.opened.opened.count;
-    lanes = fresh_lanes c.args.plan.now c.requires.opened.room c.args.lanes.now c.requires.opened.opened.fresh;
+  watched = record {
+    processes = record {
+      fits = c.requires.opened.opened.fits;
+      count = c.requires.opened.opened.count;
+      lanes = fresh_lanes c.args.plan.now c.requires.opened.room c.args.lanes.now c.requires.opened.opened.fresh;
+    };
+    watch = c.requires.opened.watched;
   };
-  watch = c.requires.opened.watched;
 }
 
 pub loop-next-init : goal.loop-next-init
@@ -31,15 +35,15 @@ release-requires-clause-may g c = record {
   empty = c.loop-next.invariant.between.empty;
   space = c.loop-next.invariant.between.space;
   own = due_own g.K.Sink.content g.K.Sink.sure g.K.Sink.faults c.args.plan.now c.requires.opened.opened.fits
-    c.args.sink.now c.loop-next.sink c.args.writer.now c.loop-next.writer c.requires.begun c.loop-next.lanes c.loop-next.stage.gather
-    c.loop-next.events c.loop-next.invariant.between (Some c.in-Some.next);
+      c.args.sink.now c.loop-next.sink c.args.writer.now c.loop-next.writer c.requires.begun c.loop-next.lanes c.loop-next.stage.gather
+      c.loop-next.events c.loop-next.invariant.between (Some c.in-Some.next);
   follow = follows g.K.Sink.content g.K.Sink.sure g.K.Sink.faults c.args.plan.now c.requires.opened.opened.fits
-    c.args.sink.now c.loop-next.sink c.args.writer.now c.loop-next.writer c.requires.begun c.loop-next.lanes c.loop-next.stage.gather
-    c.loop-next.events c.loop-next.invariant.between (Some c.in-Some.next)
-    (next_first g.K.Sink.content g.K.Sink.sure g.K.Sink.faults c.args.plan.now c.requires.opened.opened.fits c.args.sink.now c.loop-next.sink
-    c.args.writer.now c.loop-next.writer c.requires.begun c.loop-next.lanes c.loop-next.stage.gather c.loop-next.events
-    c.loop-next.invariant.between
-    c.in-Some.next.0 c.in-Some.next.1 c.in-Some.ensures);
+      c.args.sink.now c.loop-next.sink c.args.writer.now c.loop-next.writer c.requires.begun c.loop-next.lanes c.loop-next.stage.gather
+      c.loop-next.events c.loop-next.invariant.between (Some c.in-Some.next)
+      (next_first g.K.Sink.content g.K.Sink.sure g.K.Sink.faults c.args.plan.now c.requires.opened.opened.fits c.args.sink.now c.loop-next.sink
+      c.args.writer.now c.loop-next.writer c.requires.begun c.loop-next.lanes c.loop-next.stage.gather c.loop-next.events
+      c.loop-next.invariant.between
+      c.in-Some.next.0 c.in-Some.next.1 c.in-Some.ensures);
 }
 
 pub returns-in_err-events-clause-err : goal.returns-in_err-events-clause-err
@@ -66,10 +70,18 @@ overflow_add-events g c =
 pub run_round-requires-clause-may : goal.run_round-requires-clause-may
 run_round-requires-clause-may g c = record {
   few = let taken : length c.release.new.lanes ≡ length c.loop-next.lanes = simp length-map at (ap length c.in_ok-events.ensures.lanes) in
-    let count = c.loop-next.invariant.between.count in let few = c.requires.opened.opened.fits.few in omega arith;
+      let count = c.loop-next.invariant.between.count in let few = c.requires.opened.opened.fits.few in omega arith;
   lanes = subst (AllLanes c.args.plan.now) (sym c.in_ok-events.ensures.lanes)
-    (lanes_release c.args.plan.now (Some c.in-Some.next) c.loop-next.lanes c.loop-next.invariant.between.lanes);
-  chained = search rules;
+      (lanes_release c.args.plan.now (Some c.in-Some.next) c.loop-next.lanes c.loop-next.invariant.between.lanes);
+  chained =
+      let after = watched_release c.args.plan.now c.loop-next.stage.watch (Some c.in-Some.next) c.loop-next.lanes
+      c.loop-next.invariant.watched in
+      let count = c.loop-next.invariant.between.count in
+      let many = length-map c.loop-next.lanes (without_due (Some c.in-Some.next)) in
+      let whole : AreChained c.loop-next.stage.watch.next.items (map (without_due (Some c.in-Some.next)) c.loop-next.lanes) =
+      record { chain = after.chain; size = after.size ∙ sym (many ∙ count); idle = after.idle } in
+      subst (λ (x : List ℕ × List Lane). AreChained x.0 x.1)
+      (λ i. (sym c.deref-in-Some-2.ensures.value i, sym c.in_ok-events.ensures.lanes i)) whole;
 }
 
 pub begin_next-requires-clause-watched : goal.begin_next-requires-clause-watched
@@ -77,12 +89,12 @@ begin_next-requires-clause-watched g c = record {
   processes = record {
     fits = c.requires.opened.opened.fits;
     count = let taken : length c.release.new.lanes ≡ length c.loop-next.lanes = simp length-map at (ap length c.in_ok-events.ensures.lanes) in
-    let count = c.loop-next.invariant.between.count in let ran = c.run_round.auto.lanes in omega arith;
+        let count = c.loop-next.invariant.between.count in let ran = c.run_round.auto.lanes in omega arith;
     lanes = c.run_round.ensures.lanes;
   };
   watch = watched_round c.args.plan.now c.requires.opened.opened.fits c.loop-next.stage.watch (Some c.in-Some.next) c.saturating_add-limit.result
-    c.loop-next.lanes c.release.new.lanes c.run_round.new.lanes c.loop-next.invariant.watched c.loop-next.invariant.between.count
-    c.in_ok-events.ensures.lanes c.run_round.ensures c.run_round.auto.lanes;
+      c.loop-next.lanes c.release.new.lanes c.run_round.new.lanes c.loop-next.invariant.watched c.loop-next.invariant.between.count
+      c.in_ok-events.ensures.lanes c.run_round.ensures c.run_round.auto.lanes;
 }
 
 pub begin_next-requires-clause-awaited : goal.begin_next-requires-clause-awaited
@@ -119,15 +131,15 @@ release-requires-2-clause-may g c = record {
   empty = c.loop-next.invariant.between.empty;
   space = c.loop-next.invariant.between.space;
   own = due_own g.K.Sink.content g.K.Sink.sure g.K.Sink.faults c.args.plan.now c.requires.opened.opened.fits
-    c.args.sink.now c.loop-next.sink c.args.writer.now c.loop-next.writer c.requires.begun c.loop-next.lanes c.loop-next.stage.gather
-    c.loop-next.events c.loop-next.invariant.between None;
+      c.args.sink.now c.loop-next.sink c.args.writer.now c.loop-next.writer c.requires.begun c.loop-next.lanes c.loop-next.stage.gather
+      c.loop-next.events c.loop-next.invariant.between None;
   follow = follows g.K.Sink.content g.K.Sink.sure g.K.Sink.faults c.args.plan.now c.requires.opened.opened.fits
-    c.args.sink.now c.loop-next.sink c.args.writer.now c.loop-next.writer c.requires.begun c.loop-next.lanes c.loop-next.stage.gather
-    c.loop-next.events c.loop-next.invariant.between None
-    (last_first g.K.Sink.content g.K.Sink.sure g.K.Sink.faults c.args.plan.now c.requires.opened.opened.fits c.args.sink.now c.loop-next.sink
-    c.args.writer.now c.loop-next.writer c.requires.begun c.loop-next.lanes c.loop-next.stage.gather c.loop-next.events
-    c.loop-next.invariant.between
-    c.in_default.ensures);
+      c.args.sink.now c.loop-next.sink c.args.writer.now c.loop-next.writer c.requires.begun c.loop-next.lanes c.loop-next.stage.gather
+      c.loop-next.events c.loop-next.invariant.between None
+      (last_first g.K.Sink.content g.K.Sink.sure g.K.Sink.faults c.args.plan.now c.requires.opened.opened.fits c.args.sink.now c.loop-next.sink
+      c.args.writer.now c.loop-next.writer c.requires.begun c.loop-next.lanes c.loop-next.stage.gather c.loop-next.events
+      c.loop-next.invariant.between
+      c.in_default.ensures);
 }
 
 pub returns-in_err-events-2-clause-err : goal.returns-in_err-events-2-clause-err
