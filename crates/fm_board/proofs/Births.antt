@@ -1,5 +1,5 @@
 -- The parts of a start: marks of predecessors, the greatest of their ends, and what the seat holds then.
-use Rattle.std.proofs.Common.{◌≡◌, ◌≢◌, ℕ, zero, suc, ◌+◌, ◌-◌, ◌^◌, ◌<◌, ◌≤◌, List, [], ◌∷◌, length, map, take, drop, get_or, set, max, Bool, true, false, Option, Some, None, refl, sym, ap, ◌∙◌, subst, arith, eqb, get_or-set_same}
+use Rattle.std.proofs.Common.{◌≡◌, ◌≢◌, ℕ, zero, suc, ◌+◌, ◌-◌, ◌<◌, ◌≤◌, List, [], ◌∷◌, length, map, take, drop, get_or, set, max, Bool, true, false, Option, Some, None, refl, sym, ap, ◌∙◌, subst, arith, eqb, get_or-set_same}
 use Rattle.std.specs.Prelude.{◌||◌}
 use Rattle.std.proofs.lemmas.List.{get_or_past}
 use Rattle.fm_msg.specs.Event.{TimedMessage}
@@ -9,7 +9,7 @@ use native.Mathlib.Decide.{ℕ_discrete}
 use prog.Atomic.{either}
 use Rattle.atomic_table.specs.Seated.{TableId}
 use Rattle.atomic_table.specs.Table.{Allows, rest, step}
-use Rattle.fm_line.specs.Line.{event_at, greatest, line, start}
+use Rattle.fm_line.specs.Line.{event_at, greatest, line, start, last_tick}
 use Rattle.fm_line.specs.Piece.{Rises}
 use Rattle.fm_core.proofs.Elements.{take_none}
 use Rattle.fm_core.specs.Tags.{is_ended, is_unborn}
@@ -28,7 +28,7 @@ use Rattle.std.specs.Prelude.{All}
 use Rattle.std.proofs.lemmas.List.Elements.{All-nil}
 use Rattle.fm_core.specs.declared.sight.Sight.{Sight as Look}
 use Rattle.fm_board.specs.declared.about.About.{About}
-use Rattle.fm_board.specs.declared.room.Room.{Room}
+use Rattle.fm_board.specs.declared.deposit.Deposit.{Deposit}
 use Rattle.fm_board.specs.declared.view.Hold.{Hold}
 use Rattle.fm_board.specs.declared.view.Log.{Log}
 use Rattle.fm_board.specs.declared.view.Mind.{Mind}
@@ -39,8 +39,8 @@ use Rattle.fm_board.specs.Starting as answers
 use Rattle.fm_core.specs.declared.step.Step.TheVariants.{Start}
 use Rattle.fm_board.specs.Runs.{Extends}
 use Rattle.fm_board.specs.Minds.{did, spotted, turned}
-use Rattle.fm_board.specs.Plays.{Begins, Marked, Place, Tells, starts}
-use Rattle.fm_board.specs.Seats.{IsOurs, Sight, carried}
+use Rattle.fm_board.specs.Plays.{Begins, Marked, Holder, Tells, starts}
+use Rattle.fm_board.specs.Seats.{IsOurs, SeatState, carried}
 use Rattle.fm_board.specs.View.{is_over}
 use Rattle.fm_board.specs.StandsFor.{StandsForSome}
 use Rattle.fm_board.specs.View.{holding, lines_of, processes, waiting}
@@ -89,7 +89,7 @@ pub waits_below : (a : About) (p i : ℕ) (ps : List ℕ) → ps ≡ (process_pr
 waits_below a p i ps is less =
     subst (λ (xs : List ℕ). i < length xs → get_or xs i 0 < p) (sym (waits_are a p ps is)) ((lines-valid a.plan a.fits).below p i 0) less
 
-pub ours_still : (t : TableId) (a : About) (x y : Sight) → IsOurs t a x → y.table ≡ x.table → y.mind.view ≡ x.mind.view
+pub ours_still : (t : TableId) (a : About) (x y : SeatState) → IsOurs t a x → y.table ≡ x.table → y.mind.view ≡ x.mind.view
     → y.mind.room ≡ x.mind.room → IsOurs t a y
 ours_still t a x y ours table view room = record {
   table = table ∙ ours.table;
@@ -117,7 +117,7 @@ not_unborn t c n w is word other = by_case (is_unborn t) refl
     by_case false e = e
 
 -- the exchange of a start
-pub starts_at : (key a : About) (t : TableId) (slots id i p new tick number : ℕ) (m : Place) (x : Sight) → key ≡ a → IsOurs t a x
+pub starts_at : (key a : About) (t : TableId) (slots id i p new tick number : ℕ) (m : Holder) (x : SeatState) → key ≡ a → IsOurs t a x
     → m.0 ≡ x.mind → i ≡ word_at p → p < processes x.mind.view → x.mind.view.holds ≡ None → Marked x.mind p (length (predecessors_of x p))
     → tick ≡ start (plan_lines a.plan) p → number ≡ m.0.view.number → new ≡ spell Out tick number
     → Allows (StandsForSome key) slots id m i (λ z. either (eqb z 0) new z) (starts (step slots i 0 new none) m)
@@ -131,7 +131,7 @@ starts_at key a t slots id i p new tick number m x same ours is at there idle ma
     (new_is ∙ (λ k. spell Out (starts_there k) (number_is k))))
 
 -- a process starts no later than the last tick
-pub start_low : (a : About) (p : ℕ) → start (plan_lines a.plan) p ≤ 2 ^ 40
+pub start_low : (a : About) (p : ℕ) → start (plan_lines a.plan) p ≤ last_tick
 start_low a p =
     let l = line (plan_lines a.plan) p in
     let valid = lines-valid a.plan a.fits in
@@ -140,22 +140,22 @@ start_low a p =
     let end = (valid.ends p).0 in
     omega (arith, begun, last, end)
 
-pub begun_tidy : (n p : ℕ) (o : Bool) (xs : List Look) (s : ℕ) (m m1 m2 : Place) → Tidy n o xs s m → m.0.view.holds ≡ None → Begins m p m1
+pub begun_tidy : (n p : ℕ) (o : Bool) (xs : List Look) (s : ℕ) (m m1 m2 : Holder) → Tidy n o xs s m → m.0.view.holds ≡ None → Begins m p m1
     → m2 ≡ (m1.0, (p, None) ∷ rest m1.1) → Tidy n false xs s m2
 begun_tidy n p o xs s m m1 m2 tidy idle hit is =
-    let holds : m2.0.view.holds ≡ Some hit.hold = ap (λ (y : Place). y.0.view.holds) is ∙ ap (λ (y : Mind). y.view.holds) hit.mind in
+    let holds : m2.0.view.holds ≡ Some hit.hold = ap (λ (y : Holder). y.0.view.holds) is ∙ ap (λ (y : Mind). y.view.holds) hit.mind in
     let empty : m.1 ≡ [] = tidy.2 ∙ ap carried idle in
-    let out : m2.1 ≡ (p, None) ∷ [] = ap (λ (y : Place). y.1) is
-    ∙ ap (λ (xs : List (ℕ × Option Room)). (p, None) ∷ xs) (ap rest hit.out ∙ empty) in
+    let out : m2.1 ≡ (p, None) ∷ [] = ap (λ (y : Holder). y.1) is
+    ∙ ap (λ (xs : List (ℕ × Option Deposit)). (p, None) ∷ xs) (ap rest hit.out ∙ empty) in
     let number : m2.0.view.number ≡ m.0.view.number =
-    ap (λ (y : Place). y.0.view.number) is ∙ ap (λ (y : Mind). y.view.number) hit.mind in (
+    ap (λ (y : Holder). y.0.view.number) is ∙ ap (λ (y : Mind). y.view.number) hit.mind in (
       tidy.0 ∙ sym number,
       tidy.1,
       out ∙ ((λ i. (sym hit.process i, None) ∷ []) ∙ ap carried (sym holds)),
       λ _. (λ i. sym hit.fresh i || sym hit.was_ended i) ∙ ap is_over (sym holds),
       still_swept xs s m.0.view m2.0.view tidy.4
-          (ap (λ (y : Place). y.0.view.sweep) is ∙ ap (λ (y : Mind). y.view.sweep) hit.mind)
-          (ap (λ (y : Place). y.0.view.plan) is ∙ ap (λ (y : Mind). y.view.plan) hit.mind),
+          (ap (λ (y : Holder). y.0.view.sweep) is ∙ ap (λ (y : Mind). y.view.sweep) hit.mind)
+          (ap (λ (y : Holder). y.0.view.plan) is ∙ ap (λ (y : Mind). y.view.plan) hit.mind),
     )
 
 -- nothing waits where nothing is computed
@@ -166,7 +166,7 @@ none_waits p h none_computed =
     ∙ take_none (drop h.taken (line (plan_lines p) h.process).events))
 
 -- the berth of a process that was started
-pub begun_berth : (a : About) (t : TableId) (p : ℕ) (m m1 : Place) (r : Room) (s : Strand) (x : Sight) → IsOurs t a x → m.0 ≡ x.mind
+pub begun_berth : (a : About) (t : TableId) (p : ℕ) (m m1 : Holder) (r : Deposit) (s : Strand) (x : SeatState) → IsOurs t a x → m.0 ≡ x.mind
     → (hit : Begins m p m1)
     → r ≡ hit.stock → s.process ≡ p → strands.InCourse a.plan s → strands.clock_of a.plan s ≡ start (plan_lines a.plan) p
     → strands.rest a.plan s ≡ (line (plan_lines a.plan) p).events → strands.steps_left a.plan s ≡ steps_of a.plan p
@@ -175,7 +175,7 @@ begun_berth a t p m m1 r s x ours is hit room process course clock whole steps =
     let starts_there : hit.hold.clock ≡ start (plan_lines a.plan) p =
     hit.clock ∙ ap (λ (q : PlanParts). start (plan_lines q) p) (ap (λ (y : Mind). y.view.plan) is ∙ ours.plan) in
     let none_yet : waiting a.plan hit.hold ≡ [] = none_waits a.plan hit.hold hit.computed in
-    let box = ap (λ (y : Room). y.outbox) room ∙ hit.box in (
+    let box = ap (λ (y : Deposit). y.outbox) room ∙ hit.box in (
       record {
         hold = record {
           process = hit.process;
@@ -198,14 +198,14 @@ begun_berth a t p m m1 r s x ours is hit room process course clock whole steps =
     )
 
 -- what is said of a process that was started
-pub begun_as : (a : About) (t t1 t2 t3 : TableId) (p : ℕ) (m m1 m2 : Place) (o : Option Room) (r : Room) (s : Strand) (x : Sight)
+pub begun_as : (a : About) (t t1 t2 t3 : TableId) (p : ℕ) (m m1 m2 : Holder) (o : Option Deposit) (r : Deposit) (s : Strand) (x : SeatState)
     → IsOurs t a x
     → (hit : Begins m p m1) → m2 ≡ (m1.0, (p, None) ∷ rest m1.1) → o ≡ Some r → o ≡ Some hit.stock → IsBegun a.plan p s
     → t3 ≡ t2 → t2 ≡ t1 → record { table = t1; mind = m.0 } ≡ x
     → answers.Begins a x p (record { process = p; strand = s; outbox = r.outbox }) (record { table = t3; mind = m2.0 })
 begun_as a t t1 t2 t3 p m m1 m2 o r s x ours hit now e f begun k2 k1 seen =
-    let minds : m.0 ≡ x.mind = ap (λ (y : Sight). y.mind) seen in
-    let logs : m1.0.log ≡ m2.0.log = ap (λ (y : Place). y.0.log) (sym now) in
+    let minds : m.0 ≡ x.mind = ap (λ (y : SeatState). y.mind) seen in
+    let logs : m1.0.log ≡ m2.0.log = ap (λ (y : Holder). y.0.log) (sym now) in
     let room : r ≡ hit.stock = same_some r hit.stock (sym e ∙ f) in
     let berth = begun_berth a t p m m1 r s x ours minds hit room begun.process begun.course begun.clock begun.events begun.steps in
     record {
@@ -220,8 +220,8 @@ begun_as a t t1 t2 t3 p m m1 m2 o r s x ours hit now e f begun k2 k1 seen =
       };
       tells = subst (λ (y : Mind). Tells y p Unborn 0) minds hit.tells;
       sight = λ i. record {
-        table = (k2 ∙ (k1 ∙ ap (λ (y : Sight). y.table) seen)) i;
-        mind = (ap (λ (y : Place). y.0) now ∙ (hit.mind
+        table = (k2 ∙ (k1 ∙ ap (λ (y : SeatState). y.table) seen)) i;
+        mind = (ap (λ (y : Holder). y.0) now ∙ (hit.mind
             ∙ (ap (λ (n : ℕ). turned (spotted m.0 p Out n 0 (holding m.0.view hit.hold) (did m.0 (Start m.0.view.number p) m1.0.log.seen)))
             (sym hit.clock)
             ∙ (λ j. turned (spotted (minds j) p Out hit.hold.clock 0 (holding (minds j).view hit.hold)

@@ -25,13 +25,13 @@ use Rattle.fm_program.specs.Process.{plan_lines}
 use Rattle.fm_strand.specs.declared.strand.Strand.{Strand}
 use Rattle.fm_strand.specs.Strand.{steps_left}
 use Rattle.fm_board.specs.declared.about.About.{About}
-use Rattle.fm_board.specs.declared.room.Room.{Room}
+use Rattle.fm_board.specs.declared.deposit.Deposit.{Deposit}
 use Rattle.fm_board.specs.declared.view.Hold.{Hold}
 use Rattle.fm_board.specs.declared.view.Log.{Log}
 use Rattle.fm_board.specs.declared.view.Mind.{Mind}
 use Rattle.fm_board.specs.Calls.{HasGiven, IsHold}
 use Rattle.fm_board.specs.Minds.{did, spotted, turned}
-use Rattle.fm_board.specs.Plays.{Finds, Hands, Place, claims}
+use Rattle.fm_board.specs.Plays.{Finds, Hands, Holder, claims}
 use Rattle.std.specs.Prelude.{All}
 use Rattle.fm_board.specs.StandsFor.{AtHome, Going, HoldsIn, IsHoldOf, IsSeat, IsViewOf, Shown, StandsFor, StandsForSome, StrandAt, Table, count, setting}
 use Rattle.fm_board.specs.View.{holding, waiting}
@@ -42,6 +42,7 @@ use Rattle.fm_board.proofs.Looking.{tells}
 use Rattle.fm_board.proofs.Runs.{begins_all, extends_on, extends_still, runs_on, runs_still}
 use Rattle.fm_board.proofs.Looks.{finds, found_tells, lined, says, sees_now, turned_seat, valid_of}
 use Rattle.fm_board.proofs.Found.{saw}
+use Rattle.fm_core.specs.declared.limits.TheConstants.{MAX_SEATS}
 
 pub same_some : {A : Type 0} (x y : A) → Some x ≡ Some y → x ≡ y
 same_some x y e = cc
@@ -67,12 +68,12 @@ living a p c (Some x) q born = (x, refl, q.0, q.1)
 
 -- ---- a claim that wins
 
-abbrev Won : About → (s : Table) → ℕ → ℕ → ℕ → ℕ → ℕ → Place → ℕ → Type 0
+abbrev Won : About → (s : Table) → ℕ → ℕ → ℕ → ℕ → ℕ → Holder → ℕ → Type 0
 Won a s p id old new slots m n =
-    (w : Mind) × (x : Act (Option Room)) × Valid s.homes m.1 x × StandsForSome a (stepped s (word_at p) n id m.1 w x)
+    (w : Mind) × (x : Act (Option Deposit)) × Valid s.homes m.1 x × StandsForSome a (stepped s (word_at p) n id m.1 w x)
     × claims (step slots (word_at p) old new none) m (get_or s.words (word_at p) 0) (w, carried_after m.1 x)
 
-module _ (a : About) (s : Table) (k : StandsForSome a s) (p id : ℕ) (m : Place) (at : get_elem? s.views id ≡ some m.0)
+module _ (a : About) (s : Table) (k : StandsForSome a s) (p id : ℕ) (m : Holder) (at : get_elem? s.views id ≡ some m.0)
     (holds : m.0.view.holds ≡ None) (near : p < count a) (can : is_claimable id (cell k.core p).tag ≡ true) where
   abbrev h : State
   h = k.core
@@ -96,7 +97,7 @@ module _ (a : About) (s : Table) (k : StandsForSome a s) (p id : ℕ) (m : Place
       × (is_unborn (claimed_tag c.tag) ≡ false) × (is_ended (claimed_tag c.tag) ≡ is_ended c.tag)
   tag_is = claimable_is id c.tag can
 
-  home : (stock : Room) × (get_elem? s.homes p ≡ some (some (Some stock))) × AtHome a p c stock
+  home : (stock : Deposit) × (get_elem? s.homes p ≡ some (some (Some stock))) × AtHome a p c stock
   home = k.stands.homes.home p inside tag_is.0
 
   abbrev strand_of : (x : Strand) × (home.0.strand ≡ Some x) × HasGiven a.plan p c.computed c.clock x
@@ -246,7 +247,7 @@ module _ (a : About) (s : Table) (k : StandsForSome a s) (p id : ℕ) (m : Place
       )
 
 -- a claim is the core's claim where the word is the expected one, and none else
-pub claims_of : (a : About) (slots id p clock n old new : ℕ) (t : Tag) (m : Place) → m.0.view.holds ≡ None → p < count a → n ≤ 16
+pub claims_of : (a : About) (slots id p clock n old new : ℕ) (t : Tag) (m : Holder) → m.0.view.holds ≡ None → p < count a → n < MAX_SEATS
     → is_claimable m.0.view.number t ≡ true → old ≡ spell t clock n → new ≡ spell (claimed_tag t) clock m.0.view.number
     → Allows (StandsForSome a) slots id m (word_at p) (λ x. either (eqb x old) new x) (claims (step slots (word_at p) old new none) m)
 claims_of a slots id p clock n old new t m holds near small_n can is_old is_new s k sized at small =

@@ -5,7 +5,7 @@ use lib.ListN.{get_elem?}
 use Rattle.atomic_table.specs.Table.{keeps, stepped}
 use Rattle.fm_core.specs.State.{State, cell}
 use Rattle.fm_board.specs.declared.about.About.{About}
-use Rattle.fm_board.specs.declared.room.Room.{Room}
+use Rattle.fm_board.specs.declared.deposit.Deposit.{Deposit}
 use Rattle.fm_board.specs.declared.view.Log.{Log}
 use Rattle.fm_board.specs.declared.view.Mind.{Mind}
 use Rattle.fm_board.specs.Minds.{spotted}
@@ -17,7 +17,7 @@ use Rattle.fm_board.proofs.Goings.{alone_on, goes_on, same_cells, seen_known}
 use Rattle.fm_board.proofs.Looks.{looks_on, sees_now}
 
 -- the seat's view, with what it found of a process that is as it was
-pub saw : (a : About) (s : Table) (k : StandsForSome a s) (p id : ℕ) (m : Mind) (cs : List (ℕ × Option Room)) (xs : Log)
+pub saw : (a : About) (s : Table) (k : StandsForSome a s) (p id : ℕ) (m : Mind) (cs : List (ℕ × Option Deposit)) (xs : Log)
     → get_elem? s.views id ≡ some m
     → p < length k.core.cells
     → IsRun a (set s.views id (spotted m p (cell k.core p).tag (cell k.core p).clock (get_or s.words (word_at p) 0) m.view xs)) k.core

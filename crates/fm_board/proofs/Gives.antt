@@ -1,241 +1,125 @@
 -- A give keeps the rule.
-use Rattle.std.proofs.Common.{◌≡◌, ◌≢◌, ◌⊎◌, ℕ, ◌+◌, ◌-◌, ◌^◌, ◌<◌, ◌≤◌, List, [], ◌∷◌, ◌++◌, length, get_or, set, take, drop, Bool, true, false, Option, Some, refl, sym, ap, ◌∙◌, subst, inl, inr, arith, eqb-true, ne_eqb, get_or-set_same, append-nil}
-use Rattle.std.specs.Prelude.{◌&&◌, ◌||◌, nat_eq, not, if◌then◌else◌, slice_set}
-use Rattle.std.proofs.lemmas.List.{length-drop, length-take}
+use Rattle.std.proofs.Common.{◌≡◌, ◌≢◌, ℕ, ◌<◌, ◌≤◌, List, [], ◌∷◌, ◌++◌, length, get_or, set, true, false, Option, Some, refl, sym, ap, ◌∙◌, subst, arith}
+use Rattle.std.specs.Prelude.{◌||◌}
 use mathlib.Core.Option.{some, none}
 use lib.ListN.{get_elem?}
 use Rattle.atomic_table.specs.Table.{Allows, gives, step}
 use Rattle.fm_line.specs.declared.line.Line.{Line}
-use Rattle.fm_line.specs.Line.{line}
-use Rattle.fm_core.proofs.Booleans.{both, clash, right_false, left_false}
-use Rattle.fm_core.proofs.Elements.{or_set, take_none}
-use Rattle.fm_core.proofs.Given.{given_ended, given_not_held, given_not_unborn, take_le}
+use Rattle.fm_line.specs.Line.{last_tick}
+use Rattle.fm_core.proofs.Booleans.{clash}
+use Rattle.fm_core.proofs.Given.{given_not_unborn}
 use Rattle.fm_core.proofs.GiveTests.{may_give}
 use Rattle.fm_core.proofs.Keeps as core
-use Rattle.fm_core.specs.Effects.{after, given, visits_by_give}
-use Rattle.fm_core.specs.State.{State, cell, held_by, unborn}
-use Rattle.fm_core.specs.Tags.{given_tag, is_ended, is_held, is_unborn}
-use Rattle.fm_core.specs.Taking.{count_due, is_due, outbox}
-use Rattle.fm_core.specs.Taking as taking
+use Rattle.fm_core.specs.State.{State, unborn}
+use Rattle.fm_core.specs.Tags.{given_tag, is_ended, is_unborn}
+use Rattle.fm_core.specs.Taking.{outbox}
 use Rattle.fm_core.specs.declared.cell.Cell.{Cell}
-use Rattle.fm_core.specs.declared.due.Due.{Due}
 use Rattle.fm_core.specs.declared.step.Step.{Step}
 use Rattle.fm_core.specs.declared.step.Step.TheVariants.{Give}
 use Rattle.fm_core.specs.declared.tag.Tag.{Tag}
 use Rattle.fm_buffer.specs.Outbox.{EventQueue}
-use Rattle.fm_program.specs.Process.{plan_lines}
 use Rattle.fm_strand.specs.declared.strand.Strand.{Strand}
 use Rattle.fm_strand.specs.Strand.{clock_of, steps_left}
 use Rattle.fm_strand.specs.Course.{steps_of}
 use Rattle.std.specs.Prelude.{All}
-use Rattle.std.proofs.lemmas.List.Elements.{All-append, All-drop, All-weaker}
-use Rattle.fm_msg.specs.Event.{TimedMessage}
 use Rattle.fm_program.specs.Parts.{PlanParts}
 use Rattle.fm_board.specs.Knowing.{Knows}
 use Rattle.fm_strand.proofs.WholeLemmas.{end-late}
 use Rattle.std.proofs.lemmas.List.{length-set}
 use Rattle.fm_board.proofs.Goings.{alone_on, back_home, changes, put_left, put_less, put_same}
 use Rattle.fm_board.specs.declared.about.About.{About}
-use Rattle.fm_board.specs.declared.room.Room.{Room}
+use Rattle.fm_board.specs.declared.deposit.Deposit.{Deposit}
 use Rattle.fm_board.specs.declared.view.Hold.{Hold}
 use Rattle.fm_board.specs.declared.view.Log.{Log}
 use Rattle.fm_board.specs.declared.view.Mind.{Mind}
 use Rattle.fm_board.specs.Calls as calls
-use Rattle.fm_board.specs.Given.{MayGiveAll}
+use Rattle.fm_board.proofs.Given.{MayGiveAll}
 use Rattle.fm_board.specs.Minds.{did, noticed}
-use Rattle.fm_board.specs.Plays.{GivesBack, Place, gives_back}
-use Rattle.fm_board.specs.StandsFor.{AtHome, Going, HoldsIn, IsSeat, IsSightOfZero, IsViewOf, Shown, StandsFor, StandsForSome, Table, count, setting}
-use Rattle.fm_board.specs.View.{gave, giving, is_over, must_take, takes_of, waiting, waits_of}
+use Rattle.fm_board.specs.Plays.{GivesBack, Holder, gives_back}
+use Rattle.fm_board.specs.StandsFor.{AtHome, Going, IsSeat, IsSightOfZero, IsViewOf, Shown, StandsFor, StandsForSome, Table, count, setting}
+use Rattle.fm_board.specs.View.{gave, giving}
 use Rattle.fm_board.specs.Words.{spell, spelt, word_at}
-use Rattle.fm_board.proofs.Frames.{halt_other, halt_stays, Leaves, cell_moves, comes_home, no_word, places_stay, reseated, word_moves, written_stays}
-use Rattle.fm_board.proofs.Giving.{allowed}
+use Rattle.fm_board.proofs.Frames.{halt_other, halt_stays, Leaves, comes_home, no_word, places_stay, reseated, word_moves, written_stays}
+use Rattle.fm_board.proofs.ComingHome.{brought}
+use Rattle.fm_board.proofs.ComingHome as back
 use Rattle.fm_board.specs.Runs.{Extends}
 use Rattle.fm_board.proofs.Runs.{begins_all, extends_on, runs_on}
 use Rattle.fm_board.proofs.Looks.{lined, sees_now, valid_of}
-use Rattle.fm_board.proofs.Spellings.{one_word, set_or_same, yes_or_no}
-use Rattle.fm_board.proofs.Views as views
-
-same_some : {A : Type 0} (x y : A) → Some x ≡ Some y → x ≡ y
-same_some x y e = cc
-
--- what a seat above 0 takes is nothing
-none_taken : (due : Due) (v : Bool) (id : ℕ) (l : Line) (c : Cell) → id ≢ 0 → taking.must_take_at due v id l c ≡ 0
-none_taken due v id l c n = ap (λ b. if b && not v then count_due due (outbox l c) else 0) (ne_eqb id 0 n)
-
--- what a slot is given
-abbrev pub brought : Strand → EventQueue → Room
-brought t box = record { strand = Some t; outbox = box }
+use Rattle.fm_board.proofs.Spellings.{one_word, set_or_same}
 
 module _ (a : About) (s : Table) (k : StandsForSome a s) (p id : ℕ) (m : Mind) (at : get_elem? s.views id ≡ some m) (near : p < count a)
-    (t : Strand) (box : EventQueue) (may : calls.MayGive a m.view p t box) (fits : length box.events ≤ box.room) where
+    (t : Strand) (box : EventQueue) (may : calls.MayComeBack a m.view p t box) (fits : length box.events ≤ box.room) where
   abbrev h : State
-  h = k.core
-
-  abbrev c : Cell
-  c = cell k.core p
+  h = back.h a s k p id m at near t box may fits
 
   abbrev l : Line
-  l = line (plan_lines a.plan) p
+  l = back.l a s k p id m at near t box may fits
 
   seat : IsSeat a h id m
-  seat = k.stands.views.viewed id m at
+  seat = back.seat a s k p id m at near t box may fits
 
   inside : p < length h.cells
-  inside = omega (arith, lined a s k, near)
+  inside = back.inside a s k p id m at near t box may fits
 
-  pub all : MayGiveAll a h m.view id p t box
-  all = allowed a h m.view id p t box
-      (record { valid = valid_of a; sound = k.sound; seat = seat.here; view = seat.is; zero = seat.zero; within = fits; may = may })
+  abbrev all : MayGiveAll a h m.view id p t box
+  all = back.all a s k p id m at near t box may fits
 
   abbrev now : ℕ
-  now = clock_of a.plan t
+  now = back.now a s k p id m at near t box may fits
 
   abbrev left : ℕ
-  left = c.computed + all.computed - (c.taken + all.taken)
+  left = back.left a s k p id m at near t box may fits
 
   abbrev home : Cell
-  home = given a.room c all.taken all.computed now all.ends
+  home = back.home a s k p id m at near t box may fits
 
   abbrev h' : State
-  h' = after (setting a) h (Give id p all.taken all.computed now all.ends)
+  h' = back.h' a s k p id m at near t box may fits
 
   here : get_or (set h.cells p home) p unborn ≡ home
-  here = get_or-set_same h.cells p home unborn inside
-
-  mine_now : (is_held c.tag ≡ true) × (nat_eq c.seat id ≡ true)
-  mine_now = both (is_held c.tag) (nat_eq c.seat id) all.allowed.held
-
-  free_now : is_held home.tag ≡ false
-  free_now = given_not_held a.room left all.ends
+  here = back.here a s k p id m at near t box may fits
 
   ended_is : is_ended home.tag ≡ all.ends
-  ended_is = given_ended a.room left all.ends
+  ended_is = back.ended_is a s k p id m at near t box may fits
 
-  -- as many wait as the core says
   waiting_is : length box.events ≡ left
-  waiting_is =
-      ap length all.home
-      ∙ (length-take left (drop (c.taken + all.taken) l.events)
-      ∙ (let d = length-drop (c.taken + all.taken) l.events in let f = all.allowed.fits in omega arith))
+  waiting_is = back.waiting_is a s k p id m at near t box may fits
 
   ends_is : all.ends ≡ (may.h.recorded || may.h.was_ended)
-  ends_is = all.is_ends ∙ ap (λ (x : Hold). x.recorded || x.was_ended) (same_some all.hold may.h (sym all.is_hold ∙ may.is))
+  ends_is = back.ends_is a s k p id m at near t box may fits
 
   leaves : Leaves h h' id
-  leaves = cell_moves h id p home h.floor h.due (visits_by_give h id p) (h.gather ++ take all.taken (outbox l c)) h.released inside
-      (λ j n. let seat_is : c.seat ≡ id = eqb-true c.seat id mine_now.1 in
-      right_false (is_held c.tag) (nat_eq c.seat j) (ne_eqb c.seat j (λ e. n (sym e ∙ seat_is))))
-      (λ j n. left_false (is_held home.tag) (nat_eq 0 j) free_now)
-      all.allowed.on (λ e. ended_is ∙ all.allowed.stays e)
-      (λ n. record {
-        due = refl;
-        visited = ap (λ b. if b && is_due h.due then slice_set h.visited p true else h.visited) (ne_eqb id 0 (λ e. n (sym e)));
-        gather =
-            ap (λ x. h.gather ++ take x (outbox l c)) (all.allowed.take ∙ none_taken h.due _ id l c (λ e. n (sym e)))
-            ∙ (ap (λ xs. h.gather ++ xs) (take_none (outbox l c)) ∙ append-nil h.gather);
-        released = refl;
-        floor = refl;
-      })
-
-  -- the seat held no other
-  only : (j : ℕ) → j < length h.cells → j ≢ p → held_by id (cell h j) ≡ false
-  only j lt n = by_case (yes_or_no (held_by id (cell h j)))
-    where
-      by_case : (held_by id (cell h j) ≡ true) ⊎ (held_by id (cell h j) ≡ false) → held_by id (cell h j) ≡ false
-      by_case (inl held) =
-          let it = both (is_held (cell h j).tag) (nat_eq (cell h j).seat id) held in
-          absurd (n (k.sound.alone j p lt inside it.0 mine_now.0 (eqb-true (cell h j).seat id it.1 ∙ sym (eqb-true c.seat id mine_now.1))))
-      by_case (inr free) = free
+  leaves = back.leaves a s k p id m at near t box may fits
 
   view : IsViewOf a h' id (gave m.view)
-  view = record {
-    plan = seat.is.plan;
-    lead = seat.is.lead;
-    seats = seat.is.seats;
-    number = seat.is.number;
-    holds = λ j lt. or_set (λ (x : Cell). held_by id x ≡ false) h.cells p j home unborn inside
-        (λ _. left_false (is_held home.tag) (nat_eq 0 id) free_now) (λ n. only j (omega (arith, leaves.cells, lt)) n);
-    sweep = seat.is.sweep;
-    paced = seat.is.paced;
-  }
+  view = back.view a s k p id m at near t box may fits
 
   zero_sees : id ≡ 0 → IsSightOfZero (setting a) h' (gave m.view)
-  zero_sees e =
-      subst (λ (y : ℕ × ℕ × ℕ). IsSightOfZero (setting a) (after (setting a) h (Give y.0 y.1 y.2 all.computed now all.ends)) (gave m.view))
-      (λ i. (sym e i, all.is_process i, sym all.takes i))
-      (views.gives a h m.view (subst (λ (n : ℕ). IsViewOf a h n m.view) e seat.is)
-      (seat.zero e) all.hold all.computed now all.ends all.is_hold
-      (all.waits ∙ ap (λ (q : ℕ). outbox (line (plan_lines a.plan) q) (cell h q)) (sym all.is_process)))
+  zero_sees = back.zero_sees a s k p id m at near t box may fits
 
   at_home : AtHome a p home (brought t box)
-  at_home = record {
-    strand = (all.strand, (λ e. may.over (sym ends_is ∙ (sym ended_is ∙ e))), given_not_unborn a.room left all.ends);
-    box = λ i. record { room = may.room i; events = all.home i };
-    recorded = sym all.recorded ∙ sym ended_is;
-  }
+  at_home = back.at_home a s k p id m at near t box may fits
 
-  -- the steps of all seats then
-  abbrev pub all_steps : List Step
-  all_steps = k.history.steps ++ Give id p all.taken all.computed now all.ends ∷ []
+  abbrev all_steps : List Step
+  all_steps = back.all_steps a s k p id m at near t box may fits
 
-  -- and the seat's log
   abbrev xs : Log
-  xs = did m (giving m.view p (length box.events) now) all_steps
-
-  takes_are : takes_of m.view m.view.holds ≡ all.taken
-  takes_are = ap (takes_of m.view) all.is_hold ∙ sym all.takes
-
-  counts_are : length box.events + takes_of m.view m.view.holds - waits_of m.view m.view.holds ≡ all.computed
-  counts_are =
-      let waits = ap (waits_of m.view) all.is_hold ∙ ap length all.waits in
-      let few : all.taken ≤ c.computed - c.taken = rw all.allowed.take (take_le (setting a) h id p) in
-      let fits = k.sound.fits p inside in
-      let below = fits.taken in
-      let within = fits.computed in
-      let long = waiting_is in
-      let first = length-take (c.computed - c.taken) (drop c.taken l.events) in
-      let second = length-drop c.taken l.events in
-      let takes = takes_are in
-      omega (arith, waits, few, below, within, long, first, second, takes)
+  xs = back.xs a s k p id m at near t box may fits
 
   steps_are : xs.mine ≡ m.log.mine ++ Give id p all.taken all.computed now all.ends ∷ []
-  steps_are =
-      let over : is_over m.view.holds ≡ all.ends = ap is_over all.is_hold ∙ sym all.is_ends in
-      λ i. m.log.mine ++ Give (seat.is.number i) p (takes_are i) (counts_are i) now (over i) ∷ []
-
-  held_left : may.h.left ≡ k.going.left p
-  held_left = k.going.held id m at may.h may.is ∙ ap k.going.left may.process
+  steps_are = back.steps_are a s k p id m at near t box may fits
 
   few : steps_left a.plan t ≤ steps_of a.plan p
-  few =
-      let course = may.strand.course.numbers in
-      subst (λ (j : ℕ). steps_left a.plan t ≤ steps_of a.plan j) may.strand.process (omega (arith, course))
+  few = back.few a s k p id m at near t box may fits
 
   less : steps_left a.plan t ≤ k.going.left p
-  less = let fewer = may.fewer in let is = held_left in omega (arith, fewer, is)
+  less = back.less a s k p id m at near t box may fits
 
-  -- what waited when the seat was handed the process is what the core says
-  waited : waiting a.plan may.h ≡ outbox l c
-  waited =
-      (λ i. waiting (sym seat.is.plan i) (same_some may.h all.hold (sym may.is ∙ all.is_hold) i)) ∙ all.waits
-
-  -- and it is not after the clock of then, nor what was put after that of now
   soon : All (λ e. e.time ≤ now) (outbox l home)
-  soon =
-      let old : All (λ e. e.time ≤ now) (waiting a.plan may.h) =
-      subst (All (λ e. e.time ≤ now)) (sym waited)
-      (All-weaker (λ (e : TimedMessage). e.time ≤ c.clock) (λ (e : TimedMessage). e.time ≤ now)
-      (λ e early. let on = all.allowed.on in omega (arith, on, early)) (outbox l c) (k.going.early p inside)) in
-      subst (All (λ e. e.time ≤ now)) (sym may.events ∙ all.home)
-      (All-append (λ (e : TimedMessage). e.time ≤ now) (drop (must_take m.view may.h) (waiting a.plan may.h)) may.put
-      (All-drop (λ (e : TimedMessage). e.time ≤ now) (must_take m.view may.h) (waiting a.plan may.h) old) may.before)
+  soon = back.soon a s k p id m at near t box may fits
 
   none_else : (j : ℕ) (u : Mind) (x : Hold) → j ≢ id → get_elem? s.views j ≡ some u → u.view.holds ≡ Some x → x.process ≢ p
-  none_else j u x n there holds same =
-      let o : HoldsIn h j (Some x) = subst (HoldsIn h j) holds (k.stands.views.viewed j u there).is.holds in
-      let held : held_by j c ≡ true = ap (λ (z : ℕ). held_by j (cell h z)) (sym same) ∙ o.1 in
-      let seats = both (is_held c.tag) (nat_eq c.seat j) held in
-      n (sym (eqb-true c.seat j seats.1) ∙ eqb-true c.seat id mine_now.1)
+  none_else = back.none_else a s k p id m at near t box may fits
 
   pub going : (tag : Tag) (ws : List ℕ) → Going a (record {
     words = ws;
@@ -265,7 +149,7 @@ module _ (a : About) (s : Table) (k : StandsForSome a s) (p id : ℕ) (m : Mind)
       left = length-set m.left p (steps_left a.plan t) ∙ w.left;
       known = length-set m.known p now ∙ w.known;
       over = length-set m.over p (is_ended tag) ∙ w.over;
-      low = set_or_same m.known p now 0 (λ j n. n ≤ 2 ^ 40) w.low
+      low = set_or_same m.known p now 0 (λ j n. n ≤ last_tick) w.low
           (let late = end-late a.plan t may.strand.course in let top = ((valid_of a).lines.ends t.process).0 in
           omega (arith, late, top));
     };
@@ -335,8 +219,8 @@ module _ (a : About) (s : Table) (k : StandsForSome a s) (p id : ℕ) (m : Mind)
   spells new is = is ∙ (λ i. spell (given_tag a.room (sym ends_is i) (waiting_is i)) now 0)
 
 -- a give is the core's give
-gives_at : (a : About) (slots id p new : ℕ) (m : Mind) (cs : List (ℕ × Option Room)) (t : Strand) (box : EventQueue)
-    → (may : calls.MayGive a m.view p t box) → length box.events ≤ box.room → p < count a
+gives_at : (a : About) (slots id p new : ℕ) (m : Mind) (cs : List (ℕ × Option Deposit)) (t : Strand) (box : EventQueue)
+    → (may : calls.MayComeBack a m.view p t box) → length box.events ≤ box.room → p < count a
     → new ≡ spell (given_tag a.room (may.h.recorded || may.h.was_ended) (length box.events)) (clock_of a.plan t) 0
     → Allows (StandsForSome a) slots id (m, (p, Some (brought t box)) ∷ cs) (word_at p) (λ _. new)
     (λ _. gives_back (step slots (word_at p) new 0 none) (m, (p, Some (brought t box)) ∷ cs) new)
@@ -365,11 +249,11 @@ gives_at a slots id p new m cs t box may fits near is_new s k sized at small =
           }),
     )
 
-pub gives_of : (a : About) (slots id p new : ℕ) (m : Place) (cs : List (ℕ × Option Room)) (t : Strand) (box : EventQueue)
-    → m.1 ≡ (p, Some (brought t box)) ∷ cs → (may : calls.MayGive a m.0.view p t box) → length box.events ≤ box.room → p < count a
+pub gives_of : (a : About) (slots id p new : ℕ) (m : Holder) (cs : List (ℕ × Option Deposit)) (t : Strand) (box : EventQueue)
+    → m.1 ≡ (p, Some (brought t box)) ∷ cs → (may : calls.MayComeBack a m.0.view p t box) → length box.events ≤ box.room → p < count a
     → new ≡ spell (given_tag a.room (may.h.recorded || may.h.was_ended) (length box.events)) (clock_of a.plan t) 0
     → Allows (StandsForSome a) slots id m (word_at p) (λ _. new) (λ _. gives_back (step slots (word_at p) new 0 none) m new)
 gives_of a slots id p new m cs t box out may fits near is_new =
-    subst (λ (xs : List (ℕ × Option Room)). Allows (StandsForSome a) slots id (m.0, xs) (word_at p) (λ _. new)
+    subst (λ (xs : List (ℕ × Option Deposit)). Allows (StandsForSome a) slots id (m.0, xs) (word_at p) (λ _. new)
     (λ _. gives_back (step slots (word_at p) new 0 none) (m.0, xs) new))
     (sym out) (gives_at a slots id p new m.0 cs t box may fits near is_new)

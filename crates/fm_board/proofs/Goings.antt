@@ -21,7 +21,7 @@ use Rattle.fm_strand.specs.Course.{steps_of}
 use Rattle.fm_strand.specs.Strand.{steps_left}
 use Rattle.fm_strand.specs.declared.strand.Strand.{Strand}
 use Rattle.fm_board.specs.declared.about.About.{About}
-use Rattle.fm_board.specs.declared.room.Room.{Room}
+use Rattle.fm_board.specs.declared.deposit.Deposit.{Deposit}
 use Rattle.fm_board.specs.declared.view.Hold.{Hold}
 use Rattle.fm_board.specs.declared.view.Mind.{Mind}
 use Rattle.fm_board.specs.Minds.{left_seen}
@@ -125,13 +125,13 @@ one_same a h h' p c same near clock born box = record {
 -- ---- slots
 
 abbrev pub Homes : Type 0
-Homes = List (maybe.Option (Option Room))
+Homes = List (maybe.Option (Option Deposit))
 
 -- what two slots have that are the same
-pub same_stock : (x y : Room) → ◌≡◌ {A = maybe.Option (Option Room)} (some (Some x)) (some (Some y)) → x ≡ y
+pub same_stock : (x y : Deposit) → ◌≡◌ {A = maybe.Option (Option Deposit)} (some (Some x)) (some (Some y)) → x ≡ y
 same_stock x y e = same_room (some-injective (Some x) (Some y) e)
   where
-    same_room : ◌≡◌ {A = Option Room} (Some x) (Some y) → x ≡ y
+    same_room : ◌≡◌ {A = Option Deposit} (Some x) (Some y) → x ≡ y
     same_room f = cc
 
 -- ---- steps
@@ -192,7 +192,7 @@ module _ (a : About) (s : Table) (h : State) (q : Going a s h) (id : ℕ) (m w :
   pub changes : (ws : List ℕ) (hs : Homes) (p n : ℕ) (c : Cell) (h' : State) → h'.cells ≡ set h.cells p c → p < length h.cells
       → is_unborn c.tag ≡ false → n ≤ steps_of a.plan p → n ≤ q.left p
       → All (λ e. e.time ≤ c.clock) (outbox (line (plan_lines a.plan) p) c)
-      → ((j : ℕ) (stock : Room) (x : Strand) → get_elem? hs j ≡ some (some (Some stock)) → stock.strand ≡ Some x
+      → ((j : ℕ) (stock : Deposit) (x : Strand) → get_elem? hs j ≡ some (some (Some stock)) → stock.strand ≡ Some x
       → steps_left a.plan x ≡ put_left q.left p n j)
       → ((x : Hold) → w.view.holds ≡ Some x → x.left ≡ put_left q.left p n x.process)
       → ((k : ℕ) (u : Mind) (x : Hold) → k ≢ id → get_elem? s.views k ≡ some u → u.view.holds ≡ Some x → x.process ≢ p)
@@ -232,7 +232,7 @@ module _ (a : About) (s : Table) (h : State) (q : Going a s h) (id : ℕ) (m w :
       there j lt = let n = ap length same ∙ length-set h.cells p c in omega (arith, n, lt)
 
 -- a process that is away has no slot
-pub away : (a : About) (s : Table) (h : State) (q : Going a s h) (p n : ℕ) (j : ℕ) (stock : Room) (x : Strand)
+pub away : (a : About) (s : Table) (h : State) (q : Going a s h) (p n : ℕ) (j : ℕ) (stock : Deposit) (x : Strand)
     → get_elem? (set s.homes p none) j ≡ some (some (Some stock)) → stock.strand ≡ Some x
     → steps_left a.plan x ≡ put_left q.left p n j
 away a s h q p n j stock x there is =
@@ -242,16 +242,16 @@ away a s h q p n j stock x there is =
     (at_set s.homes p j none (some (Some stock)) there)
 
 -- a process that came home has what lies in its slot
-pub back_home : (a : About) (s : Table) (h : State) (q : Going a s h) (p n : ℕ) (new : Room) (t : Strand) → new.strand ≡ Some t
+pub back_home : (a : About) (s : Table) (h : State) (q : Going a s h) (p n : ℕ) (new : Deposit) (t : Strand) → new.strand ≡ Some t
     → steps_left a.plan t ≡ n
-    → (j : ℕ) (stock : Room) (x : Strand)
+    → (j : ℕ) (stock : Deposit) (x : Strand)
     → get_elem? (set s.homes p (some (Some new))) j ≡ some (some (Some stock)) → stock.strand ≡ Some x
     → steps_left a.plan x ≡ put_left q.left p n j
 back_home a s h q p n new t holds steps j stock x there is =
     ⊎_elim
     (λ (z : (j ≡ p) × (some (Some new) ≡ some (Some stock))).
     let same : new ≡ stock = same_stock new stock z.1 in
-    let strands : t ≡ x = one t x (sym holds ∙ (ap (λ (r : Room). r.strand) same ∙ is)) in
+    let strands : t ≡ x = one t x (sym holds ∙ (ap (λ (r : Deposit). r.strand) same ∙ is)) in
     ap (steps_left a.plan) (sym strands) ∙ (steps ∙ sym (put_same q.left p n j z.0)))
     (λ (z : (j ≢ p) × (get_elem? s.homes j ≡ some (some (Some stock)))). q.home j stock x z.1 is ∙ sym (put_other q.left p n j z.0))
     (at_set s.homes p j (some (Some new)) (some (Some stock)) there)

@@ -9,7 +9,7 @@ use Rattle.fm_core.specs.State.{State}
 use Rattle.fm_board.specs.declared.about.About.{About}
 use Rattle.fm_board.specs.declared.view.Mind.{Mind}
 use Rattle.fm_board.specs.Minds.{viewing}
-use Rattle.fm_board.specs.Plays.{Place, halts, heeds}
+use Rattle.fm_board.specs.Plays.{Holder, halts, heeds}
 use Rattle.fm_board.specs.StandsFor.{IsSeat, StandsForSome, count, halt_at}
 use Rattle.fm_board.specs.Words.{place_at, word_at}
 use Rattle.fm_board.proofs.Frames.{Leaves, places_stay, reseated, written_stays}
@@ -30,7 +30,7 @@ same_core h id = record {
   zero = λ n. record { due = refl; visited = refl; gather = refl; released = refl; floor = refl };
 }
 
-pub heeds_of : (a : About) (slots id : ℕ) (m : Place)
+pub heeds_of : (a : About) (slots id : ℕ) (m : Holder)
     → Allows (StandsForSome a) slots id m (halt_at a) (λ n. n) (heeds (step slots (halt_at a) 0 0 none) m)
 heeds_of a slots id m s k sized at small =
     let h : State = k.core in
@@ -77,7 +77,7 @@ heeds_of a slots id m s k sized at small =
       (refl, refl),
     )
 
-pub halts_of : (a : About) (slots id : ℕ) (m : Place) → m.0.view.number ≡ 0
+pub halts_of : (a : About) (slots id : ℕ) (m : Holder) → m.0.view.number ≡ 0
     → Allows (StandsForSome a) slots id m (halt_at a) (λ _. 1) (λ _. halts (step slots (halt_at a) 1 0 none) m 1)
 halts_of a slots id m number s k sized at small =
     let h : State = k.core in
@@ -145,13 +145,13 @@ halts_of a slots id m number s k sized at small =
       (refl, refl),
     )
 
-pub heeds_at : (key a : About) (slots id i : ℕ) (m : Place) → key ≡ a → i ≡ halt_at a
+pub heeds_at : (key a : About) (slots id i : ℕ) (m : Holder) → key ≡ a → i ≡ halt_at a
     → Allows (StandsForSome key) slots id m i (λ n. n) (heeds (step slots i 0 0 none) m)
 heeds_at key a slots id i m same at =
     subst (λ (j : ℕ). Allows (StandsForSome key) slots id m j (λ n. n) (heeds (step slots j 0 0 none) m)) (ap halt_at same ∙ sym at)
     (heeds_of key slots id m)
 
-pub halts_at : (key a : About) (slots id i : ℕ) (m : Place) → key ≡ a → i ≡ halt_at a → m.0.view.number ≡ 0
+pub halts_at : (key a : About) (slots id i : ℕ) (m : Holder) → key ≡ a → i ≡ halt_at a → m.0.view.number ≡ 0
     → Allows (StandsForSome key) slots id m i (λ _. 1) (λ _. halts (step slots i 1 0 none) m 1)
 halts_at key a slots id i m same at number =
     subst (λ (j : ℕ). Allows (StandsForSome key) slots id m j (λ _. 1) (λ _. halts (step slots j 1 0 none) m 1)) (ap halt_at same ∙ sym at)

@@ -1,5 +1,5 @@
 -- What a seat knows of the processes grows with each of its steps.
-use Rattle.std.proofs.Common.{◌≡◌, ℕ, ◌^◌, ◌≤◌, length, get_or, set, Bool, true, false, refl, sym, ap, ◌∙◌, subst, arith, min, length-set}
+use Rattle.std.proofs.Common.{◌≡◌, ℕ, ◌≤◌, length, get_or, set, Bool, true, false, refl, sym, ap, ◌∙◌, subst, arith, min, length-set}
 use Rattle.std.specs.Prelude.{if◌then◌else◌}
 use Rattle.fm_core.specs.Tags.{is_ended, is_unborn}
 use Rattle.fm_core.specs.declared.tag.Tag.{Tag}
@@ -15,9 +15,10 @@ use Rattle.fm_board.specs.Answers.{Found, Hands}
 use Rattle.fm_board.specs.Knowing.{Knows}
 use Rattle.fm_board.specs.Minds.{left_seen, spotted, turned}
 use Rattle.fm_board.specs.Plays.{Tells}
-use Rattle.fm_board.specs.Seats.{Sight}
+use Rattle.fm_board.specs.Seats.{SeatState}
 use Rattle.fm_board.proofs.Goings.{seen_fewer}
 use Rattle.fm_board.proofs.Spellings.{set_or_same}
+use Rattle.fm_line.specs.Line.{last_tick}
 
 pub knows_none : (m : Mind) → Knows m m
 knows_none m = record { left = λ p. omega arith; known = λ p. omega arith; over = λ p e. e; wide = λ n w. w; made = refl }
@@ -70,25 +71,25 @@ spotted_knows m p t c r v xs tells = record {
     left = seen_wide m p t ∙ w.left;
     known = length-set m.known p c ∙ w.known;
     over = length-set m.over p (is_ended t) ∙ w.over;
-    low = set_or_same m.known p c 0 (λ j n. n ≤ 2 ^ 40) w.low tells.low;
+    low = set_or_same m.known p c 0 (λ j n. n ≤ last_tick) w.low tells.low;
   };
   made = refl;
 }
 
-pub found_knows : (old : Sight) (p : ℕ) (s : Seen) (v : View) (xs : Log) (new : Sight) → Found old p s v xs new
+pub found_knows : (old : SeatState) (p : ℕ) (s : Seen) (v : View) (xs : Log) (new : SeatState) → Found old p s v xs new
     → Knows old.mind new.mind
 found_knows old p s v xs new found =
-    subst (Knows old.mind) (sym (ap (λ (x : Sight). x.mind) found.sight))
+    subst (Knows old.mind) (sym (ap (λ (x : SeatState). x.mind) found.sight))
     (spotted_knows old.mind p s.tag s.clock _ v xs found.tells)
 
-pub hands_knows : (a : About) (old : Sight) (p : ℕ) (s : Seen) (b : Berth) (new : Sight) → Hands a old p s b new
+pub hands_knows : (a : About) (old : SeatState) (p : ℕ) (s : Seen) (b : Berth) (new : SeatState) → Hands a old p s b new
     → Knows old.mind new.mind
 hands_knows a old p s b new hands =
-    subst (Knows old.mind) (sym (ap (λ (x : Sight). x.mind) hands.sight))
+    subst (Knows old.mind) (sym (ap (λ (x : SeatState). x.mind) hands.sight))
     (turned_knows old.mind _ (spotted_knows old.mind p s.tag s.clock _ _ _ hands.tells))
 
 -- a process that was not born, and is out now
-pub born_knows : (m : Mind) (p c r : ℕ) (v : View) (xs : Log) → c ≤ 2 ^ 40 → Tells m p Unborn 0
+pub born_knows : (m : Mind) (p c r : ℕ) (v : View) (xs : Log) → c ≤ last_tick → Tells m p Unborn 0
     → Knows m (turned (spotted m p Out c r v xs))
 born_knows m p c r v xs low tells = record {
   left = seen_fewer m p Out;
@@ -99,7 +100,7 @@ born_knows m p c r v xs low tells = record {
     left = seen_wide m p Out ∙ w.left;
     known = length-set m.known p c ∙ w.known;
     over = length-set m.over p false ∙ w.over;
-    low = set_or_same m.known p c 0 (λ j n. n ≤ 2 ^ 40) w.low low;
+    low = set_or_same m.known p c 0 (λ j n. n ≤ last_tick) w.low low;
   };
   made = refl;
 }

@@ -1,6 +1,7 @@
 pub mod Frames
 pub mod Runs
 pub mod Releasing
+pub mod Given
 pub mod Giving
 pub mod Looking
 pub mod Views
@@ -9,6 +10,7 @@ pub mod Looks
 pub mod Loads
 pub mod Claims
 pub mod Found
+pub mod ComingHome
 pub mod Gives
 pub mod Later
 pub mod Publishing
@@ -20,6 +22,7 @@ pub mod Tokens
 pub mod OneState
 pub mod Steps
 pub mod Returns
+pub mod Peeks
 pub mod Starts
 pub mod Births
 pub mod Records
@@ -29,7 +32,6 @@ pub mod Halts
 pub mod Recalls
 pub mod Findings
 pub mod Meetings
-pub mod Pairs
 pub mod Sweeping
 pub mod Advancing
 pub mod Taking

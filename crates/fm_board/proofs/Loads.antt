@@ -9,8 +9,7 @@ use Rattle.fm_core.proofs.Keeps as core
 use Rattle.fm_core.proofs.May.{may_look, may_pace}
 use Rattle.fm_core.specs.Effects.{after, visits_by_look}
 use Rattle.fm_core.specs.State.{Desk, State, cell, desk}
-use Rattle.fm_core.specs.Sweep.{swept}
-use Rattle.fm_core.specs.Sweep as sweep
+use Rattle.fm_core.specs.Sweep.{sighted, swept}
 use Rattle.fm_core.specs.Tags.{has_nothing}
 use Rattle.fm_core.specs.declared.cell.Cell.{Cell}
 use Rattle.fm_core.specs.declared.floor.Floor.{Floor}
@@ -21,7 +20,7 @@ use Rattle.fm_board.specs.declared.view.Log.{Log}
 use Rattle.fm_board.specs.declared.view.Mind.{Mind}
 use Rattle.fm_board.specs.declared.view.View.{View}
 use Rattle.fm_board.specs.Minds.{did, spotted, stepping}
-use Rattle.fm_board.specs.Plays.{Finds, Place, looks, paces}
+use Rattle.fm_board.specs.Plays.{Finds, Holder, looks, paces}
 use Rattle.fm_board.specs.StandsFor.{IsSeat, IsSightOfZero, IsViewOf, StandsForSome, count, setting}
 use Rattle.fm_board.specs.View.{InTurn, looked}
 use Rattle.fm_board.specs.Words.{word_at}
@@ -44,7 +43,7 @@ turned v p xs same turn = by_case turn.turn
     by_case (inr (inr e)) = or_right _ _ (eq-eqb (p + 1) (length xs) (e ∙ ap length same))
 
 -- a look is the core's look
-pub looks_of : (a : About) (slots id p : ℕ) (m : Place) → p < count a → InTurn m.0.view p
+pub looks_of : (a : About) (slots id p : ℕ) (m : Holder) → p < count a → InTurn m.0.view p
     → Allows (StandsForSome a) slots id m (word_at p) (λ n. n) (looks (step slots (word_at p) 0 0 none) m)
 looks_of a slots id p m near turn s k sized at small =
     let h : State = k.core in
@@ -58,7 +57,7 @@ looks_of a slots id p m near turn s k sized at small =
     let mine_is = ap (λ (n : ℕ). m.0.log.mine ++ Look n p ∷ []) seat.is.number in
     let w : Mind = spotted m.0 p c.tag c.clock word v xs in
     let h' : State = after (setting a) h (Look id p) in
-    let d : Desk = record (desk h id) { sweep = swept (desk h id).sweep p (sweep.sighted (setting a) h (desk h id).sweep p) } in
+    let d : Desk = record (desk h id) { sweep = swept (desk h id).sweep p (sighted (setting a) h (desk h id).sweep p) } in
     let same : 0 ≢ id → SameForZero h h' = (λ n. record {
       due = refl;
       visited = ap (λ b. if b && has_nothing c.tag then slice_set h.visited p true else h.visited) (ne_eqb id 0 (λ e. n (sym e)));
@@ -93,7 +92,7 @@ looks_of a slots id p m near turn s k sized at small =
     )
 
 -- a pace is the core's pace
-pub paces_of : (a : About) (slots id : ℕ) (m : Place) → Allows (StandsForSome a) slots id m 0 (λ n. n) (paces (step slots 0 0 0 none) m)
+pub paces_of : (a : About) (slots id : ℕ) (m : Holder) → Allows (StandsForSome a) slots id m 0 (λ n. n) (paces (step slots 0 0 0 none) m)
 paces_of a slots id m s k sized at small =
     let h : State = k.core in
     let seat = k.stands.views.viewed id m.0 at in

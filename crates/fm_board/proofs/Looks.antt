@@ -1,11 +1,11 @@
 -- Looks and paces keep the rule.
-use Rattle.std.proofs.Common.{◌≡◌, ◌⊎◌, ℕ, ◌^◌, ◌<◌, ◌≤◌, List, length, get_or, set, true, false, Option, refl, sym, ap, ◌∙◌, subst, inl, inr, arith, eq-eqb, length-set, None}
+use Rattle.std.proofs.Common.{◌≡◌, ◌⊎◌, ℕ, ◌<◌, ◌≤◌, List, length, get_or, set, true, false, Option, refl, sym, ap, ◌∙◌, subst, inl, inr, arith, eq-eqb, length-set, None}
 use Rattle.std.specs.Prelude.{nat_eq}
 use mathlib.Core.Option.{some}
 use lib.ListN.{get_elem?}
 use Rattle.std.proofs.lemmas.List.{set-get_or}
 use Rattle.atomic_table.specs.Table.{keeps, stepped}
-use Rattle.fm_line.specs.Line.{line}
+use Rattle.fm_line.specs.Line.{line, last_tick}
 use Rattle.fm_core.proofs.Booleans.{and_true}
 use Rattle.fm_core.specs.Invariant.{ValidSetting}
 use Rattle.fm_core.specs.State.{State, cell}
@@ -18,7 +18,7 @@ use Rattle.fm_program.specs.Parts.{PlanParts}
 use Rattle.fm_program.specs.Process.{plan_lines}
 use Rattle.fm_strand.proofs.ValidLemmas.{lines-valid}
 use Rattle.fm_board.specs.declared.about.About.{About}
-use Rattle.fm_board.specs.declared.room.Room.{Room}
+use Rattle.fm_board.specs.declared.deposit.Deposit.{Deposit}
 use Rattle.fm_board.specs.declared.view.Log.{Log}
 use Rattle.fm_board.specs.declared.view.Mind.{Mind}
 use Rattle.fm_board.specs.declared.view.View.{View}
@@ -36,6 +36,7 @@ use Rattle.fm_core.specs.State.{held_by}
 use Rattle.fm_board.proofs.Looking.{tells}
 use Rattle.fm_board.specs.Runs.{Extends}
 use Rattle.fm_board.proofs.Spellings.{one_word, set_or_same, upper_low, yes_or_no}
+use Rattle.fm_core.specs.declared.limits.TheConstants.{MAX_SEATS}
 
 -- the setting of a board is valid
 pub valid_of : (a : About) → ValidSetting (setting a)
@@ -49,10 +50,10 @@ module _ (a : About) (s : Table) (k : StandsForSome a s) where
   lined = k.sound.lined ∙ plan-lines-length a.plan
 
   -- a clock is at most the last tick
-  pub low : (p : ℕ) → p < length h.cells → (cell h p).clock ≤ 2 ^ 40
+  pub low : (p : ℕ) → p < length h.cells → (cell h p).clock ≤ last_tick
   low p lt = by_case (yes_or_no (is_unborn (cell h p).tag))
     where
-      by_case : (is_unborn (cell h p).tag ≡ true) ⊎ (is_unborn (cell h p).tag ≡ false) → (cell h p).clock ≤ 2 ^ 40
+      by_case : (is_unborn (cell h p).tag ≡ true) ⊎ (is_unborn (cell h p).tag ≡ false) → (cell h p).clock ≤ last_tick
       by_case (inl unborn) = let none_yet = (k.stands.words.shown p lt).unborn unborn in omega arith
       by_case (inr born) =
           let fits = k.sound.fits p lt in
@@ -60,10 +61,10 @@ module _ (a : About) (s : Table) (k : StandsForSome a s) where
           let top = upper_low (plan_lines a.plan) (valid_of a).lines p (cell h p).computed fits.computed in omega (arith, timed, top)
 
   -- a seat that is shown is at most 16
-  pub few : (p : ℕ) → p < length h.cells → (cell h p).seat ≤ 16
+  pub few : (p : ℕ) → p < length h.cells → (cell h p).seat < MAX_SEATS
   few p lt = by_case (yes_or_no (is_held (cell h p).tag))
     where
-      by_case : (is_held (cell h p).tag ≡ true) ⊎ (is_held (cell h p).tag ≡ false) → (cell h p).seat ≤ 16
+      by_case : (is_held (cell h p).tag ≡ true) ⊎ (is_held (cell h p).tag ≡ false) → (cell h p).seat < MAX_SEATS
       by_case (inl held) = let near = k.sound.seated p lt held in let crew = k.stands.crew in let most = a.crew.1 in omega arith
       by_case (inr free) = let none_yet = (k.stands.words.shown p lt).idle free in omega arith
 
@@ -78,7 +79,7 @@ module _ (a : About) (s : Table) (k : StandsForSome a s) where
       )
 
   -- what the word of a process says is what the process is
-  pub says : (p : ℕ) → p < length h.cells → (t : Tag) (c n : ℕ) → n ≤ 16 → get_or s.words (word_at p) 0 ≡ spell t c n
+  pub says : (p : ℕ) → p < length h.cells → (t : Tag) (c n : ℕ) → n < MAX_SEATS → get_or s.words (word_at p) 0 ≡ spell t c n
       → ((cell h p).tag ≡ t) × ((cell h p).clock ≡ c) × ((cell h p).seat ≡ n)
   says p lt t c n small e =
       one_word (cell h p).tag t (cell h p).clock c (cell h p).seat n (few p lt) small (sym (k.stands.words.spelt p lt) ∙ e)
@@ -130,7 +131,7 @@ module _ (a : About) (s : Table) (k : StandsForSome a s) where
         alone = λ one first none_held. none_out id p m at seat lt one first none_held;
       }
 
-  pub finds : (id p : ℕ) (m : Mind) (cs : List (ℕ × Option Room)) (f : Tag → ℕ → View) (g : Tag → Log)
+  pub finds : (id p : ℕ) (m : Mind) (cs : List (ℕ × Option Deposit)) (f : Tag → ℕ → View) (g : Tag → Log)
       → get_elem? s.views id ≡ some m → IsSeat a h id m → p < length h.cells
       → Extends m.view.number m.log (g (cell h p).tag)
       → Finds (m, cs) p (get_or s.words (word_at p) 0) f g (
@@ -153,7 +154,7 @@ module _ (a : About) (s : Table) (k : StandsForSome a s) where
   }
 
   -- a step that leaves the processes and the floor
-  pub looks_on : (i id : ℕ) (m w : Mind) (cs : List (ℕ × Option Room)) (h' : State) → get_elem? s.views id ≡ some m → w.made ≡ m.made
+  pub looks_on : (i id : ℕ) (m w : Mind) (cs : List (ℕ × Option Deposit)) (h' : State) → get_elem? s.views id ≡ some m → w.made ≡ m.made
       → w.view.holds ≡ m.view.holds → w.view.halted ≡ m.view.halted
       → Leaves h h' id → h'.cells ≡ h.cells → h'.floor ≡ h.floor → IsSeat a h' id w
       → StandsFor a (stepped s i (get_or s.words i 0) id cs w keeps) h'

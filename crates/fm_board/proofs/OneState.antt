@@ -23,12 +23,12 @@ use Rattle.fm_program.specs.Process.{plan_lines}
 use Rattle.fm_strand.specs.declared.strand.Strand.{Strand}
 use Rattle.fm_strand.specs.Strand.{rest}
 use Rattle.fm_board.specs.declared.about.About.{About}
-use Rattle.fm_board.specs.declared.room.Room.{Room}
+use Rattle.fm_board.specs.declared.deposit.Deposit.{Deposit}
 use Rattle.fm_board.specs.declared.view.Hold.{Hold}
 use Rattle.fm_board.specs.declared.view.Mind.{Mind}
 use Rattle.fm_board.specs.Laws.{StandsAtFirst}
 use Rattle.fm_board.specs.Runs.{by_seat, seat_of}
-use Rattle.fm_board.specs.Seats.{AreOthers, Sight, first_sight}
+use Rattle.fm_board.specs.Seats.{AreOthers, SeatState, first_sight}
 use Rattle.fm_board.specs.StandsFor.{AtHome, HoldsIn, IsHoldOf, StandsFor, StandsForSome, StrandAt, Table, beginning, setting}
 use Rattle.fm_board.proofs.Claims.{same_some}
 use Rattle.fm_board.proofs.Looks.{few, lined, says, valid_of}
@@ -63,7 +63,7 @@ long_box a j c f =
     let less = f.taken in omega (arith, first, second, low, less)
 
 -- two processes at home over one slot
-home_is : (a : About) (j : ℕ) (c d : Cell) (x : Room) → AtHome a j c x → AtHome a j d x → Fits (setting a) j c → Fits (setting a) j d
+home_is : (a : About) (j : ℕ) (c d : Cell) (x : Deposit) → AtHome a j c x → AtHome a j d x → Fits (setting a) j c → Fits (setting a) j d
     → c.tag ≡ d.tag → (c.computed ≡ d.computed) × (c.taken ≡ d.taken) × (c.recorded ≡ d.recorded)
 home_is a j c d x p q f g tags =
     let computed = computed_is a j c d x.strand p.strand q.strand f g in
@@ -107,7 +107,7 @@ module _ (a : About) (s : Table) (k : StandsForSome a s) (k' : StandsForSome a s
         let y = k'.stands.homes.home j lt' (ap is_held (sym word.0) ∙ free) in
         let same : y.0 ≡ x.0 = same_some y.0 x.0 (some-injective (Some y.0) (Some x.0)
         (some-injective (some (Some y.0)) (some (Some x.0)) (sym y.1 ∙ x.1))) in
-        home_is a j c d x.0 x.2 (subst (λ (r : Room). AtHome a j d r) same y.2) (k.sound.fits j lt) (k'.sound.fits j lt') word.0
+        home_is a j c d x.0 x.2 (subst (λ (r : Deposit). AtHome a j d r) same y.2) (k.sound.fits j lt) (k'.sound.fits j lt') word.0
 
     -- held
     in_hold : (z : StandsForSome a s) (m : Mind) (in_range : j < length z.core.cells) → is_held (cell z.core j).tag ≡ true
@@ -223,25 +223,25 @@ begins a s k empty =
     by_case j (inl made) = let v = there_is s.views j made in sym (k.history.made j v.0 v.1) ∙ empty j v.0 v.1
     by_case j (inr none_there) = k.history.none j none_there
 
-seats_empty : (xs : List Sight) → ((j : ℕ) (d : Sight) → j < length xs → (get_or xs j d).mind.log.mine ≡ []) → (j : ℕ) (m : Mind)
+seats_empty : (xs : List SeatState) → ((j : ℕ) (d : SeatState) → j < length xs → (get_or xs j d).mind.log.mine ≡ []) → (j : ℕ) (m : Mind)
     → get_elem? (map (λ x. x.mind) xs) j ≡ some m → m.log.mine ≡ []
 seats_empty [] each j m e = absurd (some-ne-none m (sym e))
 seats_empty (x ∷ xs) each zero m e = ap (λ (y : Mind). y.log.mine) (sym (some-injective x.mind m e)) ∙ each 0 x (omega arith)
 seats_empty (x ∷ xs) each (suc j) m e = seats_empty xs (λ i d lt. each (suc i) d (omega arith)) j m e
 
 -- and so does a table of seats that made no step
-pub stands_at_first : (a : About) (first : Sight) (others : List Sight) → first.mind.log.mine ≡ []
-    → ((j : ℕ) (d : Sight) → j < length others → (get_or others j d).mind.log.mine ≡ []) → StandsAtFirst a first others
+pub stands_at_first : (a : About) (first : SeatState) (others : List SeatState) → first.mind.log.mine ≡ []
+    → ((j : ℕ) (d : SeatState) → j < length others → (get_or others j d).mind.log.mine ≡ []) → StandsAtFirst a first others
 stands_at_first a first others empty each s k views =
     begins a s k (λ j m e. seats_empty (first ∷ others) both_empty j m
     (subst (λ (xs : List Mind). get_elem? xs j ≡ some m) views e))
   where
-    both_empty : (j : ℕ) (d : Sight) → j < length (first ∷ others) → (get_or (first ∷ others) j d).mind.log.mine ≡ []
+    both_empty : (j : ℕ) (d : SeatState) → j < length (first ∷ others) → (get_or (first ∷ others) j d).mind.log.mine ≡ []
     both_empty zero d lt = empty
     both_empty (suc j) d lt = each j d (omega arith)
 
-pub new_seats : (t : TableId) (a : About) (n : ℕ) (first : Sight) (others : List Sight) → first ≡ first_sight t a n → AreOthers t a n others
+pub new_seats : (t : TableId) (a : About) (n : ℕ) (first : SeatState) (others : List SeatState) → first ≡ first_sight t a n → AreOthers t a n others
     → StandsAtFirst a first others
 new_seats t a n first others is are =
-    stands_at_first a first others (ap (λ (x : Sight). x.mind.log.mine) is)
-    (λ j d lt. ap (λ (x : Sight). x.mind.log.mine) (are.each j d lt))
+    stands_at_first a first others (ap (λ (x : SeatState). x.mind.log.mine) is)
+    (λ j d lt. ap (λ (x : SeatState). x.mind.log.mine) (are.each j d lt))

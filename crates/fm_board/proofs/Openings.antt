@@ -20,12 +20,23 @@ use Rattle.fm_core.specs.declared.cell.Cell.{Cell}
 use Rattle.fm_program.proofs.Lines.{plan-lines-length}
 use Rattle.fm_program.specs.Process.{plan_lines}
 use Rattle.fm_board.specs.declared.about.About.{About}
-use Rattle.fm_board.specs.declared.room.Room.{Room}
+use Rattle.fm_board.specs.declared.deposit.Deposit.{Deposit}
 use Rattle.fm_board.specs.declared.view.Mind.{Mind}
 use Rattle.fm_board.specs.Minds.{all_lefts, first_mind, lefts_from}
-use Rattle.fm_board.specs.StandsFor.{AtHome, Going, IsSeat, IsStocked, Shown, StandsForSome, count, halt_at, setting}
+use Rattle.fm_board.specs.StandsFor.{AtHome, Going, IsSeat, Shown, StandsForSome, count, halt_at, setting}
 use Rattle.fm_board.specs.Words.{spelt, word_at}
 use Rattle.fm_board.proofs.Looks.{valid_of}
+use Rattle.fm_strand.specs.declared.strand.Strand.{Strand}
+use Rattle.fm_strand.specs.Strand.{steps_left}
+
+-- the slots of a new board
+pub record IsStocked (a : About) (rooms : List (Option Deposit)) : Type 0 where
+  pub many : length rooms ≡ count a
+  pub each : (j : ℕ) → j < count a
+      → (stock : Deposit) × (get_elem? rooms j ≡ some (Some stock))
+      × AtHome a j (cell_in (root ∷ replicate (count a - 1) unborn) j) stock
+  pub first : (j : ℕ) (stock : Deposit) (x : Strand) → get_elem? rooms j ≡ some (Some stock) → stock.strand ≡ Some x
+      → (j ≡ 0) × (steps_left a.plan x ≡ steps_of a.plan 0)
 
 pub at_opening : (P : ℕ → Cell → Type 0) (n : ℕ) → P 0 root → ((q : ℕ) → P (suc q) unborn) → (p : ℕ)
     → P p (cell_in (root ∷ replicate (n - 1) unborn) p)
@@ -86,7 +97,7 @@ map_back [] j x e = absurd (some-ne-none (some x) (sym e))
 map_back (y ∷ ys) zero x e = some-injective (some y) (some x) e
 map_back (y ∷ ys) (suc j) x e = map_back ys j x e
 
-first_going : (a : About) (rooms : List (Option Room)) → IsStocked a rooms → (ws : List ℕ) (h : State)
+first_going : (a : About) (rooms : List (Option Deposit)) → IsStocked a rooms → (ws : List ℕ) (h : State)
     → h.cells ≡ root ∷ replicate (length (plan_lines a.plan) - 1) unborn
     → Going a (record { words = ws; homes = map some rooms; views = first_mind a ∷ [] }) h
 first_going a rooms stocked ws h cells = record {
@@ -118,7 +129,7 @@ first_going a rooms stocked ws h cells = record {
     few (suc p) lt = let is = fresh_left a.plan (suc p) lt in omega (arith, is)
 
 -- a new board stands for the opening
-pub opens : (a : About) (rooms : List (Option Room)) → IsStocked a rooms
+pub opens : (a : About) (rooms : List (Option Deposit)) → IsStocked a rooms
     → StandsForSome a (opening (set (replicate (2 + 10 * count a) 0) 1 1) rooms (first_mind a))
 opens a rooms stocked =
     let n : ℕ = length (plan_lines a.plan) in

@@ -1,5 +1,5 @@
 -- A publish keeps the rule, and so does a release, which changes no word.
-use Rattle.std.proofs.Common.{◌≡◌, inr, ℕ, zero, suc, ◌^◌, ◌<◌, ◌≤◌, List, [], ◌∷◌, ◌++◌, length, get_or, set, Bool, false, Option, Some, None, refl, sym, ap, ◌∙◌, subst, arith, get_or-set_same, get_or-set_other, replicate}
+use Rattle.std.proofs.Common.{◌≡◌, inr, ℕ, zero, suc, ◌<◌, ◌≤◌, List, [], ◌∷◌, ◌++◌, length, get_or, set, Bool, false, Option, Some, None, refl, sym, ap, ◌∙◌, subst, arith, get_or-set_same, get_or-set_other, replicate}
 use mathlib.Core.Option.{some, none}
 use lib.ListN.{get_elem?}
 use Rattle.atomic_table.specs.Table.{Allows, keeps, step}
@@ -22,7 +22,7 @@ use Rattle.fm_program.specs.Parts.{PlanParts}
 use Rattle.fm_board.specs.declared.about.About.{About}
 use Rattle.fm_board.specs.declared.view.Mind.{Mind}
 use Rattle.fm_board.specs.Minds.{settled, stepping}
-use Rattle.fm_board.specs.Plays.{MayRelease, Place, publishes}
+use Rattle.fm_board.specs.Plays.{MayRelease, Holder, publishes}
 use Rattle.fm_board.specs.StandsFor.{halt_at, IsSeat, IsSightOfZero, Spelt, StandsForSome, Table, setting}
 use Rattle.fm_board.specs.View.{processes, published, released}
 use Rattle.fm_board.specs.Words.{IsLow, floor_word, word_at}
@@ -33,6 +33,7 @@ use Rattle.fm_board.proofs.Looks.{lined, low, valid_of}
 use Rattle.fm_board.proofs.Runs.{begins_all, begins_more, extends_on, runs_on}
 use Rattle.fm_board.proofs.Spellings.{bounds_low}
 use Rattle.fm_board.proofs.Views as views
+use Rattle.fm_line.specs.Line.{last_tick}
 
 module _ (a : About) (s : Table) (k : StandsForSome a s) (m : Mind) (at : get_elem? s.views 0 ≡ some m) where
   abbrev h : State
@@ -52,10 +53,10 @@ module _ (a : About) (s : Table) (k : StandsForSome a s) (m : Mind) (at : get_el
   abbrev d : Desk
   d = record (desk h 0) { sweep = [] }
 
-  clocks_low : (j : ℕ) → (cell h j).clock ≤ 2 ^ 40
+  clocks_low : (j : ℕ) → (cell h j).clock ≤ last_tick
   clocks_low j = all_low h.cells j (low a s k)
     where
-      all_low : (cs : List Cell) (j : ℕ) → ((p : ℕ) → p < length cs → (cell_in cs p).clock ≤ 2 ^ 40) → (cell_in cs j).clock ≤ 2 ^ 40
+      all_low : (cs : List Cell) (j : ℕ) → ((p : ℕ) → p < length cs → (cell_in cs p).clock ≤ last_tick) → (cell_in cs j).clock ≤ last_tick
       all_low [] j each = omega arith
       all_low (x ∷ xs) zero each = each 0 (omega arith)
       all_low (x ∷ xs) (suc j) each = all_low xs j (λ p lt. each (suc p) (omega arith))
@@ -185,7 +186,7 @@ module _ (a : About) (s : Table) (k : StandsForSome a s) (m : Mind) (at : get_el
       }
 
 -- a publish is the core's publish
-pub publishes_of : (a : About) (slots id new : ℕ) (m : Place) → m.0.view.number ≡ 0 → length m.0.view.sweep ≡ processes m.0.view
+pub publishes_of : (a : About) (slots id new : ℕ) (m : Holder) → m.0.view.number ≡ 0 → length m.0.view.sweep ≡ processes m.0.view
     → m.0.view.due ≡ Nothing → new ≡ floor_word (floor_of (least m.0.view.sweep))
     → Allows (StandsForSome a) slots id m 0 (λ _. new) (λ _. publishes (step slots 0 new 0 none) m new)
 publishes_of a slots id new m number swept due is_new s k sized at small =
@@ -217,7 +218,7 @@ settles a s id m may k at =
     subst (λ (n : ℕ). StandsForSome a (reviewed (StandsForSome a) s n (settled m))) zero_is (release_stands a s k m at_0 may)
 
 -- a step of a seat that owes a release is the release and the step
-pub owing : (a : About) (slots id i : ℕ) (m : Place) (f : ℕ → ℕ) (then : ℕ → Place → Type 0) → MayRelease m.0.view
+pub owing : (a : About) (slots id i : ℕ) (m : Holder) (f : ℕ → ℕ) (then : ℕ → Holder → Type 0) → MayRelease m.0.view
     → Allows (StandsForSome a) slots id (settled m.0, m.1) i f then → Allows (StandsForSome a) slots id m i f then
 owing a slots id i m f then may next =
     later (StandsForSome a) slots id i m.0 (settled m.0) m.1 f then (λ s k at. settles a s id m.0 may k at) next

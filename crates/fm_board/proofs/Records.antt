@@ -20,11 +20,11 @@ use Rattle.fm_core.specs.declared.cell.Cell.{Cell}
 use Rattle.fm_core.specs.declared.step.Step.TheVariants.{Record}
 use Rattle.fm_strand.specs.Course.{end_place}
 use Rattle.fm_board.specs.declared.about.About.{About}
-use Rattle.fm_board.specs.declared.room.Room.{Room}
+use Rattle.fm_board.specs.declared.deposit.Deposit.{Deposit}
 use Rattle.fm_board.specs.declared.view.Hold.{Hold}
 use Rattle.fm_board.specs.declared.view.Mind.{Mind}
 use Rattle.fm_board.specs.Minds.{stepping}
-use Rattle.fm_board.specs.Plays.{Place, records}
+use Rattle.fm_board.specs.Plays.{Holder, records}
 use Rattle.fm_board.specs.StandsFor.{AtHome, HoldsIn, IsHoldOf, IsSeat, Shown, Spelt, StandsForSome, Table, Written, count, setting}
 use Rattle.fm_board.specs.View.{noted_hold, process_of}
 use Rattle.fm_board.specs.Words.{place_at, place_word, spelt, word_at}
@@ -38,7 +38,7 @@ use Rattle.fm_board.proofs.Writes.{place_moves, read, written_moves}
 
 -- ---- the last one
 
-module _ (a : About) (s : Table) (k : StandsForSome a s) (p id new : ℕ) (x : Hold) (m : Place) (at : get_elem? s.views id ≡ some m.0)
+module _ (a : About) (s : Table) (k : StandsForSome a s) (p id new : ℕ) (x : Hold) (m : Holder) (at : get_elem? s.views id ≡ some m.0)
     (near : p < count a)
     (holds : m.0.view.holds ≡ Some x) (process : x.process ≡ p) (more : 8 ≤ x.written) (live : x.was_ended ≡ false)
     (right : new ≡ place_word (end_place a.plan p) 8) where
@@ -164,7 +164,7 @@ module _ (a : About) (s : Table) (k : StandsForSome a s) (p id new : ℕ) (x : H
       };
       homes = record {
         many = k.stands.homes.many;
-        home = λ j lt free. or_set (λ (z : Cell). is_held z.tag ≡ false → (r : Room) × (get_elem? s.homes j ≡ some (some (Some r)))
+        home = λ j lt free. or_set (λ (z : Cell). is_held z.tag ≡ false → (r : Deposit) × (get_elem? s.homes j ≡ some (some (Some r)))
             × AtHome a j z r) h.cells p j d unborn old.0
             (λ e no. let yes = parts.0 in absurd (cc)) (λ n is. k.stands.homes.home j (rw length-set at lt) is) free;
       };
@@ -180,7 +180,7 @@ module _ (a : About) (s : Table) (k : StandsForSome a s) (p id new : ℕ) (x : H
         (λ j lt. get_or-set_other s.words (place_at p 8) (word_at j) new 0 (λ e. absurd (omega (arith, e))));
   }
 
-pub records_of : (a : About) (slots id p new : ℕ) (x : Hold) (m : Place) → p < count a → m.0.view.holds ≡ Some x → x.process ≡ p
+pub records_of : (a : About) (slots id p new : ℕ) (x : Hold) (m : Holder) → p < count a → m.0.view.holds ≡ Some x → x.process ≡ p
     → 8 ≤ x.written
     → x.was_ended ≡ false → new ≡ place_word (end_place a.plan p) 8
     → Allows (StandsForSome a) slots id m (place_at p 8) (λ _. new) (λ _. records (step slots (place_at p 8) new 0 none) m new)

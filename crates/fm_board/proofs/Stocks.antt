@@ -15,7 +15,7 @@ use Rattle.fm_strand.specs.declared.strand.Strand.{Strand}
 use Rattle.fm_strand.specs.Strand.{InCourse, clock_of, rest, steps_left}
 use Rattle.fm_strand.specs.Course.{steps_of}
 use Rattle.fm_board.proofs.Goings.{same_stock}
-use Rattle.fm_board.specs.Seats.{AreOthers, AreRooms, IsFirst, Sight}
+use Rattle.fm_board.specs.Seats.{AreOthers, AreRooms, IsFirst, SeatState}
 use Rattle.atomic_table.proofs.Lists.{at_last, at_longer}
 use Rattle.fm_core.proofs.Elements.{same_all, take_none}
 use Rattle.fm_core.specs.State.{cell_in, root, unborn}
@@ -23,11 +23,11 @@ use Rattle.fm_core.specs.Tags.{is_ended, is_unborn}
 use Rattle.fm_core.specs.declared.cell.Cell.{Cell}
 use Rattle.fm_program.specs.Process.{plan_lines}
 use Rattle.fm_board.specs.declared.about.About.{About}
-use Rattle.fm_board.specs.declared.room.Room.{Room}
+use Rattle.fm_board.specs.declared.deposit.Deposit.{Deposit}
 use Rattle.fm_board.specs.Minds.{fresh}
-use Rattle.fm_board.specs.StandsFor.{IsStocked, StrandAt, count}
+use Rattle.fm_board.specs.StandsFor.{StrandAt, count}
 use Rattle.fm_board.proofs.Frames.{at_below}
-use Rattle.fm_board.proofs.Openings.{at_opening}
+use Rattle.fm_board.proofs.Openings.{IsStocked, at_opening}
 
 -- a strand of the first process at its start, which stands at tick 0
 pub first_given : (p : PlanParts) (s : Strand) → PartsFit p → s.process ≡ 0 → InCourse p s → clock_of p s ≡ start (plan_lines p) 0
@@ -47,7 +47,7 @@ first_at a (suc j) None is = ap (λ (c : Cell). is_unborn c.tag) (same_all (coun
 first_at a (suc j) (Some s) is = let no = is.0 in absurd (omega arith)
 
 -- the slots of a new board are stocked
-pub stocked : (a : About) (rooms : List (Option Room)) → AreRooms a (count a) rooms → IsStocked a rooms
+pub stocked : (a : About) (rooms : List (Option Deposit)) → AreRooms a (count a) rooms → IsStocked a rooms
 stocked a rooms are = record {
   many = are.many;
   each = λ j lt. let one = are.each j lt in (
@@ -66,14 +66,14 @@ stocked a rooms are = record {
       let below = at_below rooms j (Some stock) there in
       let one = are.each j (let n = are.many in omega (arith, below, n)) in
       let same : one.0 ≡ stock = same_stock one.0 stock (sym one.1 ∙ there) in
-      let begins = subst (λ (o : Option Strand). IsFirst a.plan j o) (ap (λ (r : Room). r.strand) same ∙ is) one.2 in (begins.0, begins.2);
+      let begins = subst (λ (o : Option Strand). IsFirst a.plan j o) (ap (λ (r : Deposit). r.strand) same ∙ is) one.2 in (begins.0, begins.2);
 }
 
-pub snoc_rooms : (a : About) (n : ℕ) (rooms : List (Option Room)) (s : Option Strand) (box : EventQueue) → AreRooms a n rooms
+pub snoc_rooms : (a : About) (n : ℕ) (rooms : List (Option Deposit)) (s : Option Strand) (box : EventQueue) → AreRooms a n rooms
     → IsFirst a.plan n s
     → box ≡ record { room = a.room; events = [] } → AreRooms a (n + 1) (rooms ++ Some (record { strand = s; outbox = box }) ∷ [])
 snoc_rooms a n rooms s box are is empty =
-    let new : Option Room = Some (record { strand = s; outbox = box }) in
+    let new : Option Deposit = Some (record { strand = s; outbox = box }) in
     record {
       many = length-append rooms (new ∷ []) ∙ ap (λ (k : ℕ). k + 1) are.many;
       each = λ j lt. dite (ℕ_discrete j n)
@@ -86,7 +86,7 @@ snoc_rooms a n rooms s box are is empty =
           (λ n. let one = are.each j (omega arith) in (one.0, at_longer rooms (new ∷ []) j (Some one.0) one.1, one.2, one.3));
     }
 
-pub snoc_seats : (t : TableId) (a : About) (n : ℕ) (seats : List Sight) (x : Sight) → AreOthers t a n seats
+pub snoc_seats : (t : TableId) (a : About) (n : ℕ) (seats : List SeatState) (x : SeatState) → AreOthers t a n seats
     → x ≡ record { table = t; mind = fresh a.plan a.room a.lead a.seats n 0 }
     → AreOthers t a (n + 1) (seats ++ x ∷ [])
 snoc_seats t a n seats x are is =
@@ -100,6 +100,6 @@ snoc_seats t a n seats x are is =
           (λ n. let less : k < length seats = omega arith in get_or_append_left seats (x ∷ []) d k less ∙ are.each k d less);
     }
   where
-    get_or_append_last : (xs : List Sight) (x d : Sight) → get_or (xs ++ x ∷ []) (length xs) d ≡ x
+    get_or_append_last : (xs : List SeatState) (x d : SeatState) → get_or (xs ++ x ∷ []) (length xs) d ≡ x
     get_or_append_last [] x d = refl
     get_or_append_last (y ∷ ys) x d = get_or_append_last ys x d

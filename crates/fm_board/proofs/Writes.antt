@@ -14,7 +14,7 @@ use Rattle.fm_board.specs.declared.about.About.{About}
 use Rattle.fm_board.specs.declared.view.Hold.{Hold}
 use Rattle.fm_board.specs.declared.view.Mind.{Mind}
 use Rattle.fm_board.specs.Minds.{viewing}
-use Rattle.fm_board.specs.Plays.{Place, writes}
+use Rattle.fm_board.specs.Plays.{Holder, writes}
 use Rattle.fm_board.specs.StandsFor.{HoldsIn, IsSeat, Spelt, StandsForSome, Written, count}
 use Rattle.fm_board.specs.Words.{place_at, place_word, word_at}
 use Rattle.fm_board.proofs.Claims.{same_some}
@@ -66,7 +66,7 @@ module _ (a : About) (ws : List ℕ) (p i n : ℕ) (few : i < 9) (near : p < cou
 
 -- ---- the first eight
 
-pub writes_of : (a : About) (slots id p i new : ℕ) (x : Hold) (m : Place) → p < count a → i < 8 → m.0.view.holds ≡ Some x → x.process ≡ p
+pub writes_of : (a : About) (slots id p i new : ℕ) (x : Hold) (m : Holder) → p < count a → i < 8 → m.0.view.holds ≡ Some x → x.process ≡ p
     → i ≤ x.written
     → new ≡ place_word (end_place a.plan p) i
     → Allows (StandsForSome a) slots id m (place_at p i) (λ _. new) (λ _. writes (step slots (place_at p i) new 0 none) m new)

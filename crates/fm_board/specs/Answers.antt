@@ -18,7 +18,7 @@ use Rattle.fm_board.specs.Minds.{did, noticed, spotted, turned}
 use Rattle.fm_board.specs.Plays.{Tells}
 use Rattle.fm_core.specs.declared.step.Step.TheVariants.{Claim as Claiming, Look}
 use Rattle.fm_board.specs.Words.{spell}
-use Rattle.fm_board.specs.Seats.{Sight}
+use Rattle.fm_board.specs.Seats.{SeatState}
 use Rattle.fm_board.specs.View.{is_over}
 
 -- the berth is of this hold
@@ -27,7 +27,7 @@ pub record IsBerth (a : About) (p : ℕ) (h : Hold) (b : Berth) : Type 0 where
   pub process : b.process ≡ p
 
 -- the seat was handed a process whose word, as this call found it, said this
-pub record Hands (a : About) (old : Sight) (p : ℕ) (s : Seen) (b : Berth) (new : Sight) : Type 0 where
+pub record Hands (a : About) (old : SeatState) (p : ℕ) (s : Seen) (b : Berth) (new : SeatState) : Type 0 where
   pub hold : Hold
   pub berth : IsBerth a p hold b
   pub was_ended : hold.was_ended ≡ is_ended s.tag
@@ -43,7 +43,7 @@ pub record Hands (a : About) (old : Sight) (p : ℕ) (s : Seen) (b : Berth) (new
 
 -- this word of the process was found in this call, and is not older than what the seat saw before; the seat has this view
 -- then, and this log
-pub record Found (old : Sight) (p : ℕ) (s : Seen) (v : View) (l : Log) (new : Sight) : Type 0 where
+pub record Found (old : SeatState) (p : ℕ) (s : Seen) (v : View) (l : Log) (new : SeatState) : Type 0 where
   pub tells : Tells old.mind p s.tag s.clock
   pub same : old.mind.made ≡ 1 → old.mind.view.number ≡ 0 → old.mind.at ≡ p → spell s.tag s.clock s.seat ≡ old.mind.last
   pub sight : new ≡ record {
@@ -53,20 +53,20 @@ pub record Found (old : Sight) (p : ℕ) (s : Seen) (v : View) (l : Log) (new : 
   pub extends : Extends old.mind.view.number old.mind.log new.mind.log
 
 -- a look found this word of the process
-abbrev pub Looks : Sight → ℕ → Seen → Sight → Type 0
+abbrev pub Looks : SeatState → ℕ → Seen → SeatState → Type 0
 Looks old p s new =
     Found old p s (looked old.mind.view p s.tag s.clock)
     (did old.mind (Look old.mind.view.number p) new.mind.log.seen) new
 
 -- the answer of a claim
-abbrev pub Claims : About → Sight → ℕ → Seen → Claim → Sight → Type 0
+abbrev pub Claims : About → SeatState → ℕ → Seen → Claim → SeatState → Type 0
 Claims a old p expected (claim.Held b) new = Hands a old p expected b new
 Claims a old p expected (claim.Busy found) new =
     Found old p found old.mind.view old.mind.log new × (found ≢ expected)
     × (spell found.tag found.clock found.seat ≢ spell expected.tag expected.clock expected.seat)
 
 -- what a give leaves
-abbrev pub Gave : About → Sight → Berth → Sight → Type 0
+abbrev pub Gave : About → SeatState → Berth → SeatState → Type 0
 Gave a old b new =
     new ≡ record {
       table = old.table;

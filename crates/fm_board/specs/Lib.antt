@@ -3,9 +3,7 @@ pub mod View
 pub mod Runs
 pub mod Calls
 pub mod StandsFor
-pub mod Given
 pub mod Quantum
-pub mod Tells
 pub mod Played
 pub mod Minds
 pub mod Plays

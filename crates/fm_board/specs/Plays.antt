@@ -1,7 +1,7 @@
 -- What each step on a word tells the seat that makes it.
-use Rattle.std.specs.Prelude.{nat_eq, ◌≡◌, ◌≢◌, ℕ, ◌+◌, ◌^◌, ◌<◌, ◌≤◌, List, [], ◌∷◌, length, true, false, Option, Some, None, slice_index_or}
+use Rattle.std.specs.Prelude.{nat_eq, ◌≡◌, ◌≢◌, ℕ, ◌+◌, ◌<◌, ◌≤◌, List, [], ◌∷◌, length, true, false, Option, Some, None, slice_index_or}
 use Rattle.atomic_table.specs.Table.{Me, Step, rest}
-use Rattle.fm_line.specs.Line.{line, start}
+use Rattle.fm_line.specs.Line.{line, start, last_tick}
 use Rattle.fm_core.specs.Floors.{floor_of}
 use Rattle.fm_core.specs.Sweep.{least}
 use Rattle.fm_core.specs.Tags.{is_ended, is_held, is_unborn}
@@ -14,7 +14,7 @@ use Rattle.fm_core.specs.declared.tag.Tag.TheVariants.{Out, Unborn}
 use Rattle.fm_program.specs.Parts.{PlanParts}
 use Rattle.fm_buffer.specs.Outbox.{EventQueue}
 use Rattle.fm_strand.specs.declared.strand.Strand.{Strand}
-use Rattle.fm_board.specs.declared.room.Room.{Room}
+use Rattle.fm_board.specs.declared.deposit.Deposit.{Deposit}
 use Rattle.fm_board.specs.declared.view.Hold.{Hold}
 use Rattle.fm_board.specs.declared.view.View.{View}
 use Rattle.fm_board.specs.declared.view.Log.{Log}
@@ -27,10 +27,11 @@ use Rattle.fm_board.specs.View.{gave, giving, holding, lines_of, looked, noted, 
 use Rattle.fm_board.specs.Words.{IsLow, IsWord, floor_word, spell, word_at, place_at, place_word}
 use Rattle.fm_strand.specs.Course.{end_place, steps_of}
 use Rattle.fm_strand.specs.Strand.{steps_left}
+use Rattle.fm_core.specs.declared.limits.TheConstants.{MAX_SEATS}
 
 -- a seat's mind, and the slots that are out with it
-abbrev pub Place : Type 0
-Place = Me (Option Room) Mind
+abbrev pub Holder : Type 0
+Holder = Me (Option Deposit) Mind
 
 -- what a word that was found tells: it is not older than what the seat saw before
 pub record Tells (m : Mind) (p : ℕ) (t : Tag) (c : ℕ) : Type 0 where
@@ -39,31 +40,31 @@ pub record Tells (m : Mind) (p : ℕ) (t : Tag) (c : ℕ) : Type 0 where
   pub end : is_ended t ≡ true → c ≡ (line (lines_of m.view) p).end
   pub done : m.view.number ≡ 0 → m.view.published ≡ Done → is_ended t ≡ true
   pub unborn : is_unborn t ≡ true → steps_of m.view.plan p < slice_index_or m.left p 0
-  pub low : c ≤ 2 ^ 40
+  pub low : c ≤ last_tick
   -- where there is no other seat, no process is in other hands
   pub alone : m.made ≡ 1 → m.view.number ≡ 0 → m.view.holds ≡ None → is_held t ≡ false
 
 -- the word of the process was found; the view is then what f says of its tag and clock, and the log what g says of the
 -- tag
-pub record Finds (m : Place) (p r : ℕ) (f : Tag → ℕ → View) (g : Tag → Log) (m' : Place) : Type 0 where
+pub record Finds (m : Holder) (p r : ℕ) (f : Tag → ℕ → View) (g : Tag → Log) (m' : Holder) : Type 0 where
   pub word : IsWord r
   pub out : m'.1 ≡ m.1
   pub wide : length m.0.over ≡ processes m.0.view
   -- where there is no other seat, it is the word that the seat saw last of the process
   pub same : m.0.made ≡ 1 → m.0.view.number ≡ 0 → m.0.at ≡ p → r ≡ m.0.last
-  pub mind : (t : Tag) (c s : ℕ) → s ≤ 16 → r ≡ spell t c s → m'.0 ≡ spotted m.0 p t c r (f t c) (g t)
-  pub tells : (t : Tag) (c s : ℕ) → s ≤ 16 → r ≡ spell t c s → Tells m.0 p t c
+  pub mind : (t : Tag) (c s : ℕ) → s < MAX_SEATS → r ≡ spell t c s → m'.0 ≡ spotted m.0 p t c r (f t c) (g t)
+  pub tells : (t : Tag) (c s : ℕ) → s < MAX_SEATS → r ≡ spell t c s → Tells m.0 p t c
   pub extends : Extends m.0.view.number m.0.log m'.0.log
 
 -- ---- look and pace
 
 -- the load of a process's word
-abbrev pub looks : Step (Option Room) → Place → ℕ → Place → Type 0
+abbrev pub looks : Step (Option Deposit) → Holder → ℕ → Holder → Type 0
 looks st m r m' = (p : ℕ) → st.word ≡ word_at p
     → Finds m p r (looked m.0.view p) (λ t. did m.0 (Look m.0.view.number p) m'.0.log.seen) m'
 
 -- the load of the floor
-pub record Paces (m : Place) (r : ℕ) (m' : Place) : Type 0 where
+pub record Paces (m : Holder) (r : ℕ) (m' : Holder) : Type 0 where
   pub floor : Floor
   pub low : IsLow floor
   pub word : r ≡ floor_word floor
@@ -75,13 +76,13 @@ pub record Paces (m : Place) (r : ℕ) (m' : Place) : Type 0 where
   pub extends : Extends m.0.view.number m.0.log m'.0.log
 
 -- it is found, and the seat keeps it
-abbrev pub paces : Step (Option Room) → Place → ℕ → Place → Type 0
+abbrev pub paces : Step (Option Deposit) → Holder → ℕ → Holder → Type 0
 paces st m r m' = Paces m r m'
 
 -- ---- claim
 
 -- the seat was handed the process, and what was in its slot
-pub record Hands (m : Place) (p : ℕ) (t : Tag) (c r : ℕ) (m' : Place) : Type 0 where
+pub record Hands (m : Holder) (p : ℕ) (t : Tag) (c r : ℕ) (m' : Holder) : Type 0 where
   pub hold : Hold
   pub strand : Strand
   pub box : EventQueue
@@ -96,15 +97,15 @@ pub record Hands (m : Place) (p : ℕ) (t : Tag) (c r : ℕ) (m' : Place) : Type
   pub out : m'.1 ≡ (p, Some (record { strand = Some strand; outbox = box })) ∷ m.1
 
 -- the exchange of a process's word: it was the expected one, or another
-abbrev pub claims : Step (Option Room) → Place → ℕ → Place → Type 0
+abbrev pub claims : Step (Option Deposit) → Holder → ℕ → Holder → Type 0
 claims st m r m' = (p : ℕ) → st.word ≡ word_at p
-    → (r ≡ st.first → (t : Tag) (c s : ℕ) → s ≤ 16 → st.first ≡ spell t c s → Hands m p t c r m')
+    → (r ≡ st.first → (t : Tag) (c s : ℕ) → s < MAX_SEATS → st.first ≡ spell t c s → Hands m p t c r m')
     × (r ≢ st.first → Finds m p r (λ t c. m.0.view) (λ t. m.0.log) m')
 
 -- ---- start
 
 -- the load of a predecessor's word
-abbrev pub recalls : Step (Option Room) → Place → ℕ → Place → Type 0
+abbrev pub recalls : Step (Option Deposit) → Holder → ℕ → Holder → Type 0
 recalls st m r m' = (p : ℕ) → st.word ≡ word_at p → Finds m p r (λ t c. m.0.view) (recalled m.0 p m'.0.log.seen) m'
 
 -- each process that this one waits for is marked as ended
@@ -113,9 +114,9 @@ Marked m p n =
     (i : ℕ) → i < n → slice_index_or m.over (slice_index_or (line (lines_of m.view) p).predecessors i 0) false ≡ true
 
 -- the seat was handed a process that nobody had
-pub record Begins (m : Place) (p : ℕ) (m' : Place) : Type 0 where
+pub record Begins (m : Holder) (p : ℕ) (m' : Holder) : Type 0 where
   pub hold : Hold
-  pub stock : Room
+  pub stock : Deposit
   pub process : hold.process ≡ p
   pub computed : hold.computed ≡ 0
   pub taken : hold.taken ≡ 0
@@ -132,19 +133,19 @@ pub record Begins (m : Place) (p : ℕ) (m' : Place) : Type 0 where
   pub out : m'.1 ≡ (p, Some stock) ∷ m.1
 
 -- the exchange of an unborn process's word
-abbrev pub starts : Step (Option Room) → Place → ℕ → Place → Type 0
+abbrev pub starts : Step (Option Deposit) → Holder → ℕ → Holder → Type 0
 starts st m r m' = (p : ℕ) → st.word ≡ word_at p
     → (r ≡ 0 → Begins m p m') × (r ≢ 0 → Finds m p r (λ t c. m.0.view) (λ t. m.0.log) m')
 
 -- ---- give
 
 -- how many events are in the outbox that comes home
-abbrev pub events_in : Option Room → ℕ
+abbrev pub events_in : Option Deposit → ℕ
 events_in None = 0
 events_in (Some x) = length x.outbox.events
 
 -- and how many come home
-abbrev pub brings_events : List (ℕ × Option Room) → ℕ
+abbrev pub brings_events : List (ℕ × Option Deposit) → ℕ
 brings_events [] = 0
 brings_events (x ∷ xs) = events_in x.1
 
@@ -154,17 +155,17 @@ left_of p None = 0
 left_of p (Some s) = steps_left p s
 
 -- and of what is in a slot
-abbrev pub left_in : PlanParts → Option Room → ℕ
+abbrev pub left_in : PlanParts → Option Deposit → ℕ
 left_in p None = 0
 left_in p (Some x) = left_of p x.strand
 
 -- and of what comes home
-abbrev pub brings : PlanParts → List (ℕ × Option Room) → ℕ
+abbrev pub brings : PlanParts → List (ℕ × Option Deposit) → ℕ
 brings p [] = 0
 brings p (x ∷ xs) = left_in p x.1
 
 -- the store of a process's word
-pub record GivesBack (m : Place) (p : ℕ) (t : Tag) (c : ℕ) (m' : Place) : Type 0 where
+pub record GivesBack (m : Holder) (p : ℕ) (t : Tag) (c : ℕ) (m' : Holder) : Type 0 where
   pub mind : m'.0
       ≡ noticed m.0 p t c (brings m.0.view.plan m.1) (gave m.0.view)
       (did m.0 (giving m.0.view p (brings_events m.1) c) m'.0.log.seen)
@@ -173,20 +174,20 @@ pub record GivesBack (m : Place) (p : ℕ) (t : Tag) (c : ℕ) (m' : Place) : Ty
   pub out : m'.1 ≡ rest m.1
 
 -- whatever the word that is stored spells
-abbrev pub gives_back : Step (Option Room) → Place → ℕ → Place → Type 0
+abbrev pub gives_back : Step (Option Deposit) → Holder → ℕ → Holder → Type 0
 gives_back st m r m' =
-    (p : ℕ) (t : Tag) (c s : ℕ) → st.word ≡ word_at p → s ≤ 16 → st.first ≡ spell t c s → GivesBack m p t c m'
+    (p : ℕ) (t : Tag) (c s : ℕ) → st.word ≡ word_at p → s < MAX_SEATS → st.first ≡ spell t c s → GivesBack m p t c m'
 
 -- ---- publish and release
 
 -- the store of the floor
-pub record Publishes (m : Place) (f : Floor) (m' : Place) : Type 0 where
+pub record Publishes (m : Holder) (f : Floor) (m' : Holder) : Type 0 where
   pub mind : m'.0 ≡ stepping m.0 Publish (published m.0.view f (due_of (least m.0.view.sweep))) m'.0.log.seen
   pub extends : Extends m.0.view.number m.0.log m'.0.log
   pub out : m'.1 ≡ m.1
 
 -- that floor is the least of the sweep
-abbrev pub publishes : Step (Option Room) → Place → ℕ → Place → Type 0
+abbrev pub publishes : Step (Option Deposit) → Holder → ℕ → Holder → Type 0
 publishes st m r m' = Publishes m (floor_of (least m.0.view.sweep)) m'
 
 -- what a release asks of the view
@@ -198,12 +199,12 @@ pub record MayRelease (v : View) : Type 0 where
 -- ---- record
 
 -- the store of one of the first eight words of the place of the process that the seat holds
-abbrev pub writes : Step (Option Room) → Place → ℕ → Place → Type 0
+abbrev pub writes : Step (Option Deposit) → Holder → ℕ → Holder → Type 0
 writes st m r m' = (p i : ℕ) (x : Hold) → st.word ≡ place_at p i → i < 8 → m.0.view.holds ≡ Some x → x.process ≡ p
     → (m'.0 ≡ viewing m.0 (record m.0.view { holds = Some (record x { written = i + 1 }) })) × (m'.1 ≡ m.1)
 
 -- the store of the last one
-abbrev pub records : Step (Option Room) → Place → ℕ → Place → Type 0
+abbrev pub records : Step (Option Deposit) → Holder → ℕ → Holder → Type 0
 records st m r m' =
     (m'.0 ≡ stepping m.0 (Record m.0.view.number (process_of m.0.view.holds)) (noted m.0.view) m'.0.log.seen)
     × (m'.1 ≡ m.1) × Extends m.0.view.number m.0.log m'.0.log
@@ -211,17 +212,17 @@ records st m r m' =
 -- ---- halt and heed
 
 -- the store of the halt word
-abbrev pub halts : Step (Option Room) → Place → ℕ → Place → Type 0
+abbrev pub halts : Step (Option Deposit) → Holder → ℕ → Holder → Type 0
 halts st m r m' = (m'.0 ≡ viewing m.0 (record m.0.view { halted = true })) × (m'.1 ≡ m.1)
 
 -- the load of the halt word
-abbrev pub heeds : Step (Option Room) → Place → ℕ → Place → Type 0
+abbrev pub heeds : Step (Option Deposit) → Holder → ℕ → Holder → Type 0
 heeds st m r m' = (m'.0 ≡ viewing m.0 (record m.0.view { heeded = nat_eq r 1 })) × (m'.1 ≡ m.1)
 
 -- ---- recall
 
 -- the load of a place word of a process that the seat saw ended
-abbrev pub reads : Step (Option Room) → Place → ℕ → Place → Type 0
+abbrev pub reads : Step (Option Deposit) → Holder → ℕ → Holder → Type 0
 reads st m r m' = (m' ≡ m)
     × ((p i : ℕ) → st.word ≡ place_at p i → i < 9 → p < processes m.0.view → slice_index_or m.0.over p false ≡ true
     → r ≡ place_word (end_place m.0.view.plan p) i)

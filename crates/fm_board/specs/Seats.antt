@@ -12,7 +12,7 @@ use Rattle.fm_strand.specs.Course.{end_place, steps_of}
 use Rattle.fm_strand.specs.Strand.{steps_left}
 use Rattle.fm_board.specs.Words.{place_word}
 use Rattle.fm_board.specs.declared.about.About.{About}
-use Rattle.fm_board.specs.declared.room.Room.{Room}
+use Rattle.fm_board.specs.declared.deposit.Deposit.{Deposit}
 use Rattle.fm_board.specs.declared.view.Hold.{Hold}
 use Rattle.fm_board.specs.declared.view.View.{View}
 use Rattle.fm_board.specs.declared.view.Mind.{Mind}
@@ -20,7 +20,7 @@ use Rattle.fm_board.specs.Calls.{HasGiven, Releases}
 use Rattle.fm_core.specs.declared.step.Step.{Step}
 use Rattle.fm_board.specs.Played.{IsPlayed}
 use Rattle.fm_board.specs.Minds.{fresh, settled, stepping, viewing}
-use Rattle.fm_board.specs.Plays.{MayRelease, Place}
+use Rattle.fm_board.specs.Plays.{MayRelease, Holder}
 
 -- once all were visited, what seat 0 gathered is, in its order, the next part of the piece
 pub record IsNext (v : View) : Type 0 where
@@ -40,14 +40,14 @@ current false m = m
 pub record Post : Type 0 where
   pub table : TableId
   pub id : ℕ
-  pub me : Place
+  pub me : Holder
 
 -- a seat that may owe a release, as it counts it
-abbrev pub post : TableId → ℕ → Bool → Place → Post
+abbrev pub post : TableId → ℕ → Bool → Holder → Post
 post t i owes m = record { table = t; id = i; me = (current owes m.0, m.1) }
 
 -- the slots that are out with a seat between two calls: its process's, empty while the berth is in the caller's hands
-abbrev pub carried : Option Hold → List (ℕ × Option Room)
+abbrev pub carried : Option Hold → List (ℕ × Option Deposit)
 carried None = []
 carried (Some h) = (h.process, None) ∷ []
 
@@ -59,20 +59,20 @@ pub record IsSwept (looks : List Look) (capacity : ℕ) (sweep : List Look) (man
   pub few : many < 2 ^ 32
 
 -- what a contract sees of a seat: its table, and what it knows
-pub record Sight : Type 0 where
+pub record SeatState : Type 0 where
   pub table : TableId
   pub mind : Mind
 
 -- a seat with this view
-abbrev pub seeing : Sight → View → Sight
+abbrev pub seeing : SeatState → View → SeatState
 seeing s v = record s { mind = viewing s.mind v }
 
 -- a seat that made this step, with this view, and has seen these steps
-abbrev pub making : Sight → Step → View → List Step → Sight
+abbrev pub making : SeatState → Step → View → List Step → SeatState
 making s x v xs = record s { mind = stepping s.mind x v xs }
 
 -- the seat is one of this board's
-pub record IsOurs (t : TableId) (a : About) (s : Sight) : Type 0 where
+pub record IsOurs (t : TableId) (a : About) (s : SeatState) : Type 0 where
   pub table : s.table ≡ t
   pub plan : s.mind.view.plan ≡ a.plan
   pub room : s.mind.room ≡ a.room
@@ -80,18 +80,18 @@ pub record IsOurs (t : TableId) (a : About) (s : Sight) : Type 0 where
   pub seats : s.mind.view.seats ≡ a.seats
 
 -- a seat of this board that holds nothing
-pub record IsIdle (t : TableId) (a : About) (s : Sight) : Type 0 where
+pub record IsIdle (t : TableId) (a : About) (s : SeatState) : Type 0 where
   pub ours : IsOurs t a s
   pub idle : s.mind.view.holds ≡ None
 
 -- seat 0 of a new board, that made so many seats
-abbrev pub first_sight : TableId → About → ℕ → Sight
+abbrev pub first_sight : TableId → About → ℕ → SeatState
 first_sight t a made = record { table = t; mind = fresh a.plan a.room a.lead a.seats 0 made }
 
 -- the other seats of a new board, in the order of their numbers
-pub record AreOthers (t : TableId) (a : About) (n : ℕ) (seats : List Sight) : Type 0 where
+pub record AreOthers (t : TableId) (a : About) (n : ℕ) (seats : List SeatState) : Type 0 where
   pub many : length seats + 1 ≡ n
-  pub each : (k : ℕ) (d : Sight) → k < length seats
+  pub each : (k : ℕ) (d : SeatState) → k < length seats
       → slice_index_or seats k d ≡ record { table = t; mind = fresh a.plan a.room a.lead a.seats (k + 1) 0 }
 
 -- a board of this plan, with a room of r events, a lead of l ticks and n seats
@@ -107,16 +107,16 @@ IsFirst p j None = 0 < j
 IsFirst p j (Some s) = (j ≡ 0) × HasGiven p 0 0 0 s × (steps_left p s ≡ steps_of p 0)
 
 -- the slots of the first n processes of a new board
-pub record AreRooms (a : About) (n : ℕ) (rooms : List (Option Room)) : Type 0 where
+pub record AreRooms (a : About) (n : ℕ) (rooms : List (Option Deposit)) : Type 0 where
   pub many : length rooms ≡ n
   pub each : (j : ℕ) → j < n
-      → (stock : Room) × (get_elem? rooms j ≡ some (Some stock)) × IsFirst a.plan j stock.strand
+      → (stock : Deposit) × (get_elem? rooms j ≡ some (Some stock)) × IsFirst a.plan j stock.strand
       × (stock.outbox ≡ record { room = a.room; events = [] })
 
 -- ---- record
 
 -- what the store of a place word asks
-pub record MayWrite (a : About) (s : Sight) (p i word : ℕ) : Type 0 where
+pub record MayWrite (a : About) (s : SeatState) (p i word : ℕ) : Type 0 where
   pub hold : Hold
   pub is : s.mind.view.holds ≡ Some hold
   pub process : hold.process ≡ p

@@ -1,5 +1,5 @@
 -- When words, slots and views stand for a state of the core.
-use Rattle.std.specs.Prelude.{nat_eq, ◌≡◌, ℕ, ◌+◌, ◌*◌, ◌<◌, ◌≤◌, ◌-◌, List, [], ◌∷◌, length, replicate, true, false, ◌||◌, All, Option, Some, None, slice_index_or}
+use Rattle.std.specs.Prelude.{nat_eq, ◌≡◌, ℕ, ◌+◌, ◌*◌, ◌<◌, ◌≤◌, List, [], length, true, false, ◌||◌, All, Option, Some, None, slice_index_or}
 use mathlib.Core.Option.{some}
 use mathlib.Core.Option as maybe
 use lib.ListN.{get_elem?}
@@ -7,7 +7,7 @@ use Rattle.atomic_table.specs.Table as table
 use Rattle.fm_line.specs.Line.{line}
 use Rattle.fm_core.specs.Invariant.{Sound}
 use Rattle.fm_core.specs.Effects.{Legal, run}
-use Rattle.fm_core.specs.State.{Setting, State, cell, cell_in, desk, no_desk, held_by, opening, root, unborn}
+use Rattle.fm_core.specs.State.{Setting, State, cell, cell_in, desk, no_desk, held_by, opening}
 use Rattle.fm_core.specs.Tags.{is_ended, is_held, is_unborn}
 use Rattle.fm_core.specs.Taking.{outbox}
 use Rattle.fm_core.specs.declared.cell.Cell.{Cell}
@@ -17,7 +17,7 @@ use Rattle.fm_program.specs.Process.{plan_lines}
 use Rattle.fm_strand.specs.declared.strand.Strand.{Strand}
 use Rattle.fm_strand.specs.Strand.{steps_left}
 use Rattle.fm_board.specs.declared.about.About.{About}
-use Rattle.fm_board.specs.declared.room.Room.{Room}
+use Rattle.fm_board.specs.declared.deposit.Deposit.{Deposit}
 use Rattle.fm_board.specs.declared.view.Hold.{Hold}
 use Rattle.fm_board.specs.declared.view.View.{View}
 use Rattle.fm_board.specs.declared.view.Mind.{Mind}
@@ -61,25 +61,16 @@ StrandAt a j c (Some s) =
     (is_unborn c.tag ≡ false)
 
 -- the slot of a process that nobody holds
-pub record AtHome (a : About) (j : ℕ) (c : Cell) (stock : Room) : Type 0 where
+pub record AtHome (a : About) (j : ℕ) (c : Cell) (stock : Deposit) : Type 0 where
   pub strand : StrandAt a j c stock.strand
   pub box : stock.outbox ≡ record { room = a.room; events = outbox (line (plan_lines a.plan) j) c }
   pub recorded : c.recorded ≡ is_ended c.tag
 
 -- each process that nobody holds is at home
-pub record Housed (a : About) (homes : List (maybe.Option (Option Room))) (cells : List Cell) : Type 0 where
+pub record Housed (a : About) (homes : List (maybe.Option (Option Deposit))) (cells : List Cell) : Type 0 where
   pub many : length homes ≡ count a
   pub home : (j : ℕ) → j < length cells → is_held (cell_in cells j).tag ≡ false
-      → (stock : Room) × (get_elem? homes j ≡ some (some (Some stock))) × AtHome a j (cell_in cells j) stock
-
--- the slots of a new board
-pub record IsStocked (a : About) (rooms : List (Option Room)) : Type 0 where
-  pub many : length rooms ≡ count a
-  pub each : (j : ℕ) → j < count a
-      → (stock : Room) × (get_elem? rooms j ≡ some (Some stock))
-      × AtHome a j (cell_in (root ∷ replicate (count a - 1) unborn) j) stock
-  pub first : (j : ℕ) (stock : Room) (x : Strand) → get_elem? rooms j ≡ some (Some stock) → stock.strand ≡ Some x
-      → (j ≡ 0) × (steps_left a.plan x ≡ steps_of a.plan 0)
+      → (stock : Deposit) × (get_elem? homes j ≡ some (some (Some stock))) × AtHome a j (cell_in cells j) stock
 
 -- ---- views
 
@@ -173,7 +164,7 @@ pub record IsRun (a : About) (views : List Mind) (h : State) : Type 0 where
 
 -- a table of the board
 abbrev pub Table : Type 0
-Table = table.State (Option Room) Mind
+Table = table.State (Option Deposit) Mind
 
 -- the words, the slots and the views stand for this state
 pub record StandsFor (a : About) (s : Table) (h : State) : Type 0 where
@@ -188,7 +179,7 @@ pub record StandsFor (a : About) (s : Table) (h : State) : Type 0 where
 pub record Going (a : About) (s : Table) (h : State) : Type 0 where
   pub left : ℕ → ℕ
   -- of who is at home, and of who is held, as its seat was told
-  pub home : (j : ℕ) (stock : Room) (x : Strand) → get_elem? s.homes j ≡ some (some (Some stock))
+  pub home : (j : ℕ) (stock : Deposit) (x : Strand) → get_elem? s.homes j ≡ some (some (Some stock))
       → stock.strand ≡ Some x
       → steps_left a.plan x ≡ left j
   pub held : (k : ℕ) (m : Mind) → get_elem? s.views k ≡ some m → (x : Hold) → m.view.holds ≡ Some x

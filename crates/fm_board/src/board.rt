@@ -7,7 +7,7 @@ ghost use Rattle.fm_core.specs.Sweep.{least};
 ghost use Rattle.fm_core.specs.Tags.{is_claimable};
 ghost use Rattle.fm_core.specs.Taking.{due_of};
 ghost use Rattle.fm_core.specs.declared.due.Due.TheVariants.{Nothing};
-ghost use Rattle.fm_board.specs.Calls.{MayGive, Releases};
+ghost use Rattle.fm_board.specs.Calls.{MayComeBack, Releases};
 ghost use Rattle.fm_core.specs.declared.step.Step.TheVariants.{Pace, Publish, Release};
 ghost use Rattle.fm_board.specs.Seats.{IsOurs, making};
 ghost use Rattle.fm_board.specs.Answers.{Claims, Gave, Looks};
@@ -19,18 +19,16 @@ ghost use Rattle.fm_board.specs.View.{InTurn, processes, published, released};
 use crate::about::About;
 use crate::berth::Berth;
 use crate::claim::Claim;
+use crate::deposit::Deposit;
 use crate::plays::{ClaimPlay, GivePlay, Kept, LookPlay, PacePlay, PublishPlay};
-use crate::room::Room;
 use crate::seat::BoardSeat;
 use crate::seen::Seen;
-use crate::sweep::{enter, sight_of};
+use crate::sweep::enter;
 use crate::view::Mind;
-use crate::words::{
-    floor_of_word, held_tag, home_tag, index_of, is_at_end, seen_of, word_of, word_of_floor,
-};
+use crate::words::{floor_of_word, index_of, seen_of, word_of, word_of_floor};
 use atomic_table::Table;
 use fm_buffer::Gather;
-use fm_core::Floor;
+use fm_core::{Floor, Sight, Tag};
 use fm_strand::{Plan, Stall};
 use std::alloc::Global;
 use std::marker::{Send, Sync};
@@ -40,7 +38,7 @@ use std::marker::{Send, Sync};
 #[derive(Drop)]
 pub struct Board {
     pub about: About,
-    pub table: Table<Option<Room>, Mind, About, Kept, Global>,
+    pub table: Table<Option<Deposit>, Mind, About, Kept, Global>,
     ghost same: { (table.shared.key ≡ about)
         × (table.shared.table_id.words ≡ 2 + 10 * length about.plan.programs)
         × (table.shared.table_id.slots ≡ length about.plan.programs) },
@@ -79,7 +77,8 @@ impl Board {
             .token
             .load::<LookPlay>(&self.table.shared, index_of(process));
         let seen = seen_of(found);
-        let look = sight_of(&self.about.plan, seat.looks.as_slice(), process, &seen);
+        let predecessors = self.about.plan.predecessors(process);
+        let look = Sight::of(seen.tag, seen.clock, seat.looks.as_slice(), predecessors);
         enter(&mut seat.looks, process, look);
         seen
     }
@@ -106,7 +105,7 @@ impl Board {
         ensures { Claims self.now.about seat.old process expected.now result seat.new }
     {
         let old = word_of(expected.tag, expected.clock, expected.seat);
-        let new = word_of(held_tag(expected.tag), expected.clock, seat.number);
+        let new = word_of(expected.tag.claimed(), expected.clock, seat.number);
         let shared = &self.table.shared;
         let found = seat
             .token
@@ -116,10 +115,10 @@ impl Board {
                 found: seen_of(found),
             };
         }
-        seat.over = is_at_end(expected.tag);
+        seat.over = expected.tag.is_ended();
         match seat.token.exchange(shared, process as usize, None) {
             Some(room) => {
-                let Room { strand, outbox } = room;
+                let Deposit { strand, outbox } = room;
                 match strand.runner() {
                     Some(strand) => Claim::Held(Berth {
                         process,
@@ -137,7 +136,7 @@ impl Board {
     /// of its word. Events of its outbox that are due, and not taken yet, seat 0 has to have taken.
     pub fn give(&self, seat: &mut BoardSeat, berth: Berth)
         requires ours { IsOurs self.now.table.shared.table_id self.now.about seat.old }
-        requires may { MayGive self.now.about seat.old.mind.view
+        requires may { MayComeBack self.now.about seat.old.mind.view
             berth.process berth.strand berth.outbox }
         ensures gave { Gave self.now.about seat.old berth seat.new }
         ensures knows { Knows seat.old.mind seat.new.mind }
@@ -149,10 +148,10 @@ impl Board {
             outbox,
         } = berth;
         let clock = strand.clock();
-        let tag = home_tag(self.about.room, seat.over, outbox.len());
+        let tag = Tag::given(self.about.room, seat.over, outbox.len());
         let new = word_of(tag, clock, 0);
         let shared = &self.table.shared;
-        let room = Some(Room {
+        let room = Some(Deposit {
             strand: Stall::of(strand),
             outbox,
         });

@@ -13,7 +13,7 @@ use crate::claim::Recalled;
 use crate::plays::{ReadPlay, RecallPlay};
 use crate::seat::BoardSeat;
 use crate::seen::Seen;
-use crate::words::{index_of, is_at_end, seen_of};
+use crate::words::{index_of, seen_of};
 use fm_nest::MAX_LEVELS;
 use fm_strand::Place;
 
@@ -34,7 +34,7 @@ impl Board {
         ensures { Recalls self.now.about seat.old process result seat.new }
     {
         let found = self.peek(seat, process);
-        if is_at_end(found.tag) {
+        if found.tag.is_ended() {
             Recalled::There(self.end_of(seat, process))
         } else {
             Recalled::NotYet { found }

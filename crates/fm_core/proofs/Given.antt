@@ -60,7 +60,8 @@ given_not_held room left false = go (nat_eq left room)
     go true = refl
     go false = refl
 
-count_le : (d : Due) (es : List TimedMessage) → count_due d es ≤ length es
+-- no more events are due than there are
+pub count_le : (d : Due) (es : List TimedMessage) → count_due d es ≤ length es
 count_le d [] = omega arith
 count_le d (e ∷ es) = let a = count_le d es in let b = bit_one (covers d e) in omega arith
 

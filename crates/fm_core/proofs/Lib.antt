@@ -5,6 +5,7 @@ pub mod Elements
 pub mod Sums
 pub mod Bounds
 pub mod Sweeps
+pub mod Pairs
 pub mod TagLemmas
 pub mod Fitting
 pub mod Given

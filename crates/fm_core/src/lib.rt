@@ -26,6 +26,6 @@ pub use laws::{
 };
 pub use limits::{MAX_LEAD, MAX_SEATS};
 pub use reason::Reason;
-pub use sight::Sight;
+pub use sight::{Sight, lesser_pair};
 pub use step::Step;
 pub use tag::Tag;

@@ -13,7 +13,7 @@ use Rattle.fm_board.specs.Answers.{Gave}
 use Rattle.fm_board.specs.Knowing.{Knows}
 use Rattle.fm_board.specs.Minds.{left_seen}
 use Rattle.fm_board.specs.Plays.{Marked}
-use Rattle.fm_board.specs.Seats.{Sight}
+use Rattle.fm_board.specs.Seats.{SeatState}
 use Rattle.fm_board.specs.Starting.{FindsEnds, Starts, predecessors_of}
 use Rattle.fm_board.specs.View.{holding, is_over, lines_of}
 use Rattle.fm_board.specs.declared.about.About.{About}
@@ -47,31 +47,31 @@ seen_unborn m p t is =
 
 -- ---- starts
 
-finds_know : (x : Sight) (qs : List ℕ) (y : Sight) → FindsEnds x qs y → Knows x.mind y.mind
-finds_know x [] y are = subst (λ (z : Sight). Knows x.mind z.mind) (sym are) (knows_none x.mind)
+finds_know : (x : SeatState) (qs : List ℕ) (y : SeatState) → FindsEnds x qs y → Knows x.mind y.mind
+finds_know x [] y are = subst (λ (z : SeatState). Knows x.mind z.mind) (sym are) (knows_none x.mind)
 finds_know x (q ∷ qs) y are =
     knows_then x.mind are.0.mind y.mind (found_knows x q are.1.seen x.mind.view _ are.0 are.1.found) (finds_know are.0 qs y are.2)
 
-pub starts_know : (a : About) (old new : Sight) (p : ℕ) (r : Started) → Starts a old p r new → Knows old.mind new.mind
+pub starts_know : (a : About) (old new : SeatState) (p : ℕ) (r : Started) → Starts a old p r new → Knows old.mind new.mind
 starts_know a old new p (started.Held b) is =
     let begins = is.begins in
     knows_then old.mind is.between.mind new.mind is.ended.seen.knows
-    (subst (Knows is.between.mind) (sym (ap (λ (x : Sight). x.mind) begins.sight))
+    (subst (Knows is.between.mind) (sym (ap (λ (x : SeatState). x.mind) begins.sight))
     (born_knows is.between.mind p begins.hold.clock _ (holding is.between.mind.view begins.hold) _
     (let at = begins.is.at in let low = start_low a p in omega (arith, at, low)) begins.tells))
 starts_know a old new p (started.NotYet q found) is = is.seen.knows
 starts_know a old new p (started.Busy found) is = is.seen.knows
 
 -- a process of which nothing stands in the way is born then
-pub starts_born : (a : About) (old new : Sight) (p : ℕ) (r : Started) → Starts a old p r new
+pub starts_born : (a : About) (old new : SeatState) (p : ℕ) (r : Started) → Starts a old p r new
     → Marked old.mind p (length (line (lines_of old.mind.view) p).predecessors)
     → get_or new.mind.left p 0 ≤ steps_of new.mind.view.plan p
 starts_born a old new p (started.Held b) is marked =
     let begins = is.begins in
-    subst (λ (m : Mind). get_or m.left p 0 ≤ steps_of m.view.plan p) (sym (ap (λ (x : Sight). x.mind) begins.sight))
+    subst (λ (m : Mind). get_or m.left p 0 ≤ steps_of m.view.plan p) (sym (ap (λ (x : SeatState). x.mind) begins.sight))
     (seen_born is.between.mind p Out refl)
 starts_born a old new p (started.Busy found) is marked =
-    subst (λ (m : Mind). get_or m.left p 0 ≤ steps_of m.view.plan p) (sym (ap (λ (x : Sight). x.mind) is.born.found.sight))
+    subst (λ (m : Mind). get_or m.left p 0 ≤ steps_of m.view.plan p) (sym (ap (λ (x : SeatState). x.mind) is.born.found.sight))
     (seen_born is.between.mind p found.tag is.born.born)
 starts_born a old new p (started.NotYet q found) is marked =
     let known : get_or old.mind.over q false ≡ true =
@@ -82,16 +82,16 @@ starts_born a old new p (started.NotYet q found) is marked =
 
 -- ---- gives
 
-pub gave_left : (a : About) (old new : Sight) (b : Berth) → Gave a old b new
+pub gave_left : (a : About) (old new : SeatState) (b : Berth) → Gave a old b new
     → get_or new.mind.left b.process 0 ≤ steps_left a.plan b.strand
 gave_left a old new b is =
-    subst (λ (m : Mind). get_or m.left b.process 0 ≤ steps_left a.plan b.strand) (sym (ap (λ (x : Sight). x.mind) is))
+    subst (λ (m : Mind). get_or m.left b.process 0 ≤ steps_left a.plan b.strand) (sym (ap (λ (x : SeatState). x.mind) is))
     (set_most old.mind.left b.process (steps_left a.plan b.strand))
 
-pub gave_over : (a : About) (old new : Sight) (b : Berth) → Gave a old b new → is_over old.mind.view.holds ≡ true
+pub gave_over : (a : About) (old new : SeatState) (b : Berth) → Gave a old b new → is_over old.mind.view.holds ≡ true
     → b.process < length old.mind.over → get_or new.mind.over b.process false ≡ true
 gave_over a old new b is over near =
-    subst (λ (m : Mind). get_or m.over b.process false ≡ true) (sym (ap (λ (x : Sight). x.mind) is))
+    subst (λ (m : Mind). get_or m.over b.process false ≡ true) (sym (ap (λ (x : SeatState). x.mind) is))
     (get_or-set_same old.mind.over b.process
     (is_ended (given_tag a.room (is_over old.mind.view.holds) (length b.outbox.events))) false near
     ∙ (given_ended a.room (length b.outbox.events) (is_over old.mind.view.holds) ∙ over))

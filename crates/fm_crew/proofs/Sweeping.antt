@@ -23,8 +23,8 @@ use Rattle.fm_strand.specs.Course.{steps_of}
 use Rattle.fm_board.specs.Answers.{Looks}
 use Rattle.fm_board.specs.Minds.{spotted}
 use Rattle.fm_board.specs.Plays.{Marked}
-use Rattle.fm_board.specs.Seats.{Sight}
-use Rattle.fm_board.specs.View.{greatest_seen, lines_of, looked, processes, sighted}
+use Rattle.fm_board.specs.Seats.{SeatState}
+use Rattle.fm_board.specs.View.{lines_of, looked, processes, entered}
 use Rattle.fm_board.specs.declared.about.About.{About}
 use Rattle.fm_board.specs.declared.seen.Seen.{Seen}
 use Rattle.fm_board.specs.declared.view.Log.{Log}
@@ -32,6 +32,11 @@ use Rattle.fm_board.specs.declared.view.Mind.{Mind}
 use Rattle.fm_board.proofs.Goings.{seen_fewer}
 use Rattle.fm_crew.specs.Onward.{AreSeen, HoldsBack, IsFull, IsSeen}
 use Rattle.fm_crew.proofs.Startings.{seen_born}
+use Rattle.fm_line.specs.Line.{last_tick}
+
+-- the greatest clock seen of a process's predecessors
+abbrev greatest_seen : View → ℕ → ℕ
+greatest_seen v p = greatest (map (λ q. (sight v.sweep q).clock) (line (lines_of v) p).predecessors)
 
 at_end : (xs : List Look) (x d : Look) → get_or (xs ++ x ∷ []) (length xs) d ≡ x
 at_end [] x d = refl
@@ -64,9 +69,9 @@ swept_long xs (suc n) x (inr many) =
     let long = length-append xs (x ∷ []) in omega (arith, is, long, many)
 
 module _ (a : About) (m : Mind) (p : ℕ) (s : Seen) (r : ℕ) (xs : Log) (plan : m.view.plan ≡ a.plan) (full : IsFull m)
-    (there : p < processes m.view) (turn : (p ≡ 0) ⊎ (length m.view.sweep ≡ p)) (are : AreSeen m p) (low : s.clock ≤ 2 ^ 40) where
+    (there : p < processes m.view) (turn : (p ≡ 0) ⊎ (length m.view.sweep ≡ p)) (are : AreSeen m p) (low : s.clock ≤ last_tick) where
   abbrev x : Look
-  x = sighted m.view p s.tag s.clock
+  x = entered m.view p s.tag s.clock
 
   abbrev z : Mind
   z = spotted m p s.tag s.clock r (looked m.view p s.tag s.clock) xs
@@ -139,8 +144,8 @@ module _ (a : About) (m : Mind) (p : ℕ) (s : Seen) (r : ℕ) (xs : Log) (plan 
           ap (λ (y : Look). y.clock) at.1
           ∙ ap (λ (b : Bool). if b then greatest_seen m.view p else s.clock) unborn in
           let none_yet : s.clock ≡ 0 = s.fits.unborn unborn in
-          let most : greatest_seen m.view p ≤ 2 ^ 40 =
-          greatest_below (λ q. (sight m.view.sweep q).clock) (line (lines_of m.view) p).predecessors (2 ^ 40)
+          let most : greatest_seen m.view p ≤ last_tick =
+          greatest_below (λ q. (sight m.view.sweep q).clock) (line (lines_of m.view) p).predecessors last_tick
           (λ i lt. (are (get_or (line (lines_of m.view) p).predecessors i 0) (before p i lt)).low) in
           record {
             ended = ended;
@@ -153,12 +158,12 @@ module _ (a : About) (m : Mind) (p : ℕ) (s : Seen) (r : ℕ) (xs : Log) (plan 
   seen_one j lt = dite (ℕ_discrete j p) (λ e. subst (IsSeen z) (sym e) one_here) (λ d. one_before j (omega (arith, lt, d)))
 
 -- one look more
-pub seen_more : (a : About) (old new : Sight) (p : ℕ) (s : Seen) → old.mind.view.plan ≡ a.plan
+pub seen_more : (a : About) (old new : SeatState) (p : ℕ) (s : Seen) → old.mind.view.plan ≡ a.plan
     → Looks old p s new
     → IsFull old.mind → p < processes old.mind.view → (p ≡ 0) ⊎ (length old.mind.view.sweep ≡ p) → AreSeen old.mind p
     → AreSeen new.mind (p + 1)
 seen_more a old new p s plan found full there turn are =
-    subst (λ (m : Mind). AreSeen m (p + 1)) (sym (ap (λ (y : Sight). y.mind) found.sight))
+    subst (λ (m : Mind). AreSeen m (p + 1)) (sym (ap (λ (y : SeatState). y.mind) found.sight))
     (seen_one a old.mind p s _ _ plan full there turn are found.tells.low)
 
 -- ---- the least pair
@@ -166,7 +171,7 @@ seen_more a old new p s plan found full there turn are =
 -- the process of the least pair holds the floor back
 pub held_back : (a : About) (m : Mind) (tick p : ℕ) → m.view.plan ≡ a.plan → length m.view.sweep ≡ processes m.view
     → AreSeen m (processes m.view) → due_of (least m.view.sweep) ≡ Pair tick p
-    → HoldsBack m tick p × (tick ≤ 2 ^ 40) × (floor_of (least m.view.sweep) ≡ At tick)
+    → HoldsBack m tick p × (tick ≤ last_tick) × (floor_of (least m.view.sweep) ≡ At tick)
 held_back a m tick p plan long are is = go (least m.view.sweep) refl (least_of m.view.sweep) is
   where
     clash : Everything ≡ Pair tick p → ⊥
@@ -178,7 +183,7 @@ held_back a m tick p plan long are is = go (least m.view.sweep) refl (least_of m
     second_is : (x y : ℕ) → Pair x y ≡ Pair tick p → y ≡ p
     second_is x y e = cc
 
-    here : Lowest m.view.sweep tick p → HoldsBack m tick p × (tick ≤ 2 ^ 40)
+    here : Lowest m.view.sweep tick p → HoldsBack m tick p × (tick ≤ last_tick)
     here low =
         let below = low.below in
         let seen = are p (omega (arith, below, long)) in
@@ -220,7 +225,7 @@ held_back a m tick p plan long are is = go (least m.view.sweep) refl (least_of m
                 absurd (later (sight m.view.sweep q).clock q (omega (arith, most, top, clock)) less (low.lower q near open_there))
 
     go : (o : Option (ℕ × ℕ)) → least m.view.sweep ≡ o → IsLeastOf m.view.sweep o → due_of o ≡ Pair tick p
-        → HoldsBack m tick p × (tick ≤ 2 ^ 40) × (floor_of (least m.view.sweep) ≡ At tick)
+        → HoldsBack m tick p × (tick ≤ last_tick) × (floor_of (least m.view.sweep) ≡ At tick)
     go None e all none_is = absurd (clash none_is)
     go (Some pair) e low pair_is =
         let one : pair.0 ≡ tick = first_is pair.0 pair.1 pair_is in

@@ -3,15 +3,14 @@ use Rattle.std.proofs.Common.{◌≡◌, ℕ, suc, ◌+◌, ◌-◌, ◌<◌, �
 use Rattle.std.specs.Prelude.{◌&&◌, ◌||◌, not, nat_eq, if◌then◌else◌}
 use Rattle.std.proofs.lemmas.List.{length-drop}
 use Rattle.fm_msg.specs.Event.{TimedMessage}
-use Rattle.fm_core.specs.Numbers.{bit}
-use Rattle.fm_core.specs.Taking.{count_due, covers}
-use Rattle.fm_core.specs.declared.due.Due.{Due}
+use Rattle.fm_core.proofs.Given.{count_le}
+use Rattle.fm_core.specs.Taking.{count_due}
 use Rattle.fm_program.specs.Parts.{PlanParts}
 use Rattle.fm_board.specs.declared.about.About.{About}
 use Rattle.fm_board.specs.declared.view.Hold.{Hold}
 use Rattle.fm_board.specs.declared.view.View.{View}
 use Rattle.fm_board.specs.Answers.{Hands}
-use Rattle.fm_board.specs.Seats.{Sight}
+use Rattle.fm_board.specs.Seats.{SeatState}
 use Rattle.fm_board.specs.declared.seen.Seen.{Seen}
 use Rattle.fm_board.specs.declared.berth.Berth.{Berth}
 use Rattle.fm_board.specs.View.{holding, is_over, must_take, noted, noted_hold, takes_of, waiting, waits_of, was_visited}
@@ -19,16 +18,7 @@ use Rattle.fm_taping.specs.Works.{IsWorkOf}
 use Rattle.fm_taping.specs.declared.calls.Work.{Work}
 use Rattle.fm_crew.specs.Crew.{TakesFresh}
 
--- no more are due than there are
-count_le : (d : Due) (es : List TimedMessage) → count_due d es ≤ length es
-count_le d [] = omega arith
-count_le d (e ∷ es) = go (covers d e) (count_le d es)
-  where
-    go : (b : Bool) → count_due d es ≤ length es → bit b + count_due d es ≤ suc (length es)
-    go true below = omega (arith, below)
-    go false below = omega (arith, below)
-
--- so no more are taken than wait
+-- no more are taken than wait
 pub takes_le : (v : View) (h : Hold) → must_take v h ≤ length (waiting v.plan h)
 takes_le v h = go (nat_eq v.number 0 && not (was_visited v h.process))
   where
@@ -44,18 +34,18 @@ takes_none v (Some h) above =
     (ne_eqb v.number 0 (λ e. absurd (omega (arith, e, above)))))
 
 -- so of a process that it claimed
-pub takes_held : (a : About) (old : Sight) (p : ℕ) (s : Seen) (b : Berth) (new : Sight) → 0 < old.mind.view.number
+pub takes_held : (a : About) (old : SeatState) (p : ℕ) (s : Seen) (b : Berth) (new : SeatState) → 0 < old.mind.view.number
     → Hands a old p s b new → 0 ≡ takes_of new.mind.view new.mind.view.holds
 takes_held a old p s b new above hands =
     takes_none (holding old.mind.view hands.hold) (Some hands.hold) above
-    ∙ ap (λ (x : Sight). takes_of x.mind.view x.mind.view.holds) (sym hands.sight)
+    ∙ ap (λ (x : SeatState). takes_of x.mind.view x.mind.view.holds) (sym hands.sight)
 
 -- nor does a seat take any of a process of which none waits
 pub takes_empty : (v : View) (h : Hold) → waiting v.plan h ≡ [] → 0 ≡ must_take v h
 takes_empty v h none = let few = takes_le v h in let no = ap length none in omega (arith, few, no)
 
 -- so of a process at its start
-pub takes_fresh : (a : About) (old : Sight) (p : ℕ) (new : Sight) (b : Berth) → old.mind.view.plan ≡ a.plan → TakesFresh a old p new b
+pub takes_fresh : (a : About) (old : SeatState) (p : ℕ) (new : SeatState) (b : Berth) → old.mind.view.plan ≡ a.plan → TakesFresh a old p new b
     → 0 ≡ takes_of new.mind.view new.mind.view.holds
 takes_fresh a old p new b plan fresh =
     takes_empty (holding old.mind.view fresh.hold) fresh.hold (ap (λ (q : PlanParts). waiting q fresh.hold) plan ∙ fresh.none)

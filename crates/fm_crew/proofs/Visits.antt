@@ -14,7 +14,7 @@ use Rattle.fm_strand.specs.Course.{steps_of}
 use Rattle.fm_board.specs.Answers.{Hands, Looks}
 use Rattle.fm_board.specs.Knowing.{IsWide, Knows}
 use Rattle.fm_board.specs.Plays.{Marked}
-use Rattle.fm_board.specs.Seats.{Sight}
+use Rattle.fm_board.specs.Seats.{SeatState}
 use Rattle.fm_board.specs.View.{gave, holding, lines_of, looked, processes}
 use Rattle.fm_board.specs.declared.about.About.{About}
 use Rattle.fm_board.specs.declared.berth.Berth.{Berth}
@@ -48,10 +48,10 @@ brings_behind due limit p a b c before after brings tick is within full back =
 -- ---- a process that was claimed
 
 -- what the hold says is left, the seat knows of
-hold_left : (a : About) (x z : Sight) (p : ℕ) (s : Seen) (b : Berth) (hands : Hands a x p s b z) → x.mind.view.plan ≡ a.plan
+hold_left : (a : About) (x z : SeatState) (p : ℕ) (s : Seen) (b : Berth) (hands : Hands a x p s b z) → x.mind.view.plan ≡ a.plan
     → IsFull x.mind → p < processes x.mind.view → hands.hold.left ≤ get_or z.mind.left p 0
 hold_left a x z p s b hands plan full there =
-    subst (λ (m : Mind). hands.hold.left ≤ get_or m.left p 0) (sym (ap (λ (y : Sight). y.mind) hands.sight))
+    subst (λ (m : Mind). hands.hold.left ≤ get_or m.left p 0) (sym (ap (λ (y : SeatState). y.mind) hands.sight))
     (by_case (is_unborn s.tag))
   where
     behind : hands.hold.left ≤ get_or x.mind.left p 0
@@ -88,7 +88,7 @@ module _ (a : About) (due : Due) (limit p : ℕ) (old mid new : Conductor) (s : 
 
   pub claimed_grows : Grows old mid
   claimed_grows = record {
-    plan = ap (λ (x : Sight). x.mind.view.plan) hands.sight;
+    plan = ap (λ (x : SeatState). x.mind.view.plan) hands.sight;
     knows = claimed_knows;
     gathers = let n = ap (λ (x : EventGather). length x.events) same in omega (arith, n);
   }
@@ -106,7 +106,7 @@ module _ (a : About) (due : Due) (limit p : ℕ) (old mid new : Conductor) (s : 
       by_clock : is_ended s.tag ≡ false → Dec (tick < s.clock) → GoesOn p old new
       by_clock live (yes later) =
           let at : get_or mid.seat.mind.known p 0 ≡ s.clock =
-          ap (λ (x : Sight). get_or x.mind.known p 0) hands.sight
+          ap (λ (x : SeatState). get_or x.mind.known p 0) hands.sight
           ∙ get_or-set_same old.seat.mind.known p s.clock 0 (let n = full.known in omega (arith, n, there)) in
           let on = grows.knows.known p in
           let soon = back.soon in
@@ -114,7 +114,7 @@ module _ (a : About) (due : Due) (limit p : ℕ) (old mid new : Conductor) (s : 
       by_clock live (no soon) =
           which (held tick hands.hold is within (full_still old mid claimed_grows full)
           (subst (λ (q : PlanParts). p < length q.programs) (sym claimed_grows.plan) there)
-          (ap (λ (x : Sight). x.mind.view.holds) hands.sight)
+          (ap (λ (x : SeatState). x.mind.view.holds) hands.sight)
           (let at = hands.at in omega (arith, at, soon)) (hands.was_ended ∙ live)
           (hold_left a old.seat mid.seat p s b hands plan full there))
         where
@@ -125,21 +125,21 @@ module _ (a : About) (due : Due) (limit p : ℕ) (old mid new : Conductor) (s : 
 
       by_end : (e : Bool) → is_ended s.tag ≡ e → GoesOn p old new
       by_end true e =
-          ended (grows.knows.over p (ap (λ (x : Sight). get_or x.mind.over p false) hands.sight
+          ended (grows.knows.over p (ap (λ (x : SeatState). get_or x.mind.over p false) hands.sight
           ∙ (get_or-set_same old.seat.mind.over p (is_ended s.tag) false (let n = full.over in omega (arith, n, there)) ∙ e)))
       by_end false e = by_clock e (dec_lt tick s.clock)
 
 -- ---- a process that was looked at
 
 -- the conductor knows no less after a look
-pub looked_grows : (old : Conductor) (p : ℕ) (s : Seen) (x : Sight) → Looks old.seat p s x → Grows old (seated old x)
+pub looked_grows : (old : Conductor) (p : ℕ) (s : Seen) (x : SeatState) → Looks old.seat p s x → Grows old (seated old x)
 looked_grows old p s x found = record {
-  plan = ap (λ (y : Sight). y.mind.view.plan) found.sight;
+  plan = ap (λ (y : SeatState). y.mind.view.plan) found.sight;
   knows = found_knows old.seat p s (looked old.seat.mind.view p s.tag s.clock) _ x found;
   gathers = omega arith;
 }
 
-module _ (due : Due) (limit p : ℕ) (old new : Conductor) (s : Seen) (x : Sight) (found : Looks old.seat p s x) where
+module _ (due : Due) (limit p : ℕ) (old new : Conductor) (s : Seen) (x : SeatState) (found : Looks old.seat p s x) where
   abbrev mid : Conductor
   mid = seated old x
 
@@ -161,7 +161,7 @@ module _ (due : Due) (limit p : ℕ) (old new : Conductor) (s : Seen) (x : Sight
           inr (moves_back p old.seat.mind mid.seat.mind new.seat.mind
           (inr (inr (
             back.live,
-            ap (λ (x : Sight). get_or x.mind.over p false) found.sight
+            ap (λ (x : SeatState). get_or x.mind.over p false) found.sight
                 ∙ (get_or-set_same old.seat.mind.over p (is_ended s.tag) false (let n = full.over in omega (arith, n, there))
                 ∙ ap is_ended drained),
           ))) grows.knows)
@@ -170,7 +170,7 @@ module _ (due : Due) (limit p : ℕ) (old new : Conductor) (s : Seen) (x : Sight
           more : steps_of mid.seat.mind.view.plan p < get_or mid.seat.mind.left p 0
           more =
               let is_left : get_or mid.seat.mind.left p 0 ≡ get_or old.seat.mind.left p 0 =
-              ap (λ (x : Sight). get_or x.mind.left p 0) found.sight
+              ap (λ (x : SeatState). get_or x.mind.left p 0) found.sight
               ∙ ap (λ (xs : List ℕ). get_or xs p 0) (seen_unborn old.seat.mind p s.tag unborn) in
               let tells = found.tells.unborn unborn in
               subst (λ (q : PlanParts). steps_of q p < get_or mid.seat.mind.left p 0) (sym learned.plan)

@@ -18,7 +18,7 @@ use Rattle.fm_edge.specs.Runs.{Breaks}
 use Rattle.fm_board.specs.Calls.{Releases}
 use Rattle.fm_board.specs.Played.{PlaysWhole}
 use Rattle.fm_board.specs.Quantum.{IsLimit}
-use Rattle.fm_board.specs.Seats.{IsIdle, Sight}
+use Rattle.fm_board.specs.Seats.{IsIdle, SeatState}
 use Rattle.fm_board.specs.View.{lines_of, processes, published, released, was_visited}
 use Rattle.fm_board.specs.declared.about.About.{About}
 use Rattle.fm_board.specs.declared.view.View.{View}
@@ -89,7 +89,7 @@ pub record MayConduct (t : TableId) (a : About) (c : Conductor) : Type 0 where
 
 -- a conductor's seat after an Ok: it has released every event of the piece, its last floor says that all is done, and a
 -- run of the core, in which its steps are those that it made, has played the whole piece
-pub record HasConducted (t : TableId) (a : About) (s : Sight) : Type 0 where
+pub record HasConducted (t : TableId) (a : About) (s : SeatState) : Type 0 where
   pub idle : IsIdle t a s
   pub conductor : s.mind.view.number ≡ 0
   pub running : s.mind.view.halted ≡ false
@@ -108,7 +108,7 @@ pub record Publishes (old new : View) (paced : Floor) (due : Due) : Type 0 where
   pub view : new ≡ record (published old (floor_of pair) due) { paced = paced }
 
 -- a conductor's seat that holds nothing
-pub record IsConductor (t : TableId) (a : About) (s : Sight) : Type 0 where
+pub record IsConductor (t : TableId) (a : About) (s : SeatState) : Type 0 where
   pub idle : IsIdle t a s
   pub conductor : s.mind.view.number ≡ 0
 

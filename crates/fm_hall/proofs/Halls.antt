@@ -1,24 +1,22 @@
 -- What holds of a hall after a step, and why its memory is enough.
-use Rattle.std.proofs.Common.{◌≡◌, ◌⊎◌, inl, inr, ℕ, zero, suc, ◌+◌, ◌*◌, ◌<◌, ◌≤◌, List, [], ◌∷◌, ◌++◌, length, take, Bool, true, false, refl, ap, arith, length-append}
+use Rattle.std.proofs.Common.{◌≡◌, ◌⊎◌, inl, inr, ℕ, zero, suc, ◌+◌, ◌*◌, ◌<◌, ◌≤◌, List, ◌++◌, length, take, Bool, true, false, refl, ap, arith, length-append}
 use Rattle.std.specs.Prelude.{if◌then◌else◌, not, ◌&&◌, nat_eq}
 use Rattle.std.proofs.lemmas.Bool.{cases_order}
-use Rattle.fm_msg.specs.Event.{TimedMessage}
 use Rattle.fm_line.specs.declared.line.Line.{Line}
 use Rattle.fm_line.specs.Line.{line, sum_below, total, most_events}
 use Rattle.fm_line.specs.Piece.{piece}
-use Rattle.fm_line.proofs.Pieces.{is_piece}
 use Rattle.fm_line.proofs.Sorting.{Ordered}
+use Rattle.fm_line.proofs.Pieces.{is_piece}
 use Rattle.fm_core.specs.Effects.{after}
 use Rattle.fm_core.specs.Giving.{MayGive}
 use Rattle.fm_core.specs.Invariant.{of_process}
 use Rattle.fm_core.specs.State.{Setting, cell, visited, opening}
 use Rattle.fm_core.specs.Steps.{Allowed}
-use Rattle.fm_core.specs.Taking.{covers, count_due, outbox, must_take}
-use Rattle.fm_core.specs.declared.due.Due.{Due}
+use Rattle.fm_core.specs.Taking.{count_due, outbox, must_take}
 use Rattle.fm_core.specs.declared.step.Step.{Step}
 use Rattle.fm_core.specs.declared.step.Step.TheVariants.{Give}
-use Rattle.fm_core.proofs.Booleans.{bit_one}
 use Rattle.fm_core.proofs.Gathered.{gather_fits}
+use Rattle.fm_core.proofs.Given.{count_le}
 use Rattle.fm_core.proofs.GiveTests.{given_may}
 use Rattle.fm_core.proofs.Keeps.{keeps}
 use Rattle.fm_core.proofs.KeepsRelease.{gather_ordered}
@@ -92,11 +90,6 @@ one_le_sum (suc n) p f lt = by_order (cases_order p n) (λ below. one_le_sum n p
 -- a line has at most as many events as all together
 pub line_le_total : (ls : List Line) (p : ℕ) → p < length ls → length (line ls p).events ≤ total ls
 line_le_total ls p lt = one_le_sum (length ls) p (λ q. length (line ls q).events) lt
-
--- no more events are due than there are
-pub count_le : (d : Due) (es : List TimedMessage) → count_due d es ≤ length es
-count_le d [] = omega arith
-count_le d (e ∷ es) = let one = bit_one (covers d e) in let more = count_le d es in omega arith
 
 module _ (g : Setting) (m : Stored) (hall : IsHall g m) where
   -- what must be taken is there

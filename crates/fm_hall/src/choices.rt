@@ -13,7 +13,7 @@ use crate::searches::{
     first_working, has_finished, has_stale_sweep,
 };
 use fm_core::Step;
-use fm_state::{Rules, Tables, is_due, must_be_taken, time_at};
+use fm_state::{Rules, Tables, must_be_taken, time_at};
 
 // A record of a held process, or its give with the next event where that may be computed.
 fn lowering(rules: &Rules, tables: &Tables, process: u32) -> Step
@@ -69,7 +69,7 @@ fn releasing(rules: &Rules, tables: &Tables) -> Option<Step>
     requires sound { Sound rules.now tables.now.state }
     ensures { result ≡ releases rules.now tables.now.state }
 {
-    if !is_due(tables.due()) || tables.misses_a_visit() {
+    if !tables.due().is_due() || tables.misses_a_visit() {
         return None;
     }
     let count = tables.gathered();
@@ -100,7 +100,7 @@ fn visiting(tables: &Tables) -> Option<Step>
         (find_below (length tables.now.state.cells) (unvisited tables.now.state)) }
 {
     let process = first_unvisited(tables)?;
-    if !is_due(tables.due()) {
+    if !tables.due().is_due() {
         return None;
     }
     if !tables.cell(process).tag.has_nothing() {

@@ -9,7 +9,7 @@ ghost use Rattle.fm_hall.specs.Looks.{entered};
 
 use crate::handover::Handover;
 use fm_core::{Cell, Step, Tag};
-use fm_state::{Rules, Tables, is_due, sight_of, start_of, waiting_events};
+use fm_state::{Rules, Tables, sight_of, start_of, waiting_events};
 
 // What a seat sees at a process is entered in its sweep. A look at the last process of the sweep
 // leaves it, so nothing is read off the lines for it.
@@ -100,7 +100,7 @@ fn give(rules: &Rules, tables: &mut Tables, seat: u32, process: u32, handed: Han
 {
     let from = tables.cell(process);
     let next = given_cell(rules.room(), from, handed);
-    let visits = seat == 0 && is_due(tables.due());
+    let visits = seat == 0 && tables.due().is_due();
     tables.take(&waiting_events(rules, tables, process)[..handed.taken as usize]);
     tables.set_cell(process, next);
     if visits {

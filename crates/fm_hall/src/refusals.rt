@@ -12,7 +12,7 @@ ghost use Rattle.fm_hall.specs.Given.{given_table};
 use crate::handover::Handover;
 use fm_core::{Cell, Floor, Reason, Step};
 use fm_line::Line;
-use fm_state::{Rules, Tables, is_due, must_be_taken, time_at};
+use fm_state::{Rules, Tables, must_be_taken, time_at};
 
 /// Whether some predecessor of a process is not ended.
 pub(crate) fn is_waiting(rules: &Rules, tables: &Tables, process: u32) -> bool
@@ -236,7 +236,7 @@ fn why_not_publish(tables: &Tables) -> Option<Reason>
     if tables.sweep(0).len() != tables.processes() as usize {
         return Some(Reason::NotSwept);
     }
-    if is_due(tables.due()) {
+    if tables.due().is_due() {
         return Some(Reason::StillDue);
     }
     None
@@ -254,7 +254,7 @@ fn why_not_pace(tables: &Tables, seat: u32) -> Option<Reason>
 fn why_not_release(tables: &Tables, count: u32) -> Option<Reason>
     ensures { (g : Setting) → result ≡ reason g tables.now.state (Step.Release count) }
 {
-    if !is_due(tables.due()) {
+    if !tables.due().is_due() {
         return Some(Reason::NotDue);
     }
     if tables.misses_a_visit() {

@@ -6,7 +6,7 @@ use Rattle.std.proofs.lemmas.Bool.{eqb-true, ltb-true, ltb-false, le-ltb}
 use Rattle.std.proofs.lemmas.List.{append_cancel_left, take_more}
 use Rattle.fm_core.specs.declared.step.Step.{Step}
 use Rattle.fm_core.specs.declared.step.Step.TheVariants.{Look, Claim, Start, Record, Recall, Give, Publish, Pace, Release}
-use Rattle.fm_record.specs.StepBytes.{HasFields, HaveFields, IsFirst, Begins, flag, step_bytes, steps_bytes, two, four, six}
+use Rattle.fm_record.specs.StepBytes.{clock_bound, HasFields, HaveFields, IsFirst, Begins, flag, step_bytes, steps_bytes, two, four, six}
 use Rattle.fm_record.specs.Reading.{byte_at, made, read, size_of, two_at, four_at, six_at}
 
 -- ---- what was written is read
@@ -23,7 +23,7 @@ pub four_back : (n : ℕ) → n < 4294967296
     → (n / 65536 / 256 * 256 + n / 65536 % 256) * 65536 + (n % 65536 / 256 * 256 + n % 65536 % 256) ≡ n
 four_back n small = omega arith
 
-six_back : (n : ℕ) → n < 281474976710656
+six_back : (n : ℕ) → n < clock_bound
     → (n / 4294967296 / 256 * 256 + n / 4294967296 % 256) * 4294967296
     + ((n % 4294967296 / 65536 / 256 * 256 + n % 4294967296 / 65536 % 256) * 65536
     + (n % 4294967296 % 65536 / 256 * 256 + n % 4294967296 % 65536 % 256)) ≡ n
@@ -98,7 +98,7 @@ two_small bs i bytes = let high = bytes i in let low = bytes (i + 1) in omega ar
 four_small : (bs : List ℕ) (i : ℕ) → AreBytes bs → four_at bs i < 4294967296
 four_small bs i bytes = let high = two_small bs i bytes in let low = two_small bs (i + 2) bytes in omega arith
 
-six_small : (bs : List ℕ) (i : ℕ) → AreBytes bs → six_at bs i < 281474976710656
+six_small : (bs : List ℕ) (i : ℕ) → AreBytes bs → six_at bs i < clock_bound
 six_small bs i bytes = let high = two_small bs i bytes in let low = four_small bs (i + 2) bytes in omega arith
 
 pub four_pair : (a b c d : ℕ) → b < 256 → c < 256 → d < 256

@@ -1,5 +1,5 @@
 -- The bytes of steps: a kind, then the step's fields, each number with its most significant byte first.
-use Rattle.std.specs.Prelude.{◌≡◌, ℕ, ◌/◌, ◌%◌, ◌<◌, ◌≤◌, List, [], ◌∷◌, ◌++◌, length, take, Bool, true, false}
+use Rattle.std.specs.Prelude.{◌≡◌, ℕ, ◌/◌, ◌%◌, ◌^◌, ◌<◌, ◌≤◌, List, [], ◌∷◌, ◌++◌, length, take, Bool, true, false}
 use Rattle.fm_core.specs.declared.step.Step.{Step}
 use Rattle.fm_core.specs.declared.step.Step.TheVariants.{Look, Claim, Start, Record, Recall, Give, Publish, Pace, Release}
 
@@ -14,6 +14,10 @@ four n = two (n / 65536) ++ two (n % 65536)
 -- a number in six bytes
 abbrev pub six : ℕ → List ℕ
 six n = two (n / 4294967296) ++ four (n % 4294967296)
+
+-- the clocks of a record are below this: they have six bytes
+abbrev pub clock_bound : ℕ
+clock_bound = 2 ^ 48
 
 -- an answer in one byte
 abbrev pub flag : Bool → ℕ
@@ -40,7 +44,7 @@ HasFields (Start s p) = (s < 256) × (p < 65536)
 HasFields (Record s p) = (s < 256) × (p < 65536)
 HasFields (Recall s p) = (s < 256) × (p < 65536)
 HasFields (Give s p t n clock ends) =
-    (s < 256) × (p < 65536) × (t < 256) × (n < 65536) × (clock < 281474976710656)
+    (s < 256) × (p < 65536) × (t < 256) × (n < 65536) × (clock < clock_bound)
 HasFields Publish = Unit {0}
 HasFields (Pace s) = s < 256
 HasFields (Release k) = k < 4294967296

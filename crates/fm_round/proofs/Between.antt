@@ -24,7 +24,7 @@ use Rattle.fm_smf.specs.Writing.{Written, Writes, just_begun}
 use Rattle.fm_smf.proofs.Writing.{writes_none, writes_after, writes_breaks}
 use Rattle.fm_strand.specs.declared.strand.Strand.{Strand}
 use Rattle.fm_strand.specs.Strand.{clock_of}
-use Rattle.fm_round.specs.declared.slot.Slot.{Slot}
+use Rattle.fm_round.specs.declared.lane.Lane.{Lane}
 use Rattle.fm_play.specs.Ends.{CanFollow, piece_end}
 use Rattle.fm_play.proofs.Chains.{still_at_end}
 use Rattle.fm_play.proofs.InTime.{can_follow}
@@ -32,36 +32,36 @@ use Rattle.fm_play.proofs.PlanFacts.{plan_valid}
 use Rattle.fm_play.proofs.Whole.{plan_writable}
 use Rattle.fm_round.specs.Lefts.{IsOwn, OwnFrom, Playing, joined}
 use Rattle.fm_round.specs.Rounds.{Between, Opened}
-use Rattle.fm_round.specs.Slots.{AllAtEnd, AllSlots, CanRun, IsAtEnd, IsFresh, IsLeast, IsRun, LeastOf, RunsAll, due, left, lefts, loads, no_slot, room_sum, run_clock, room_of, slot, without_due, yet}
+use Rattle.fm_round.specs.Lanes.{AllAtEnd, AllLanes, CanRun, IsAtEnd, IsFresh, IsLeast, IsRun, LeastOf, RunsAll, due, left, lefts, loads, no_lane, room_sum, run_clock, room_of, lane, without_due, yet}
 use Rattle.fm_round.specs.Starts.{Starts}
 use Rattle.fm_round.proofs.Ending.{all_at_end, end_first, ends_piece}
 use Rattle.fm_round.proofs.Opening.{opens}
 use Rattle.fm_round.proofs.Order.{IsDue, none_stays}
 use Rattle.fm_round.proofs.Parting.{FrontsFirst, own_front, own_fronts, whole_of}
 use Rattle.fm_round.proofs.Releasing.{least_first, own_at, parts, parts-front, parts-whole, released}
-use Rattle.fm_round.proofs.Running.{any_default, loads-release, rooms-release, slot-map}
+use Rattle.fm_round.proofs.Running.{any_default, loads-release, rooms-release, lane-map}
 
--- ---- slots
+-- ---- lanes
 
--- what has not started is a slot of its process
-pub fresh_slots : (p : PlanParts) (room : ℕ) (ss : List Slot) → ((k : ℕ) → k < length ss → IsFresh room (slot ss k))
-    → AllSlots p ss
-fresh_slots p room ss fresh j within =
+-- what has not started is a lane of its process
+pub fresh_lanes : (p : PlanParts) (room : ℕ) (ss : List Lane) → ((k : ℕ) → k < length ss → IsFresh room (lane ss k))
+    → AllLanes p ss
+fresh_lanes p room ss fresh j within =
     let is = fresh j within in rw (is.strand, is.ended) (is.events, refl)
 
 -- and has room
-fresh_rooms : (room : ℕ) (ss : List Slot) → 0 < room → ((k : ℕ) → k < length ss → IsFresh room (slot ss k))
+fresh_rooms : (room : ℕ) (ss : List Lane) → 0 < room → ((k : ℕ) → k < length ss → IsFresh room (lane ss k))
     → All (λ r. 0 < r) (map room_of ss)
 fresh_rooms room ss some fresh k d within =
     let inside : k < length ss = simp length-map at within in
     let at : get_or (map room_of ss) k d ≡ room =
-    any_default (map room_of ss) k d (room_of no_slot) within ∙ get_or-map room_of ss k no_slot ∙ (fresh k inside).room in
+    any_default (map room_of ss) k d (room_of no_lane) within ∙ get_or-map room_of ss k no_lane ∙ (fresh k inside).room in
     rw at some
 
 -- what has room at its place
-room_at : (ss : List Slot) (j : ℕ) → j < length ss → All (λ r. 0 < r) (map room_of ss) → 0 < (slot ss j).outbox.room
+room_at : (ss : List Lane) (j : ℕ) → j < length ss → All (λ r. 0 < r) (map room_of ss) → 0 < (lane ss j).outbox.room
 room_at ss j there rooms =
-    subst (λ (r : ℕ). 0 < r) (get_or-map room_of ss j no_slot) (rooms j (room_of no_slot) (simp length-map there))
+    subst (λ (r : ℕ). 0 < r) (get_or-map room_of ss j no_lane) (rooms j (room_of no_lane) (simp length-map there))
 
 -- an event of the process m up to the time c is due
 is_due_at : (c m : ℕ) (e : TimedMessage) → e.time ≤ c → e.process ≡ m → IsDue c m e
@@ -73,7 +73,7 @@ is_due_at c m e early process = by_order (cases_lt e.time c)
 
 module _ {K : Type 0} (content : K → Option (List ℕ)) (sure : K → Option ℕ) (faults : K → ℕ)
     (p : PlanParts) (fits : PartsFit p) (start now : K) (first writer : Written) (begun : first ≡ just_begun p.profile)
-    (ss : List Slot) (gather : EventGather) (events : ℕ)
+    (ss : List Lane) (gather : EventGather) (events : ℕ)
     (between : Between content sure faults p start now first writer ss gather events) where
   same_count : length ss ≡ length (plan_lines p)
   same_count = between.count ∙ sym (plan-lines-length p)
@@ -125,33 +125,33 @@ module _ {K : Type 0} (content : K → Option (List ℕ)) (sure : K → Option �
   -- up to the least pair what is due is first
   pub next_first : (c m : ℕ) → IsLeast p ss (length ss) c m → FrontsFirst (parts p (Some (c, m)) (plan_lines p) ss)
   next_first c m least =
-      least_first p ss (plan_valid p fits) same_count between.slots between.started between.playing.own c m least
+      least_first p ss (plan_valid p fits) same_count between.lanes between.started between.playing.own c m least
 
   -- once no process is live, all that is due is first
   pub last_first : LeastOf p ss (length ss) None → FrontsFirst (parts p None (plan_lines p) ss)
-  last_first none = end_first p ss (plan_valid p fits) same_count between.slots between.started none
+  last_first none = end_first p ss (plan_valid p fits) same_count between.lanes between.started none
 
   -- ---- the next round
 
   module _ (c m limit : ℕ) (least : IsLeast p ss (length ss) c m) (near : c ≤ limit) (then : K) (after : Written)
-      (released_slots ran new : List Slot) (gather' : EventGather) (events' : ℕ)
-      (took : released_slots ≡ map (without_due (Some (c, m))) ss)
+      (released_lanes ran new : List Lane) (gather' : EventGather) (events' : ℕ)
+      (took : released_lanes ≡ map (without_due (Some (c, m))) ss)
       (wrote : Writes content sure faults now then (sorted (joined (map (due (Some (c, m))) ss))) writer after)
       (cleared : gather' ≡ gather) (counted : events' ≡ events + length (joined (map (due (Some (c, m))) ss)))
-      (runs : RunsAll p limit released_slots ran) (long : length ran ≡ length released_slots)
+      (runs : RunsAll p limit released_lanes ran) (long : length ran ≡ length released_lanes)
       (starts : Starts p ran new) (again : length new ≡ length ran) where
     -- the process of the least pair may run
-    can_run : CanRun p limit (slot released_slots m)
+    can_run : CanRun p limit (lane released_lanes m)
     can_run =
         let there = least.inside in
         let lined = same_count in
-        let all : IsOwn m (left p (line (plan_lines p) m).events (slot ss m)) =
-        subst (λ (n : ℕ). IsOwn n (left p (line (plan_lines p) m).events (slot ss m))) zero_add
+        let all : IsOwn m (left p (line (plan_lines p) m).events (lane ss m)) =
+        subst (λ (n : ℕ). IsOwn n (left p (line (plan_lines p) m).events (lane ss m))) zero_add
         (own_at p 0 (plan_lines p) ss m between.playing.own (omega arith) there) in
-        let own = own_front m (slot ss m).outbox.events (yet p (line (plan_lines p) m).events (slot ss m).strand) all in
-        let empty : drop (count_through (Some (c, m)) (slot ss m).outbox.events) (slot ss m).outbox.events ≡ [] =
-        none_stays c m (slot ss m).outbox.events (λ e i. due_at e i (own.process e i)) in
-        subst (CanRun p limit) (sym (ap (λ (xs : List Slot). slot xs m) took ∙ slot-map (Some (c, m)) ss m)) (record {
+        let own = own_front m (lane ss m).outbox.events (yet p (line (plan_lines p) m).events (lane ss m).strand) all in
+        let empty : drop (count_through (Some (c, m)) (lane ss m).outbox.events) (lane ss m).outbox.events ≡ [] =
+        none_stays c m (lane ss m).outbox.events (λ e i. due_at e i (own.process e i)) in
+        subst (CanRun p limit) (sym (ap (λ (xs : List Lane). lane xs m) took ∙ lane-map (Some (c, m)) ss m)) (record {
           clock = c;
           live = least.clock;
           in_time = near;
@@ -161,29 +161,29 @@ module _ {K : Type 0} (content : K → Option (List ℕ)) (sure : K → Option �
         zero_add : 0 + m ≡ m
         zero_add = omega arith
 
-        by_run : (ended : Bool) (strand : Option Strand) → (slot ss m).ended ≡ ended → (slot ss m).strand ≡ strand
-            → IsRun p m ended (slot ss m).outbox.events strand → (e : TimedMessage) → In e (slot ss m).outbox.events → e.time ≤ c
+        by_run : (ended : Bool) (strand : Option Strand) → (lane ss m).ended ≡ ended → (lane ss m).strand ≡ strand
+            → IsRun p m ended (lane ss m).outbox.events strand → (e : TimedMessage) → In e (lane ss m).outbox.events → e.time ≤ c
         by_run true strand is_ended is_strand run e i =
-            let never : None ≡ Some c = sym (ap (λ b. run_clock p b (slot ss m).strand) is_ended) ∙ least.clock in cc
+            let never : None ≡ Some c = sym (ap (λ b. run_clock p b (lane ss m).strand) is_ended) ∙ least.clock in cc
         by_run false None is_ended is_strand run e i =
             let never : None ≡ Some c = sym (rw (is_ended, is_strand) refl) ∙ least.clock in cc
         by_run false (Some t) is_ended is_strand run e i =
             let same : Some (clock_of p t) ≡ Some c = sym (rw (is_ended, is_strand) refl) ∙ least.clock in
             let clock : clock_of p t ≡ c = cc in
-            let at = in_at e e (slot ss m).outbox.events i in
-            let early : (get_or (slot ss m).outbox.events at.place e).time ≤ clock_of p t = run.early at.place e at.below in
+            let at = in_at e e (lane ss m).outbox.events i in
+            let early : (get_or (lane ss m).outbox.events at.place e).time ≤ clock_of p t = run.early at.place e at.below in
             let is = ap (λ (x : TimedMessage). x.time) at.is in omega arith
 
-        due_at : (e : TimedMessage) → In e (slot ss m).outbox.events → e.process ≡ m → IsDue c m e
+        due_at : (e : TimedMessage) → In e (lane ss m).outbox.events → e.process ≡ m → IsDue c m e
         due_at e i process =
-            is_due_at c m e (by_run (slot ss m).ended (slot ss m).strand refl refl (between.slots m least.inside) e i) process
+            is_due_at c m e (by_run (lane ss m).ended (lane ss m).strand refl refl (between.lanes m least.inside) e i) process
 
     -- there is less to do
     pub falls : loads p 0 new < loads p 0 ss
     falls =
-        let there : m < length released_slots = rw took (simp length-map least.inside) in
+        let there : m < length released_lanes = rw took (simp length-map least.inside) in
         let less = runs.moves m there can_run in
-        let same : loads p 0 released_slots ≡ loads p 0 ss = ap (loads p 0) took ∙ loads-release p 0 (Some (c, m)) ss in
+        let same : loads p 0 released_lanes ≡ loads p 0 ss = ap (loads p 0) took ∙ loads-release p 0 (Some (c, m)) ss in
         let kept = starts.loads in omega arith
 
     -- and the rest is left
@@ -209,9 +209,9 @@ module _ {K : Type 0} (content : K → Option (List ℕ)) (sure : K → Option �
           at_end = still_at_end (content now) (content then) (events_bytes writer.state (sorted (joined (map (due (Some (c, m))) ss))))
               writer.put after.put between.at_end wrote.puts.whole wrote.put;
           count =
-              let taken : length released_slots ≡ length ss = simp length-map at (ap length took) in
+              let taken : length released_lanes ≡ length ss = simp length-map at (ap length took) in
               omega (arith, again, long, taken, between.count);
-          slots = starts.slots;
+          lanes = starts.lanes;
           started = starts.started;
           rooms = subst (All (λ r. 0 < r)) (sym rooms_kept) between.rooms;
           empty = ap (λ (g : EventGather). g.events) cleared ∙ between.empty;
@@ -227,7 +227,7 @@ module _ {K : Type 0} (content : K → Option (List ℕ)) (sure : K → Option �
       → Writes content sure faults now then (sorted (joined (map (due None) ss))) writer after
       → Writes content sure faults start then (piece (plan_lines p)) first after
   last_writes none then after wrote =
-      let all = ends_piece p ss (plan_valid p fits) same_count between.slots between.started none between.done between.playing in
+      let all = ends_piece p ss (plan_valid p fits) same_count between.lanes between.started none between.done between.playing in
       subst (λ (es : List TimedMessage). Writes content sure faults start then es first after) all
       (writes_after content sure faults start now then between.done (sorted (joined (map (due None) ss)))
       first writer after between.writes wrote)
@@ -235,7 +235,7 @@ module _ {K : Type 0} (content : K → Option (List ℕ)) (sure : K → Option �
   -- so many events it has
   pub last_count : LeastOf p ss (length ss) None → events + length (joined (map (due None) ss)) ≡ length (piece (plan_lines p))
   last_count none =
-      let all = ends_piece p ss (plan_valid p fits) same_count between.slots between.started none between.done between.playing in
+      let all = ends_piece p ss (plan_valid p fits) same_count between.lanes between.started none between.done between.playing in
       omega (
         arith,
         ap length all,
@@ -248,8 +248,8 @@ module _ {K : Type 0} (content : K → Option (List ℕ)) (sure : K → Option �
   pub last_ends : LeastOf p ss (length ss) None → AllAtEnd p (map (without_due None) ss)
   last_ends none j within =
       let inside : j < length ss = simp length-map at within in
-      let end = all_at_end p ss (plan_valid p fits) same_count between.slots between.started none j inside in
-      subst (IsAtEnd p j) (sym (slot-map None ss j))
+      let end = all_at_end p ss (plan_valid p fits) same_count between.lanes between.started none j inside in
+      subst (IsAtEnd p j) (sym (lane-map None ss j))
       (record { strand = end.strand; is = end.is; course = end.course; process = end.process; over = end.over })
 
   -- where a release fails, a front of the piece was put
@@ -273,7 +273,7 @@ module _ {K : Type 0} (content : K → Option (List ℕ)) (sure : K → Option �
 
 -- when nothing is written yet, all is left
 pub first_between : {K : Type 0} (content : K → Option (List ℕ)) (sure : K → Option ℕ) (faults : K → ℕ) (p : PlanParts) (now : K)
-    (writer : Written) (old new : List Slot) (gather : EventGather) (room : ℕ) → Opened p old gather room
+    (writer : Written) (old new : List Lane) (gather : EventGather) (room : ℕ) → Opened p old gather room
     → IfSome (content now) (λ c. length c ≡ writer.put) → Starts p old new → length new ≡ length old
     → Between content sure faults p now now writer writer new gather 0
 first_between content sure faults p now writer old new gather room opened at_end starts same =
@@ -286,7 +286,7 @@ first_between content sure faults p now writer old new gather room opened at_end
       writes = writes_none content sure faults now writer;
       at_end = at_end;
       count = same ∙ opened.count;
-      slots = starts.slots;
+      lanes = starts.lanes;
       started = starts.started;
       rooms = subst (All (λ r. 0 < r)) (sym starts.rooms) (fresh_rooms room old (omega arith) opened.fresh);
       empty = opened.empty;

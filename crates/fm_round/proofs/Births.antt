@@ -8,8 +8,8 @@ use Rattle.fm_program.specs.Process.{plan_lines}
 use Rattle.fm_program.proofs.Lines.{plan-lines-waits}
 use Rattle.fm_strand.specs.declared.strand.Strand.{Strand}
 use Rattle.fm_strand.specs.Strand.{clock_of}
-use Rattle.fm_round.specs.Slots.{AllSlots, AllStarted, IsRun, live_clock, predecessors, slot}
-use Rattle.fm_round.specs.declared.slot.Slot.{Slot}
+use Rattle.fm_round.specs.Lanes.{AllLanes, AllStarted, IsRun, live_clock, predecessors, lane}
+use Rattle.fm_round.specs.declared.lane.Lane.{Lane}
 use Rattle.fm_play.proofs.InTime.{past_last}
 use Rattle.fm_round.proofs.StrandFacts.{clock_to_end}
 
@@ -38,19 +38,19 @@ start_to_end ls valid j =
 -- ---- waiting
 
 -- a live process before j, with a clock not past j's start
-pub record IsAhead (p : PlanParts) (ss : List Slot) (j : ℕ) : Type 0 where
+pub record IsAhead (p : PlanParts) (ss : List Lane) (j : ℕ) : Type 0 where
   pub at : ℕ
   pub less : at < j
   pub clock : ℕ
-  pub live : live_clock p (slot ss at) ≡ Some clock
+  pub live : live_clock p (lane ss at) ≡ Some clock
   pub early : clock ≤ start (plan_lines p) j
 
-module _ (p : PlanParts) (ss : List Slot) (valid : ValidLines (plan_lines p)) (slots : AllSlots p ss)
+module _ (p : PlanParts) (ss : List Lane) (valid : ValidLines (plan_lines p)) (lanes : AllLanes p ss)
     (started : AllStarted p ss (length ss)) where
   -- a predecessor that has not ended is ahead, or waits itself
   through : (j q : ℕ) → q < j → q < length ss → (line (plan_lines p) q).end ≤ start (plan_lines p) j
-      → (ended : Bool) (strand : Option Strand) → (slot ss q).ended ≡ ended → (slot ss q).strand ≡ strand → ended ≡ false
-      → IsRun p q ended (slot ss q).outbox.events strand → ((slot ss q).strand ≡ None → IsAhead p ss q) → IsAhead p ss j
+      → (ended : Bool) (strand : Option Strand) → (lane ss q).ended ≡ ended → (lane ss q).strand ≡ strand → ended ≡ false
+      → IsRun p q ended (lane ss q).outbox.events strand → ((lane ss q).strand ≡ None → IsAhead p ss q) → IsAhead p ss j
   through j q less there before true strand is_ended is_strand live run further = absurd (cc)
   through j q less there before false None is_ended is_strand live run further =
       let above = further is_strand in
@@ -63,7 +63,7 @@ module _ (p : PlanParts) (ss : List Slot) (valid : ValidLines (plan_lines p)) (s
       subst (λ (i : ℕ). clock_of p t ≤ (line (plan_lines p) i).end) run.process (clock_to_end p t run.course) in
       record { at = q; less = less; clock = clock_of p t; live = rw (is_ended, is_strand) refl; early = omega arith }
 
-  ahead_in : (n j : ℕ) → j < n → j < length ss → (slot ss j).strand ≡ None → IsAhead p ss j
+  ahead_in : (n j : ℕ) → j < n → j < length ss → (lane ss j).strand ≡ None → IsAhead p ss j
   ahead_in zero j lt there unborn = absurd (omega arith)
   ahead_in (suc n) j lt there unborn =
       let waiting = started j there unborn in
@@ -76,12 +76,12 @@ module _ (p : PlanParts) (ss : List Slot) (valid : ValidLines (plan_lines p)) (s
       (start_after (plan_lines p) j waiting.at within) in
       let q : ℕ = get_or (predecessors p j) waiting.at 0 in
       through j (get_or (predecessors p j) waiting.at 0) less (omega arith) before
-      (slot ss (get_or (predecessors p j) waiting.at 0)).ended (slot ss (get_or (predecessors p j) waiting.at 0)).strand refl refl
-      waiting.live (slots (get_or (predecessors p j) waiting.at 0) (omega arith))
+      (lane ss (get_or (predecessors p j) waiting.at 0)).ended (lane ss (get_or (predecessors p j) waiting.at 0)).strand refl refl
+      waiting.live (lanes (get_or (predecessors p j) waiting.at 0) (omega arith))
       (λ none. ahead_in n (get_or (predecessors p j) waiting.at 0) (omega arith) (omega arith) none)
 
   -- some live process is before j, with a clock not past j's start
-  pub ahead : (j : ℕ) → j < length ss → (slot ss j).strand ≡ None → IsAhead p ss j
+  pub ahead : (j : ℕ) → j < length ss → (lane ss j).strand ≡ None → IsAhead p ss j
   ahead j there unborn = ahead_in (suc j) j (omega arith) there unborn
 
 -- each predecessor is an earlier process

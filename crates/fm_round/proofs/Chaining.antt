@@ -3,8 +3,8 @@ use Rattle.std.proofs.Common.{◌≡◌, ◌⊎◌, ℕ, ◌<◌, ◌≤◌, Lis
 use Rattle.std.proofs.lemmas.Bool.{cases_eq, cases_lt}
 use Rattle.std.proofs.Math.ListN.{length-set}
 use Rattle.fm_round.specs.Chain.{IsChain, IsIdle, Joins, OthersIdle, link}
-use Rattle.fm_round.specs.Slots.{slot}
-use Rattle.fm_round.specs.declared.slot.Slot.{Slot}
+use Rattle.fm_round.specs.Lanes.{lane}
+use Rattle.fm_round.specs.declared.lane.Lane.{Lane}
 
 -- a number of the chain has a place
 pub chained_within : (ns : List ℕ) → IsChain ns → (x : ℕ) → 0 < link ns x → x < length ns
@@ -177,14 +177,14 @@ module _ (ns : List ℕ) (at a : ℕ) (chain : IsChain ns) (on : 0 < link ns at)
   left_behind = left_at (λ k v. k ≡ at → v ≡ link ns a) (λ same. refl) (λ same. absurd (omega (arith, above)))
       (λ k far other same. absurd (far same)) at refl
 
-  pub left_idle : (ss : List Slot) → OthersIdle ns ss → IsIdle (slot ss a) → OthersIdle (set (set ns at (link ns a)) a 0) ss
-  left_idle ss idle here j within = left_at (λ j v. j < length ss → v ≡ 0 → IsIdle (slot ss j))
+  pub left_idle : (ss : List Lane) → OthersIdle ns ss → IsIdle (lane ss a) → OthersIdle (set (set ns at (link ns a)) a 0) ss
+  left_idle ss idle here j within = left_at (λ j v. j < length ss → v ≡ 0 → IsIdle (lane ss j))
       (λ inside off. absurd (omega (arith, on_a)))
       (λ inside off. here)
       (λ k far other inside off. idle k inside off) j within
 
-pub leaves : (ns : List ℕ) (at a v : ℕ) (ss : List Slot) → IsChain ns → 0 < link ns at → link ns at ≡ a → v ≡ link ns a → a < length ns
-    → OthersIdle ns ss → IsIdle (slot ss a)
+pub leaves : (ns : List ℕ) (at a v : ℕ) (ss : List Lane) → IsChain ns → 0 < link ns at → link ns at ≡ a → v ≡ link ns a → a < length ns
+    → OthersIdle ns ss → IsIdle (lane ss a)
     → IsChain (set (set ns at v) a 0) × (length (set (set ns at v) a 0) ≡ length ns) × OthersIdle (set (set ns at v) a 0) ss
     × (0 < link (set (set ns at v) a 0) at)
 leaves ns at a v ss chain on is is_v there idle here =

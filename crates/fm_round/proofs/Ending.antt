@@ -8,9 +8,9 @@ use Rattle.fm_program.specs.Parts.{PlanParts}
 use Rattle.fm_program.specs.Process.{plan_lines}
 use Rattle.fm_strand.specs.declared.strand.Strand.{Strand}
 use Rattle.fm_strand.specs.Strand.{clock_of}
-use Rattle.fm_round.specs.declared.slot.Slot.{Slot}
+use Rattle.fm_round.specs.declared.lane.Lane.{Lane}
 use Rattle.fm_round.specs.Lefts.{Playing, joined}
-use Rattle.fm_round.specs.Slots.{AllSlots, AllStarted, IsAtEnd, IsRun, LeastOf, due, lefts, live_clock, slot, without_due, yet}
+use Rattle.fm_round.specs.Lanes.{AllLanes, AllStarted, IsAtEnd, IsRun, LeastOf, due, lefts, live_clock, lane, without_due, yet}
 use Rattle.fm_round.proofs.Parting.{FrontsFirst, back_of}
 use Rattle.fm_round.proofs.Order.{none_stays_at_all}
 use Rattle.fm_round.proofs.Births.{ahead}
@@ -22,35 +22,35 @@ empty_list : (xs : List TimedMessage) → ((e : TimedMessage) → In e xs → �
 empty_list [] none = refl
 empty_list (x ∷ xs) none = absurd (none x (inl refl))
 
-module _ (p : PlanParts) (ss : List Slot) (valid : ValidLines (plan_lines p)) (count : length ss ≡ length (plan_lines p))
-    (slots : AllSlots p ss) (started : AllStarted p ss (length ss)) (none : LeastOf p ss (length ss) None) where
-  by_state : (j : ℕ) → j < length ss → (ended : Bool) (strand : Option Strand) → (slot ss j).ended ≡ ended
-      → (slot ss j).strand ≡ strand → IsRun p j ended (slot ss j).outbox.events strand → IsAtEnd p j (slot ss j)
+module _ (p : PlanParts) (ss : List Lane) (valid : ValidLines (plan_lines p)) (count : length ss ≡ length (plan_lines p))
+    (lanes : AllLanes p ss) (started : AllStarted p ss (length ss)) (none : LeastOf p ss (length ss) None) where
+  by_state : (j : ℕ) → j < length ss → (ended : Bool) (strand : Option Strand) → (lane ss j).ended ≡ ended
+      → (lane ss j).strand ≡ strand → IsRun p j ended (lane ss j).outbox.events strand → IsAtEnd p j (lane ss j)
   by_state j there true None is_ended is_strand run = cc
   by_state j there true (Some t) is_ended is_strand run =
       record { strand = t; is = is_strand; course = run.course; process = run.process; over = run.at_end refl }
   by_state j there false None is_ended is_strand run =
-      let before = ahead p ss valid slots started j there is_strand in
+      let before = ahead p ss valid lanes started j there is_strand in
       let less = before.less in
       let never : Some before.clock ≡ None = sym before.live ∙ none before.at (omega arith) in cc
   by_state j there false (Some t) is_ended is_strand run =
-      let live : live_clock p (slot ss j) ≡ Some (clock_of p t) = rw (is_ended, is_strand) refl in
+      let live : live_clock p (lane ss j) ≡ Some (clock_of p t) = rw (is_ended, is_strand) refl in
       let never : Some (clock_of p t) ≡ None = sym live ∙ none j there in cc
 
   -- each process is at its end
-  pub all_at_end : (j : ℕ) → j < length ss → IsAtEnd p j (slot ss j)
-  all_at_end j there = by_state j there (slot ss j).ended (slot ss j).strand refl refl (slots j there)
+  pub all_at_end : (j : ℕ) → j < length ss → IsAtEnd p j (lane ss j)
+  all_at_end j there = by_state j there (lane ss j).ended (lane ss j).strand refl refl (lanes j there)
 
   -- and nothing stays of it
   none_of : (j : ℕ) → j < length ss → (e : TimedMessage)
-      → In e (stay p None (line (plan_lines p) j).events (slot ss j)) → ⊥
+      → In e (stay p None (line (plan_lines p) j).events (lane ss j)) → ⊥
   none_of j there e i =
       let end = all_at_end j there in
-      let queue : drop (count_through None (slot ss j).outbox.events) (slot ss j).outbox.events ≡ [] =
-      none_stays_at_all (slot ss j).outbox.events in
-      let nothing : yet p (line (plan_lines p) j).events (slot ss j).strand ≡ [] =
+      let queue : drop (count_through None (lane ss j).outbox.events) (lane ss j).outbox.events ≡ [] =
+      none_stays_at_all (lane ss j).outbox.events in
+      let nothing : yet p (line (plan_lines p) j).events (lane ss j).strand ≡ [] =
       ap (yet p (line (plan_lines p) j).events) end.is ∙ rest_ended p end.strand end.course end.over in
-      subst (In e) (ap (λ es. es ++ yet p (line (plan_lines p) j).events (slot ss j).strand) queue ∙ nothing) i
+      subst (In e) (ap (λ es. es ++ yet p (line (plan_lines p) j).events (lane ss j).strand) queue ∙ nothing) i
 
   nothing_stays : (e : TimedMessage) → In e (joined (map back_of (parts p None (plan_lines p) ss))) → ⊥
   nothing_stays = parts_stay p None (plan_lines p) ss (λ e. ⊥) none_of

@@ -5,10 +5,10 @@ use Rattle.std.specs.Global.{Global}
 use Rattle.std.proofs.lemmas.Bool.{cases_eq}
 use Rattle.fm_program.specs.Parts.{PlanParts}
 use Rattle.fm_round.specs.Chain.{IsChain, link}
-use Rattle.fm_round.specs.Slots.{AllStarted, IsWaiting, predecessors, slot}
+use Rattle.fm_round.specs.Lanes.{AllStarted, IsWaiting, predecessors, lane}
 use Rattle.fm_round.specs.Starts.{Begins}
 use Rattle.fm_round.specs.Watching.{AllAwait, Awaits, Takes, list_of, predecessor}
-use Rattle.fm_round.specs.declared.slot.Slot.{Slot}
+use Rattle.fm_round.specs.declared.lane.Lane.{Lane}
 use Rattle.fm_round.specs.declared.watch.Watch.{Watch}
 use Rattle.fm_round.proofs.Listing.{in_none, takes_one}
 use Rattle.fm_round.proofs.Chaining.{chained_within, none_between}
@@ -16,7 +16,7 @@ use Rattle.fm_round.proofs.Chaining.{chained_within, none_between}
 -- ---- who waits
 
 -- who waits does so as long as no process has ended
-pub waiting_kept : (p : PlanParts) (j : ℕ) (old new : List Slot) → ((i : ℕ) → (slot new i).ended ≡ (slot old i).ended)
+pub waiting_kept : (p : PlanParts) (j : ℕ) (old new : List Lane) → ((i : ℕ) → (lane new i).ended ≡ (lane old i).ended)
     → IsWaiting p old j → IsWaiting p new j
 waiting_kept p j old new ended waits = record {
   at = waits.at;
@@ -25,20 +25,20 @@ waiting_kept p j old new ended waits = record {
 }
 
 -- one process more has started or waits
-pub started_more : (p : PlanParts) (j : ℕ) (old new : List Slot) → Begins p j old new
-    → ((slot new j).strand ≡ None → IsWaiting p new j) → AllStarted p old j → AllStarted p new (j + 1)
+pub started_more : (p : PlanParts) (j : ℕ) (old new : List Lane) → Begins p j old new
+    → ((lane new j).strand ≡ None → IsWaiting p new j) → AllStarted p old j → AllStarted p new (j + 1)
 started_more p j old new begins own before i below unborn = by_index (cases_eq i j)
   where
     by_index : (i ≡ j) ⊎ (i ≡ j → ⊥) → IsWaiting p new i
     by_index (inl same) =
-        subst (IsWaiting p new) (sym same) (own (sym (ap (λ (k : ℕ). (slot new k).strand) same) ∙ unborn))
+        subst (IsWaiting p new) (sym same) (own (sym (ap (λ (k : ℕ). (lane new k).strand) same) ∙ unborn))
     by_index (inr apart) =
         waiting_kept p i old new begins.some.ended
-        (before i (omega arith) (sym (ap (λ (s : Slot). s.strand) (begins.others i apart)) ∙ unborn))
+        (before i (omega arith) (sym (ap (λ (s : Lane). s.strand) (begins.others i apart)) ∙ unborn))
 
 -- one was taken out of a list, and has started or waits
-pub await_more : (p : PlanParts) (w v : Watch) (fs : Vec (Vec ℕ Global) Global) (q x : ℕ) (old new : List Slot) → Begins p x old new
-    → ((slot new x).strand ≡ None → IsWaiting p new x) → length new ≡ length old
+pub await_more : (p : PlanParts) (w v : Watch) (fs : Vec (Vec ℕ Global) Global) (q x : ℕ) (old new : List Lane) → Begins p x old new
+    → ((lane new x).strand ≡ None → IsWaiting p new x) → length new ≡ length old
     → ((k : ℕ) → 0 < link w.next.items k → 0 < link v.next.items k)
     → Takes q w.followers.items (Some x) fs.items → v.followers ≡ fs
     → AllAwait p w q old → AllAwait p v q new
@@ -62,11 +62,11 @@ await_more p w v fs q x old new begins own same chained takes lists before j wit
         (sym lists) (takes_one q x w.followers.items fs.items takes (predecessor p j a.index) j a.listed))
 
     by_index : (j ≡ x) ⊎ (j ≡ x → ⊥) → (IsWaiting p new j) ⊎ (Awaits p v q j)
-    by_index (inl is) = inl (subst (IsWaiting p new) (sym is) (own (sym (ap (λ (k : ℕ). (slot new k).strand) is) ∙ unborn)))
+    by_index (inl is) = inl (subst (IsWaiting p new) (sym is) (own (sym (ap (λ (k : ℕ). (lane new k).strand) is) ∙ unborn)))
     by_index (inr apart) =
-        by_wait apart (before j (omega arith) (sym (ap (λ (s : Slot). s.strand) (begins.others j apart)) ∙ unborn))
+        by_wait apart (before j (omega arith) (sym (ap (λ (s : Lane). s.strand) (begins.others j apart)) ∙ unborn))
 
-module _ (p : PlanParts) (w : Watch) (q : ℕ) (ss : List Slot) (before : AllAwait p w q ss) where
+module _ (p : PlanParts) (w : Watch) (q : ℕ) (ss : List Lane) (before : AllAwait p w q ss) where
   -- nobody is left in the list of q
   pub await_past : (v : Watch) → v.next ≡ w.next → list_of v.followers.items q ≡ []
       → ((k : ℕ) → (k ≡ q → ⊥) → list_of v.followers.items k ≡ list_of w.followers.items k)
@@ -91,7 +91,7 @@ module _ (p : PlanParts) (w : Watch) (q : ℕ) (ss : List Slot) (before : AllAwa
       by_wait (inr a) = by_index a (cases_eq (predecessor p j a.index) q)
 
   -- q has not ended
-  pub await_live : (slot ss q).ended ≡ false → AllAwait p w (q + 1) ss
+  pub await_live : (lane ss q).ended ≡ false → AllAwait p w (q + 1) ss
   await_live live j within unborn = by_wait (before j within unborn)
     where
       by_index : (a : Awaits p w q j) → (predecessor p j a.index ≡ q) ⊎ (predecessor p j a.index ≡ q → ⊥)
@@ -99,7 +99,7 @@ module _ (p : PlanParts) (w : Watch) (q : ℕ) (ss : List Slot) (before : AllAwa
       by_index a (inl same) = inl (record {
         at = a.index;
         there = a.there;
-        live = ap (λ (n : ℕ). (slot ss n).ended) same ∙ live;
+        live = ap (λ (n : ℕ). (lane ss n).ended) same ∙ live;
       })
       by_index a (inr apart) = inr (record {
         index = a.index;
@@ -124,7 +124,7 @@ module _ (p : PlanParts) (w : Watch) (q : ℕ) (ss : List Slot) (before : AllAwa
           let from = a.from in absurd (omega arith)
 
 -- what is not in the chain needs no look
-pub await_next : (p : PlanParts) (w : Watch) (q : ℕ) (ss : List Slot) → IsChain w.next.items → AllAwait p w (q + 1) ss
+pub await_next : (p : PlanParts) (w : Watch) (q : ℕ) (ss : List Lane) → IsChain w.next.items → AllAwait p w (q + 1) ss
     → AllAwait p w (link w.next.items q) ss
 await_next p w q ss chain before j within unborn = by_wait (before j within unborn)
   where

@@ -1,25 +1,25 @@
 -- Processes that have not started, one after another.
 use Rattle.std.proofs.Common.{◌≡◌, ◌⊎◌, ℕ, suc, ◌+◌, ◌*◌, ◌<◌, ◌≤◌, List, [], ◌∷◌, ◌++◌, length, map, sym, ap, ◌∙◌, subst, inl, inr, arith, length-append}
 use Rattle.std.proofs.lemmas.Bool.{cases_lt}
-use Rattle.fm_round.specs.declared.slot.Slot.{Slot}
+use Rattle.fm_round.specs.declared.lane.Lane.{Lane}
 use Rattle.fm_round.specs.Rounds.{AreFresh}
-use Rattle.fm_round.specs.Slots.{IsFresh, room_of, room_sum, slot}
-use Rattle.fm_round.proofs.Running.{slot-left, slot-right}
+use Rattle.fm_round.specs.Lanes.{IsFresh, room_of, room_sum, lane}
+use Rattle.fm_round.proofs.Running.{lane-left, lane-right}
 
 -- one more
-pub fresh_more : (n room : ℕ) (ss : List Slot) (s : Slot) → AreFresh n room ss → IsFresh room s → AreFresh (n + 1) room (ss ++ s ∷ [])
+pub fresh_more : (n room : ℕ) (ss : List Lane) (s : Lane) → AreFresh n room ss → IsFresh room s → AreFresh (n + 1) room (ss ++ s ∷ [])
 fresh_more n room ss s before new = record {
   count = omega (arith, length-append ss (s ∷ []), before.count);
   fresh = λ k within. by_place k within (cases_lt k (length ss));
 }
   where
-    by_place : (k : ℕ) → k < length (ss ++ s ∷ []) → (k < length ss) ⊎ (length ss ≤ k) → IsFresh room (slot (ss ++ s ∷ []) k)
-    by_place k within (inl less) = subst (IsFresh room) (sym (slot-left ss (s ∷ []) k less)) (before.fresh k less)
+    by_place : (k : ℕ) → k < length (ss ++ s ∷ []) → (k < length ss) ⊎ (length ss ≤ k) → IsFresh room (lane (ss ++ s ∷ []) k)
+    by_place k within (inl less) = subst (IsFresh room) (sym (lane-left ss (s ∷ []) k less)) (before.fresh k less)
     by_place k within (inr more) =
         let long = length-append ss (s ∷ []) in
-        subst (IsFresh room) (sym (slot-right ss (s ∷ []) k 0 (omega arith))) new
+        subst (IsFresh room) (sym (lane-right ss (s ∷ []) k 0 (omega arith))) new
 
-sum_fresh : (room : ℕ) (ss : List Slot) → ((k : ℕ) → k < length ss → IsFresh room (slot ss k))
+sum_fresh : (room : ℕ) (ss : List Lane) → ((k : ℕ) → k < length ss → IsFresh room (lane ss k))
     → room_sum (map room_of ss) ≡ room * length ss
 sum_fresh room [] fresh = omega arith
 sum_fresh room (s ∷ ss) fresh =
@@ -32,5 +32,5 @@ sum_fresh room (s ∷ ss) fresh =
     mul-suc-right a b = omega arith
 
 -- their room together
-pub room_sum-fresh : {n : ℕ} (room : ℕ) (ss : List Slot) → AreFresh n room ss → room_sum (map room_of ss) ≡ room * n
+pub room_sum-fresh : {n : ℕ} (room : ℕ) (ss : List Lane) → AreFresh n room ss → room_sum (map room_of ss) ≡ room * n
 room_sum-fresh room ss are = sum_fresh room ss are.fresh ∙ ap (λ k. room * k) are.count

@@ -7,7 +7,7 @@ use Rattle.std.proofs.lemmas.List.Elements.{Contains-append_cases, Contains-appe
 use Rattle.fm_program.specs.Fit.{PartsFit}
 use Rattle.fm_program.specs.Parts.{PlanParts}
 use Rattle.fm_play.proofs.PlanFacts.{plan_valid}
-use Rattle.fm_round.specs.Slots.{predecessors}
+use Rattle.fm_round.specs.Lanes.{predecessors}
 use Rattle.fm_round.specs.Watching.{AllLater, AllListed, AreEmpty, Lists, Takes, list_of, predecessor}
 use Rattle.fm_round.proofs.Births.{predecessor_below}
 

@@ -9,9 +9,9 @@ use Rattle.fm_line.specs.Piece.{Before, In, Rises, events_below, sorted}
 use Rattle.fm_line.proofs.Members.{in_at}
 use Rattle.fm_line.proofs.Rising.{in_above}
 use Rattle.fm_program.specs.Parts.{PlanParts}
-use Rattle.fm_round.specs.declared.slot.Slot.{Slot}
+use Rattle.fm_round.specs.declared.lane.Lane.{Lane}
 use Rattle.fm_round.specs.Lefts.{IsOwn, OwnFrom, Playing, joined}
-use Rattle.fm_round.specs.Slots.{IsFresh, lefts, slot}
+use Rattle.fm_round.specs.Lanes.{IsFresh, lefts, lane}
 
 -- ---- lines one after the other
 
@@ -98,8 +98,8 @@ own_each k (l ∷ ls) each = (
 -- ---- at first
 
 -- of processes that have not started their whole lines are left
-pub lefts-fresh : (p : PlanParts) (room : ℕ) (ls : List Line) (ss : List Slot) → length ss ≡ length ls
-    → ((k : ℕ) → k < length ss → IsFresh room (slot ss k)) → lefts p ls ss ≡ map events_of ls
+pub lefts-fresh : (p : PlanParts) (room : ℕ) (ls : List Line) (ss : List Lane) → length ss ≡ length ls
+    → ((k : ℕ) → k < length ss → IsFresh room (lane ss k)) → lefts p ls ss ≡ map events_of ls
 lefts-fresh p room [] ss same fresh = refl
 lefts-fresh p room (l ∷ ls) [] same fresh = absurd (omega arith)
 lefts-fresh p room (l ∷ ls) (s ∷ ss) same fresh =
@@ -108,8 +108,8 @@ lefts-fresh p room (l ∷ ls) (s ∷ ss) same fresh =
     (lefts-fresh p room ls ss (omega arith) (λ k within. fresh (suc k) (omega arith)))
 
 -- and so all of the piece
-pub opens : (p : PlanParts) (room : ℕ) (ls : List Line) (ss : List Slot) → ValidLines ls → length ss ≡ length ls
-    → ((k : ℕ) → k < length ss → IsFresh room (slot ss k)) → Playing ls [] (lefts p ls ss)
+pub opens : (p : PlanParts) (room : ℕ) (ls : List Line) (ss : List Lane) → ValidLines ls → length ss ≡ length ls
+    → ((k : ℕ) → k < length ss → IsFresh room (lane ss k)) → Playing ls [] (lefts p ls ss)
 opens p room ls ss valid same fresh =
     let all = lefts-fresh p room ls ss same fresh in record {
       whole = ap (λ xss. sorted (joined xss)) all ∙ ap sorted (joined_all ls);

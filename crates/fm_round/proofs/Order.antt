@@ -6,7 +6,7 @@ use Rattle.fm_msg.specs.Event.{TimedMessage}
 use Rattle.fm_line.specs.Piece.{Before, In, Rises}
 use Rattle.fm_line.proofs.Rising.{above_in}
 use Rattle.fm_buffer.specs.Outbox.{count_through, is_through}
-use Rattle.fm_round.specs.Slots.{IsNotPast}
+use Rattle.fm_round.specs.Lanes.{IsNotPast}
 
 -- ---- one event
 

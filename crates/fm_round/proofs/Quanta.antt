@@ -1,4 +1,4 @@
--- What one quantum makes of one slot.
+-- What one quantum makes of one lane.
 use Rattle.std.proofs.Common.{◌≡◌, ◌⊎◌, ℕ, ◌+◌, ◌<◌, ◌≤◌, [], length, Bool, true, false, Some, None, refl, sym, ap, ◌∙◌, subst, inl, inr, arith, append-nil, length-append}
 use Rattle.std.proofs.lemmas.Bool.{cases_eq}
 use Rattle.std.proofs.lemmas.List.Elements.{All-append, All-nil, All-weaker}
@@ -10,13 +10,13 @@ use Rattle.fm_strand.specs.declared.answers.Quantum.{Quantum}
 use Rattle.fm_strand.specs.declared.answers.Quantum.TheVariants as quantum
 use Rattle.fm_strand.specs.declared.answers.TheConstants.{MAX_QUANTUM}
 use Rattle.fm_strand.specs.Strand.{MakesQuantum, QuantumIs, clock_of, rest, steps_left}
-use Rattle.fm_round.specs.declared.slot.Slot.{Slot}
-use Rattle.fm_round.specs.Slots.{CanRun, IsSlotOf, IsStrandOf, Runs, has_ended, live_clock, load, run_load}
+use Rattle.fm_round.specs.declared.lane.Lane.{Lane}
+use Rattle.fm_round.specs.Lanes.{CanRun, IsLaneOf, IsStrandOf, Runs, has_ended, live_clock, load, run_load}
 use Rattle.fm_round.proofs.StrandFacts.{clock_at_event, put_early}
 
 -- ---- one quantum
 
-module _ (p : PlanParts) (j limit : ℕ) (old new : Slot) (s t : Strand) (answer : Quantum)
+module _ (p : PlanParts) (j limit : ℕ) (old new : Lane) (s t : Strand) (answer : Quantum)
     (was : old.strand ≡ Some s) (live : old.ended ≡ false) (run : IsStrandOf p j false old.outbox.events s)
     (makes : MakesQuantum p limit s old.outbox answer t new.outbox)
     (now : new.strand ≡ Some t) (ended : new.ended ≡ has_ended answer) where
@@ -119,8 +119,8 @@ module _ (p : PlanParts) (j limit : ℕ) (old new : Slot) (s t : Strand) (answer
     begun = λ none. let never : Some t ≡ None = sym now ∙ none in cc;
   }
 
--- a slot that is left as it was, since it has not started or has ended
-pub rests : (p : PlanParts) (j limit : ℕ) (s : Slot) → IsSlotOf p j s → live_clock p s ≡ None → Runs p j limit s s
+-- a lane that is left as it was, since it has not started or has ended
+pub rests : (p : PlanParts) (j limit : ℕ) (s : Lane) → IsLaneOf p j s → live_clock p s ≡ None → Runs p j limit s s
 rests p j limit s fits idle = record {
   same = λ events. refl;
   fits = fits;

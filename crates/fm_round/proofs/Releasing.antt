@@ -12,9 +12,9 @@ use Rattle.fm_program.specs.Parts.{PlanParts}
 use Rattle.fm_program.specs.Process.{plan_lines}
 use Rattle.fm_strand.specs.declared.strand.Strand.{Strand}
 use Rattle.fm_strand.specs.Strand.{InCourse, clock_of, rest}
-use Rattle.fm_round.specs.declared.slot.Slot.{Slot}
+use Rattle.fm_round.specs.declared.lane.Lane.{Lane}
 use Rattle.fm_round.specs.Lefts.{IsOwn, OwnFrom, Playing, joined}
-use Rattle.fm_round.specs.Slots.{AllSlots, AllStarted, IsLeast, IsNotPast, IsRun, due, left, lefts, slot, without_due, yet}
+use Rattle.fm_round.specs.Lanes.{AllLanes, AllStarted, IsLeast, IsNotPast, IsRun, due, left, lefts, lane, without_due, yet}
 use Rattle.fm_play.proofs.InTime.{before_time}
 use Rattle.fm_round.proofs.Parting.{Parted, FrontsFirst, back_of, front_of, own_back, own_backs, own_front, sorted_parts, whole_of}
 use Rattle.fm_round.proofs.Order.{IsDue, due_first, past_time, stays_past, taken_due}
@@ -24,17 +24,17 @@ use Rattle.fm_round.proofs.StrandFacts.{clock_first, rest_ended}
 -- ---- what is left, in two parts
 
 -- what stays of a process once what is due up to the key is taken
-abbrev pub stay : PlanParts → Option (ℕ × ℕ) → List TimedMessage → Slot → List TimedMessage
+abbrev pub stay : PlanParts → Option (ℕ × ℕ) → List TimedMessage → Lane → List TimedMessage
 stay p key events s = drop (count_through key s.outbox.events) s.outbox.events ++ yet p events s.strand
 
 -- what is left of each process: what is due up to the key, and what stays
-abbrev pub parts : PlanParts → Option (ℕ × ℕ) → List Line → List Slot → List Parted
+abbrev pub parts : PlanParts → Option (ℕ × ℕ) → List Line → List Lane → List Parted
 parts p key [] ss = []
 parts p key (l ∷ ls) [] = []
 parts p key (l ∷ ls) (s ∷ ss) = record { front = due key s; back = stay p key l.events s } ∷ parts p key ls ss
 
 -- both together are what was left
-pub parts-whole : (p : PlanParts) (key : Option (ℕ × ℕ)) (ls : List Line) (ss : List Slot)
+pub parts-whole : (p : PlanParts) (key : Option (ℕ × ℕ)) (ls : List Line) (ss : List Lane)
     → map whole_of (parts p key ls ss) ≡ lefts p ls ss
 parts-whole p key [] ss = refl
 parts-whole p key (l ∷ ls) [] = refl
@@ -45,15 +45,15 @@ parts-whole p key (l ∷ ls) (s ∷ ss) =
     ∙ ap (λ es. es ++ yet p l.events s.strand) (take-append-drop n s.outbox.events) in
     ap₂ (λ (xs : List TimedMessage) (xss : List (List TimedMessage)). xs ∷ xss) here (parts-whole p key ls ss)
 
--- what stays is what is left of the slots without what is due
-pub parts-back : (p : PlanParts) (key : Option (ℕ × ℕ)) (ls : List Line) (ss : List Slot)
+-- what stays is what is left of the lanes without what is due
+pub parts-back : (p : PlanParts) (key : Option (ℕ × ℕ)) (ls : List Line) (ss : List Lane)
     → map back_of (parts p key ls ss) ≡ lefts p ls (map (without_due key) ss)
 parts-back p key [] ss = refl
 parts-back p key (l ∷ ls) [] = refl
 parts-back p key (l ∷ ls) (s ∷ ss) = ap (λ xss. stay p key l.events s ∷ xss) (parts-back p key ls ss)
 
--- what is due is what is taken, where there is a line for each slot
-pub parts-front : (p : PlanParts) (key : Option (ℕ × ℕ)) (ls : List Line) (ss : List Slot) → length ss ≡ length ls
+-- what is due is what is taken, where there is a line for each lane
+pub parts-front : (p : PlanParts) (key : Option (ℕ × ℕ)) (ls : List Line) (ss : List Lane) → length ss ≡ length ls
     → map front_of (parts p key ls ss) ≡ map (due key) ss
 parts-front p key [] [] same = refl
 parts-front p key [] (s ∷ ss) same = absurd (omega arith)
@@ -63,7 +63,7 @@ parts-front p key (l ∷ ls) (s ∷ ss) same = ap (λ xss. due key s ∷ xss) (p
 -- ---- the piece goes on
 
 -- where what is due is first, what is taken is the next part of the piece
-pub released : (p : PlanParts) (key : Option (ℕ × ℕ)) (ls : List Line) (ss : List Slot) (done : List TimedMessage)
+pub released : (p : PlanParts) (key : Option (ℕ × ℕ)) (ls : List Line) (ss : List Lane) (done : List TimedMessage)
     → length ss ≡ length ls → Playing ls done (lefts p ls ss) → FrontsFirst (parts p key ls ss)
     → Playing ls (done ++ sorted (joined (map (due key) ss))) (lefts p ls (map (without_due key) ss))
 released p key ls ss done same playing first =
@@ -85,15 +85,15 @@ released p key ls ss done same playing first =
 -- ---- one process
 
 -- what is left of each process is its own
-pub own_at : (p : PlanParts) (k : ℕ) (ls : List Line) (ss : List Slot) (i : ℕ) → OwnFrom k (lefts p ls ss)
-    → i < length ls → i < length ss → IsOwn (k + i) (left p (line ls i).events (slot ss i))
+pub own_at : (p : PlanParts) (k : ℕ) (ls : List Line) (ss : List Lane) (i : ℕ) → OwnFrom k (lefts p ls ss)
+    → i < length ls → i < length ss → IsOwn (k + i) (left p (line ls i).events (lane ss i))
 own_at p k [] ss i own a b = absurd (omega arith)
 own_at p k (l ∷ ls) [] i own a b = absurd (omega arith)
 own_at p k (l ∷ ls) (s ∷ ss) zero own a b =
     let here : k + 0 ≡ k = omega arith in subst (λ (n : ℕ). IsOwn n (left p l.events s)) (sym here) own.0
 own_at p k (l ∷ ls) (s ∷ ss) (suc i) own a b =
     let here : suc k + i ≡ k + suc i = omega arith in
-    subst (λ (n : ℕ). IsOwn n (left p (line ls i).events (slot ss i))) here (own_at p (suc k) ls ss i own.1 (omega arith) (omega arith))
+    subst (λ (n : ℕ). IsOwn n (left p (line ls i).events (lane ss i))) here (own_at p (suc k) ls ss i own.1 (omega arith) (omega arith))
 
 -- no event that a strand still gives lies before its clock
 pub clock_below : (p : PlanParts) (t : Strand) (e : TimedMessage) → InCourse p t → Rises (rest p t) → In e (rest p t)
@@ -120,16 +120,16 @@ past_process : (c m t i j : ℕ) → IsNotPast c m t i → i ≤ j → IsNotPast
 past_process c m t i j (inl above) later = inl above
 past_process c m t i j (inr at) later = let from = at.1 in inr (at.0, omega arith)
 
-module _ (p : PlanParts) (ss : List Slot) (valid : ValidLines (plan_lines p)) (count : length ss ≡ length (plan_lines p))
-    (slots : AllSlots p ss) (started : AllStarted p ss (length ss)) (own : OwnFrom 0 (lefts p (plan_lines p) ss))
+module _ (p : PlanParts) (ss : List Lane) (valid : ValidLines (plan_lines p)) (count : length ss ≡ length (plan_lines p))
+    (lanes : AllLanes p ss) (started : AllStarted p ss (length ss)) (own : OwnFrom 0 (lefts p (plan_lines p) ss))
     (c m : ℕ) (least : IsLeast p ss (length ss) c m) where
   -- what a process has still to compute is not before the least pair
   yet_past : (j : ℕ) → j < length ss → (e : TimedMessage) → (ended : Bool) (strand : Option Strand)
-      → (slot ss j).ended ≡ ended → (slot ss j).strand ≡ strand → IsRun p j ended (slot ss j).outbox.events strand
+      → (lane ss j).ended ≡ ended → (lane ss j).strand ≡ strand → IsRun p j ended (lane ss j).outbox.events strand
       → Rises (yet p (line (plan_lines p) j).events strand) → In e (yet p (line (plan_lines p) j).events strand)
       → IsNotPast c m e.time j
   yet_past j there e ended None is_ended is_strand run rises i =
-      let before = ahead p ss valid slots started j there is_strand in
+      let before = ahead p ss valid lanes started j there is_strand in
       let less = before.less in
       let at = least.least before.at before.clock (omega arith) before.live in
       let start = start_below (plan_lines p) valid j e i in
@@ -143,23 +143,23 @@ module _ (p : PlanParts) (ss : List Slot) (valid : ValidLines (plan_lines p)) (c
 
   -- what stays of a process is not before the least pair
   pub stay_past : (j : ℕ) → j < length ss → (e : TimedMessage)
-      → In e (stay p (Some (c, m)) (line (plan_lines p) j).events (slot ss j)) → IsNotPast c m e.time e.process
+      → In e (stay p (Some (c, m)) (line (plan_lines p) j).events (lane ss j)) → IsNotPast c m e.time e.process
   stay_past j there e i =
-      let s = slot ss j in
+      let s = lane ss j in
       let events = (line (plan_lines p) j).events in
-      let all : IsOwn j (left p (line (plan_lines p) j).events (slot ss j)) =
-      subst (λ (n : ℕ). IsOwn n (left p (line (plan_lines p) j).events (slot ss j))) zero_add
+      let all : IsOwn j (left p (line (plan_lines p) j).events (lane ss j)) =
+      subst (λ (n : ℕ). IsOwn n (left p (line (plan_lines p) j).events (lane ss j))) zero_add
       (own_at p 0 (plan_lines p) ss j own (omega arith) there) in
-      let front = own_front j (slot ss j).outbox.events (yet p (line (plan_lines p) j).events (slot ss j).strand) all in
-      let back = own_back j (slot ss j).outbox.events (yet p (line (plan_lines p) j).events (slot ss j).strand) all in
+      let front = own_front j (lane ss j).outbox.events (yet p (line (plan_lines p) j).events (lane ss j).strand) all in
+      let back = own_back j (lane ss j).outbox.events (yet p (line (plan_lines p) j).events (lane ss j).strand) all in
       ⊎_elim
-      (λ (k : In e (drop (count_through (Some (c, m)) (slot ss j).outbox.events) (slot ss j).outbox.events)).
-      stays_past c m (slot ss j).outbox.events e front.rises k)
-      (λ (k : In e (yet p (line (plan_lines p) j).events (slot ss j).strand)).
+      (λ (k : In e (drop (count_through (Some (c, m)) (lane ss j).outbox.events) (lane ss j).outbox.events)).
+      stays_past c m (lane ss j).outbox.events e front.rises k)
+      (λ (k : In e (yet p (line (plan_lines p) j).events (lane ss j).strand)).
       subst (IsNotPast c m e.time) (sym (back.process e k))
-      (yet_past j there e (slot ss j).ended (slot ss j).strand refl refl (slots j there) back.rises k))
-      (in_either e (drop (count_through (Some (c, m)) (slot ss j).outbox.events) (slot ss j).outbox.events)
-      (yet p (line (plan_lines p) j).events (slot ss j).strand) i)
+      (yet_past j there e (lane ss j).ended (lane ss j).strand refl refl (lanes j there) back.rises k))
+      (in_either e (drop (count_through (Some (c, m)) (lane ss j).outbox.events) (lane ss j).outbox.events)
+      (yet p (line (plan_lines p) j).events (lane ss j).strand) i)
     where
       zero_add : 0 + j ≡ j
       zero_add = omega arith
@@ -167,7 +167,7 @@ module _ (p : PlanParts) (ss : List Slot) (valid : ValidLines (plan_lines p)) (c
 -- ---- all processes
 
 -- what is due of all processes is due
-parts_due : (p : PlanParts) (c m : ℕ) (ls : List Line) (ss : List Slot) (e : TimedMessage)
+parts_due : (p : PlanParts) (c m : ℕ) (ls : List Line) (ss : List Lane) (e : TimedMessage)
     → In e (joined (map front_of (parts p (Some (c, m)) ls ss))) → IsDue c m e
 parts_due p c m [] ss e i = absurd i
 parts_due p c m (l ∷ ls) [] e i = absurd i
@@ -177,8 +177,8 @@ parts_due p c m (l ∷ ls) (s ∷ ss) e i =
     (in_either e (due (Some (c, m)) s) (joined (map front_of (parts p (Some (c, m)) ls ss))) i)
 
 -- what holds of each event that stays of each process holds of all that stays
-pub parts_stay : (p : PlanParts) (key : Option (ℕ × ℕ)) (ls : List Line) (ss : List Slot) (P : TimedMessage → Type 0)
-    → ((j : ℕ) → j < length ss → (e : TimedMessage) → In e (stay p key (line ls j).events (slot ss j)) → P e)
+pub parts_stay : (p : PlanParts) (key : Option (ℕ × ℕ)) (ls : List Line) (ss : List Lane) (P : TimedMessage → Type 0)
+    → ((j : ℕ) → j < length ss → (e : TimedMessage) → In e (stay p key (line ls j).events (lane ss j)) → P e)
     → (e : TimedMessage) → In e (joined (map back_of (parts p key ls ss))) → P e
 parts_stay p key [] ss P each e i = absurd i
 parts_stay p key (l ∷ ls) [] P each e i = absurd i
@@ -189,10 +189,10 @@ parts_stay p key (l ∷ ls) (s ∷ ss) P each e i =
     (in_either e (stay p key l.events s) (joined (map back_of (parts p key ls ss))) i)
 
 -- up to the least pair what is due is first
-pub least_first : (p : PlanParts) (ss : List Slot) → ValidLines (plan_lines p) → length ss ≡ length (plan_lines p)
-    → AllSlots p ss → AllStarted p ss (length ss) → OwnFrom 0 (lefts p (plan_lines p) ss)
+pub least_first : (p : PlanParts) (ss : List Lane) → ValidLines (plan_lines p) → length ss ≡ length (plan_lines p)
+    → AllLanes p ss → AllStarted p ss (length ss) → OwnFrom 0 (lefts p (plan_lines p) ss)
     → (c m : ℕ) → IsLeast p ss (length ss) c m → FrontsFirst (parts p (Some (c, m)) (plan_lines p) ss)
-least_first p ss valid count slots started own c m least x y i j =
+least_first p ss valid count lanes started own c m least x y i j =
     due_first c m x y (parts_due p c m (plan_lines p) ss x i)
     (parts_stay p (Some (c, m)) (plan_lines p) ss (λ e. IsNotPast c m e.time e.process)
-    (stay_past p ss valid count slots started own c m least) y j)
+    (stay_past p ss valid count lanes started own c m least) y j)

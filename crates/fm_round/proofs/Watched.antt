@@ -9,23 +9,23 @@ use Rattle.fm_program.specs.Fit.{PartsFit}
 use Rattle.fm_program.specs.Parts.{PlanParts}
 use Rattle.fm_play.proofs.PlanFacts.{plan_valid}
 use Rattle.fm_round.specs.Chain.{IsIdle, Joins, link}
-use Rattle.fm_round.specs.Slots.{AllSlots, AllStarted, IsFresh, IsWaiting, RunsAll, is_running, predecessors, run_is_live, slot, without_due}
+use Rattle.fm_round.specs.Lanes.{AllLanes, AllStarted, IsFresh, IsWaiting, RunsAll, is_running, predecessors, run_is_live, lane, without_due}
 use Rattle.fm_round.specs.Starts.{Begins, StartsSome}
 use Rattle.fm_round.specs.Watching.{AllAwait, Awaits, IsOpenWatch, Takes, Watched, list_of, predecessor}
-use Rattle.fm_round.specs.declared.slot.Slot.{Slot}
+use Rattle.fm_round.specs.declared.lane.Lane.{Lane}
 use Rattle.fm_round.specs.declared.watch.Watch.{Watch}
 use Rattle.fm_round.proofs.Births.{predecessor_below}
 use Rattle.fm_round.proofs.Listing.{takes_kept}
-use Rattle.fm_round.proofs.Running.{slot-map}
+use Rattle.fm_round.proofs.Running.{lane-map}
 
 -- who has ended does not run
-ended_rests : (s : Slot) → s.ended ≡ true → is_running s ≡ false
+ended_rests : (s : Lane) → s.ended ≡ true → is_running s ≡ false
 ended_rests s is = ap (λ b. run_is_live b s.strand) is
 
 -- ---- at first
 
-pub watched_fresh : (p : PlanParts) (w : Watch) (room : ℕ) (ss : List Slot) → IsOpenWatch p w
-    → ((k : ℕ) → k < length ss → IsFresh room (slot ss k)) → Watched p w ss
+pub watched_fresh : (p : PlanParts) (w : Watch) (room : ℕ) (ss : List Lane) → IsOpenWatch p w
+    → ((k : ℕ) → k < length ss → IsFresh room (lane ss k)) → Watched p w ss
 watched_fresh p w room ss first fresh = record {
   chain = first.chain;
   size = first.size;
@@ -38,15 +38,15 @@ watched_fresh p w room ss first fresh = record {
 
 -- ---- one process starts
 
-pub begins_nothing : (p : PlanParts) (j : ℕ) (ss : List Slot) → AllSlots p ss → Begins p j ss ss
-begins_nothing p j ss slots = record {
-  some = record { slots = slots; ended = λ i. refl; same = refl; rooms = refl; loads = refl };
+pub begins_nothing : (p : PlanParts) (j : ℕ) (ss : List Lane) → AllLanes p ss → Begins p j ss ss
+begins_nothing p j ss lanes = record {
+  some = record { lanes = lanes; ended = λ i. refl; same = refl; rooms = refl; loads = refl };
   others = λ i apart. refl;
 }
 
-pub some_more : (p : PlanParts) (old now new : List Slot) → StartsSome p old now → StartsSome p now new → StartsSome p old new
+pub some_more : (p : PlanParts) (old now new : List Lane) → StartsSome p old now → StartsSome p now new → StartsSome p old new
 some_more p old now new before one = record {
-  slots = one.slots;
+  lanes = one.lanes;
   ended = λ i. one.ended i ∙ before.ended i;
   same = one.same ∙ before.same;
   rooms = one.rooms ∙ before.rooms;
@@ -54,7 +54,7 @@ some_more p old now new before one = record {
 }
 
 -- it has joined the chain
-pub watched_joined : (p : PlanParts) (w v : Watch) (j : ℕ) (old new : List Slot) → Watched p w old → Begins p j old new
+pub watched_joined : (p : PlanParts) (w v : Watch) (j : ℕ) (old new : List Lane) → Watched p w old → Begins p j old new
     → length new ≡ length old → Joins j w.next.items v.next.items → length v.guesses.items ≡ length w.guesses.items
     → v.followers ≡ w.followers → Watched p v new
 watched_joined p w v j old new watched begins same joins guesses lists = record {
@@ -69,7 +69,7 @@ watched_joined p w v j old new watched begins same joins guesses lists = record 
 }
   where
     by_place : (k : ℕ) → k < length new → link v.next.items k ≡ 0 → (k ≡ j) ⊎ (k ≡ j → ⊥)
-        → (link w.next.items k ≡ 0) ⊎ (link w.next.items k ≡ 0 → ⊥) → IsIdle (slot new k)
+        → (link w.next.items k ≡ 0) ⊎ (link w.next.items k ≡ 0 → ⊥) → IsIdle (lane new k)
     by_place k within off (inl is) was =
         let joined : 0 < link v.next.items k = subst (λ (n : ℕ). 0 < link v.next.items n) (sym is) joins.joined in absurd (omega arith)
     by_place k within off (inr apart) (inl was) =
@@ -77,7 +77,7 @@ watched_joined p w v j old new watched begins same joins guesses lists = record 
     by_place k within off (inr apart) (inr on) = let stays = joins.kept k (omega arith) in absurd (omega arith)
 
 -- it has not started
-pub watched_same : (p : PlanParts) (w v : Watch) (ss : List Slot) → Watched p w ss → v.next ≡ w.next
+pub watched_same : (p : PlanParts) (w v : Watch) (ss : List Lane) → Watched p w ss → v.next ≡ w.next
     → length v.guesses.items ≡ length w.guesses.items → v.followers ≡ w.followers → Watched p v ss
 watched_same p w v ss watched next guesses lists = record {
   chain = rw next watched.chain;
@@ -90,8 +90,8 @@ watched_same p w v ss watched next guesses lists = record {
 }
 
 -- one was taken out of the list of a process that has ended
-pub watched_taken : (p : PlanParts) (w v : Watch) (q : ℕ) (taken : Option ℕ) (ss : List Slot) → Watched p w ss
-    → v.next ≡ w.next → v.guesses ≡ w.guesses → Takes q w.followers.items taken v.followers.items → (slot ss q).ended ≡ true
+pub watched_taken : (p : PlanParts) (w v : Watch) (q : ℕ) (taken : Option ℕ) (ss : List Lane) → Watched p w ss
+    → v.next ≡ w.next → v.guesses ≡ w.guesses → Takes q w.followers.items taken v.followers.items → (lane ss q).ended ≡ true
     → Watched p v ss
 watched_taken p w v q taken ss watched next guesses takes ended = record {
   chain = rw next watched.chain;
@@ -103,10 +103,10 @@ watched_taken p w v q taken ss watched next guesses takes ended = record {
   known = λ j i within inside live. by_place j i within inside live (cases_eq (predecessor p j i) q);
 }
   where
-    by_place : (j i : ℕ) → j < length p.programs → i < length (predecessors p j) → (slot ss (predecessor p j i)).ended ≡ false
+    by_place : (j i : ℕ) → j < length p.programs → i < length (predecessors p j) → (lane ss (predecessor p j i)).ended ≡ false
         → (predecessor p j i ≡ q) ⊎ (predecessor p j i ≡ q → ⊥) → Contains (list_of v.followers.items (predecessor p j i)) j
     by_place j i within inside live (inl same) =
-        let never : false ≡ true = sym live ∙ ap (λ (k : ℕ). (slot ss k).ended) same ∙ ended in cc
+        let never : false ≡ true = sym live ∙ ap (λ (k : ℕ). (lane ss k).ended) same ∙ ended in cc
     by_place j i within inside live (inr apart) =
         subst (λ (xs : List ℕ). Contains xs j) (sym (takes.others (predecessor p j i) apart)) (watched.known j i within inside live)
 
@@ -116,7 +116,7 @@ drop_none : (k : ℕ) → drop {A = TimedMessage} k [] ≡ []
 drop_none zero = refl
 drop_none (suc k) = refl
 
-pub watched_release : (p : PlanParts) (w : Watch) (key : Option (ℕ × ℕ)) (ss : List Slot) → Watched p w ss
+pub watched_release : (p : PlanParts) (w : Watch) (key : Option (ℕ × ℕ)) (ss : List Lane) → Watched p w ss
     → Watched p w (map (without_due key) ss)
 watched_release p w key ss watched = record {
   chain = watched.chain;
@@ -124,28 +124,28 @@ watched_release p w key ss watched = record {
   guesses = watched.guesses;
   lists = watched.lists;
   later = watched.later;
-  idle = λ j within off. subst IsIdle (sym (slot-map key ss j))
+  idle = λ j within off. subst IsIdle (sym (lane-map key ss j))
       (let was = watched.idle j (simp length-map at within) off in record {
         events = subst (λ (es : List TimedMessage). drop (count_through key es) es ≡ []) (sym was.events) (drop_none (count_through
             key []));
         rests = was.rests;
       });
   known = λ j i within inside live. watched.known j i within inside
-      (sym (ap (λ (s : Slot). s.ended) (slot-map key ss (predecessor p j i))) ∙ live);
+      (sym (ap (λ (s : Lane). s.ended) (lane-map key ss (predecessor p j i))) ∙ live);
 }
 
 -- ---- a quantum of each
 
-module _ (p : PlanParts) (fits : PartsFit p) (w : Watch) (limit : ℕ) (old new : List Slot) (watched : Watched p w old)
+module _ (p : PlanParts) (fits : PartsFit p) (w : Watch) (limit : ℕ) (old new : List Lane) (watched : Watched p w old)
     (count : length old ≡ length p.programs) (runs : RunsAll p limit old new) (same : length new ≡ length old) where
   -- the predecessors are there
   inside_old : (j i : ℕ) → j < length p.programs → i < length (predecessors p j) → predecessor p j i < length old
   inside_old j i within inside = let below = predecessor_below p (plan_valid p fits) j i inside in omega (arith, count)
 
   -- who had ended has ended still
-  live_before : (q : ℕ) → q < length old → (slot new q).ended ≡ false → (b : Bool) → (slot old q).ended ≡ b → (slot old q).ended ≡ false
+  live_before : (q : ℕ) → q < length old → (lane new q).ended ≡ false → (b : Bool) → (lane old q).ended ≡ b → (lane old q).ended ≡ false
   live_before q there live true was =
-      let kept = ap (λ (s : Slot). s.ended) (runs.idle q there (ended_rests (slot old q) was)) in
+      let kept = ap (λ (s : Lane). s.ended) (runs.idle q there (ended_rests (lane old q) was)) in
       let never : false ≡ true = sym live ∙ kept ∙ was in cc
   live_before q there live false was = was
 
@@ -161,23 +161,23 @@ module _ (p : PlanParts) (fits : PartsFit p) (w : Watch) (limit : ℕ) (old new 
         subst IsIdle (sym (runs.idle j (omega (arith, same)) was.rests)) was;
     known = λ j i within inside live.
         watched.known j i within inside
-        (live_before (predecessor p j i) (inside_old j i within inside) live (slot old (predecessor p j i)).ended refl);
+        (live_before (predecessor p j i) (inside_old j i within inside) live (lane old (predecessor p j i)).ended refl);
   }
 
   -- who waited for a process that ended is in its list
   pub await_run : AllStarted p old (length old) → AllAwait p w 0 new
   await_run started j within unborn =
       let waits = started j (omega (arith, same)) (runs.begun j (omega (arith, same)) unborn) in
-      by_end waits (slot new (predecessor p j waits.at)).ended refl (cases_eq (link w.next.items (predecessor p j waits.at)) 0)
+      by_end waits (lane new (predecessor p j waits.at)).ended refl (cases_eq (link w.next.items (predecessor p j waits.at)) 0)
     where
-      by_end : (waits : IsWaiting p old j) (b : Bool) → (slot new (predecessor p j waits.at)).ended ≡ b
+      by_end : (waits : IsWaiting p old j) (b : Bool) → (lane new (predecessor p j waits.at)).ended ≡ b
           → (link w.next.items (predecessor p j waits.at) ≡ 0) ⊎ (link w.next.items (predecessor p j waits.at) ≡ 0 → ⊥)
           → (IsWaiting p new j) ⊎ (Awaits p w 0 j)
       by_end waits false now chained = inl (record { at = waits.at; there = waits.there; live = now })
       by_end waits true now (inl off) =
           let there = inside_old j waits.at (omega (arith, same, count)) waits.there in
           let idle = watched.idle (predecessor p j waits.at) there off in
-          let kept = ap (λ (s : Slot). s.ended) (runs.idle (predecessor p j waits.at) there idle.rests) in
+          let kept = ap (λ (s : Lane). s.ended) (runs.idle (predecessor p j waits.at) there idle.rests) in
           let never : true ≡ false = sym now ∙ kept ∙ waits.live in cc
       by_end waits true now (inr on) = inr (record {
         index = waits.at;
@@ -189,23 +189,23 @@ module _ (p : PlanParts) (fits : PartsFit p) (w : Watch) (limit : ℕ) (old new 
 
 -- ---- a round
 
-started_release : (p : PlanParts) (key : Option (ℕ × ℕ)) (ss : List Slot) → AllStarted p ss (length ss)
+started_release : (p : PlanParts) (key : Option (ℕ × ℕ)) (ss : List Lane) → AllStarted p ss (length ss)
     → AllStarted p (map (without_due key) ss) (length (map (without_due key) ss))
 started_release p key ss started j within unborn =
-    let waits = started j (simp length-map at within) (sym (ap (λ (s : Slot). s.strand) (slot-map key ss j)) ∙ unborn) in record {
+    let waits = started j (simp length-map at within) (sym (ap (λ (s : Lane). s.strand) (lane-map key ss j)) ∙ unborn) in record {
       at = waits.at;
       there = waits.there;
-      live = ap (λ (s : Slot). s.ended) (slot-map key ss (predecessor p j waits.at)) ∙ waits.live;
+      live = ap (λ (s : Lane). s.ended) (lane-map key ss (predecessor p j waits.at)) ∙ waits.live;
     }
 
-module _ (p : PlanParts) (fits : PartsFit p) (w : Watch) (key : Option (ℕ × ℕ)) (limit : ℕ) (ss released ran : List Slot)
+module _ (p : PlanParts) (fits : PartsFit p) (w : Watch) (key : Option (ℕ × ℕ)) (limit : ℕ) (ss released ran : List Lane)
     (watched : Watched p w ss) (count : length ss ≡ length p.programs) (took : released ≡ map (without_due key) ss)
     (runs : RunsAll p limit released ran) (same : length ran ≡ length released) where
   taken : length (map (without_due key) ss) ≡ length p.programs
   taken = length-map ss (without_due key) ∙ count
 
   runs_taken : RunsAll p limit (map (without_due key) ss) ran
-  runs_taken = subst (λ (xs : List Slot). RunsAll p limit xs ran) took runs
+  runs_taken = subst (λ (xs : List Lane). RunsAll p limit xs ran) took runs
 
   same_taken : length ran ≡ length (map (without_due key) ss)
   same_taken = same ∙ ap length took

@@ -1,7 +1,8 @@
 -- The processes that may have something to do, one behind the other in a chain of their numbers.
 use Rattle.std.specs.Prelude.{◌≡◌, ℕ, ◌+◌, ◌<◌, ◌≤◌, List, [], length, slice_index_or, false}
-use Rattle.fm_round.specs.Slots.{is_running, slot}
-use Rattle.fm_round.specs.declared.slot.Slot.{Slot}
+use Rattle.fm_round.specs.declared.limits.TheConstants.{MAX_PROCESSES}
+use Rattle.fm_round.specs.Lanes.{is_running, lane}
+use Rattle.fm_round.specs.declared.lane.Lane.{Lane}
 
 -- ---- numbers
 
@@ -36,17 +37,31 @@ pub record Cuts (ns : List ℕ) (head end mid : ℕ) : Type 0 where
   pub from : mid < end → head ≤ mid
   pub there : mid < end → 0 < link ns mid
 
--- ---- slots
+-- ---- lanes
 
 -- a process that does not run, and of which no event waits
-pub record IsIdle (s : Slot) : Type 0 where
+pub record IsIdle (s : Lane) : Type 0 where
   pub events : s.outbox.events ≡ []
   pub rests : is_running s ≡ false
 
 -- each process that is not in the chain is idle
-abbrev pub OthersIdle : List ℕ → List Slot → Type 0
-OthersIdle ns ss = (j : ℕ) → j < length ss → link ns j ≡ 0 → IsIdle (slot ss j)
+abbrev pub OthersIdle : List ℕ → List Lane → Type 0
+OthersIdle ns ss = (j : ℕ) → j < length ss → link ns j ≡ 0 → IsIdle (lane ss j)
+
+-- a chain of the processes, and each that is not in it is idle
+pub record AreChained (ns : List ℕ) (ss : List Lane) : Type 0 where
+  pub chain : IsChain ns
+  pub size : length ns ≡ length ss
+  pub idle : OthersIdle ns ss
 
 -- the same of the processes from `first` on
-abbrev pub OthersIdleFrom : List ℕ → ℕ → List Slot → Type 0
-OthersIdleFrom ns first ss = (k : ℕ) → k < length ss → link ns (first + k) ≡ 0 → IsIdle (slot ss k)
+abbrev pub OthersIdleFrom : List ℕ → ℕ → List Lane → Type 0
+OthersIdleFrom ns first ss = (k : ℕ) → k < length ss → link ns (first + k) ≡ 0 → IsIdle (lane ss k)
+
+-- a part of a chain: that of the processes from `first` on, which it enters at `head`
+pub record IsPart (ns : List ℕ) (first head : ℕ) (ss : List Lane) : Type 0 where
+  pub few : first + length ss ≤ MAX_PROCESSES
+  pub chain : IsChain ns
+  pub size : first + length ss ≤ length ns
+  pub enters : Enters ns first (first + length ss) head
+  pub idle : OthersIdleFrom ns first ss

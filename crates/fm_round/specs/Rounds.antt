@@ -6,27 +6,44 @@ use Rattle.fm_program.specs.Parts.{PlanParts}
 use Rattle.fm_program.specs.Fit.{PartsFit}
 use Rattle.fm_program.specs.Process.{plan_lines}
 use Rattle.fm_smf.specs.Writing.{Written, Writes}
-use Rattle.fm_round.specs.Lefts.{Playing}
-use Rattle.fm_round.specs.Slots.{AllSlots, AllStarted, IsFresh, lefts, room_of, room_sum, slot}
-use Rattle.fm_round.specs.declared.slot.Slot.{Slot}
+use Rattle.fm_line.specs.Piece.{sorted}
+use Rattle.fm_play.specs.Ends.{CanFollow}
+use Rattle.fm_round.specs.Lefts.{OwnFrom, Playing, joined}
+use Rattle.fm_round.specs.Lanes.{AllLanes, AllStarted, IsFresh, due, lefts, room_of, room_sum, lane}
+use Rattle.fm_round.specs.Watching.{Watched}
+use Rattle.fm_round.specs.declared.lane.Lane.{Lane}
+use Rattle.fm_round.specs.declared.stage.Stage.{Stage}
 
 -- so many processes that have not started
-pub record AreFresh (processes room : ℕ) (ss : List Slot) : Type 0 where
+pub record AreFresh (processes room : ℕ) (ss : List Lane) : Type 0 where
   pub count : length ss ≡ processes
-  pub fresh : (k : ℕ) → k < length ss → IsFresh room (slot ss k)
+  pub fresh : (k : ℕ) → k < length ss → IsFresh room (lane ss k)
 
 -- no process has started, and there is memory for all that the outboxes can hold
-pub record Opened (p : PlanParts) (ss : List Slot) (gather : EventGather) (room : ℕ) : Type 0 where
+pub record Opened (p : PlanParts) (ss : List Lane) (gather : EventGather) (room : ℕ) : Type 0 where
   pub fits : PartsFit p
   pub some : 1 ≤ room
   pub count : length ss ≡ length p.programs
-  pub fresh : (k : ℕ) → k < length ss → IsFresh room (slot ss k)
+  pub fresh : (k : ℕ) → k < length ss → IsFresh room (lane ss k)
   pub empty : gather.events ≡ []
   pub space : room_sum (map room_of ss) ≤ gather.capacity
 
+-- the same with what is watched of the processes
+pub record AreOpened (p : PlanParts) (stage : Stage) (ss : List Lane) : Type 0 where
+  pub room : ℕ
+  pub opened : Opened p ss stage.gather room
+  pub watched : Watched p stage.watch ss
+
+-- what is due of each process rises and can be written next, and there is space for it
+pub record MayRelease (key : Option (ℕ × ℕ)) (ss : List Lane) (gather : EventGather) (writer : Written) : Type 0 where
+  pub empty : gather.events ≡ []
+  pub space : room_sum (map room_of ss) ≤ gather.capacity
+  pub own : OwnFrom 0 (map (due key) ss)
+  pub follow : CanFollow writer (sorted (joined (map (due key) ss)))
+
 module _ {K : Type 0} (content : K → Option (List ℕ)) (sure : K → Option ℕ) (faults : K → ℕ) where
   -- between two rounds: so many events of the piece are written since the sink was as in `begin`, and the rest is left
-  pub record Between (p : PlanParts) (begin now : K) (first writer : Written) (ss : List Slot) (gather : EventGather)
+  pub record Between (p : PlanParts) (begin now : K) (first writer : Written) (ss : List Lane) (gather : EventGather)
       (events : ℕ) : Type 0 where
     pub done : List TimedMessage
     pub many : events ≡ length done
@@ -34,7 +51,7 @@ module _ {K : Type 0} (content : K → Option (List ℕ)) (sure : K → Option �
     pub writes : Writes content sure faults begin now done first writer
     pub at_end : IfSome (content now) (λ c. length c ≡ writer.put)
     pub count : length ss ≡ length p.programs
-    pub slots : AllSlots p ss
+    pub lanes : AllLanes p ss
     pub started : AllStarted p ss (length ss)
     pub rooms : All (λ r. 0 < r) (map room_of ss)
     pub empty : gather.events ≡ []

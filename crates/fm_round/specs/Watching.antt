@@ -3,8 +3,8 @@ use Rattle.std.specs.Prelude.{◌≡◌, ℕ, zero, suc, ◌<◌, ◌≤◌, ◌
 use Rattle.std.specs.Global.{Global}
 use Rattle.fm_program.specs.Parts.{PlanParts}
 use Rattle.fm_round.specs.Chain.{IsChain, OthersIdle, link}
-use Rattle.fm_round.specs.Slots.{IsWaiting, predecessors, slot}
-use Rattle.fm_round.specs.declared.slot.Slot.{Slot}
+use Rattle.fm_round.specs.Lanes.{AreProcesses, IsWaiting, predecessors, lane}
+use Rattle.fm_round.specs.declared.lane.Lane.{Lane}
 use Rattle.fm_round.specs.declared.watch.Watch.{Watch}
 
 -- ---- lists
@@ -48,17 +48,17 @@ abbrev pub AllListed : PlanParts → ℕ → List (Vec ℕ Global) → Type 0
 AllListed p n vs = (j i : ℕ) → j < n → i < length (predecessors p j) → Contains (list_of vs (predecessor p j i)) j
 
 -- each process is in the lists of those predecessors that have not ended
-abbrev pub AllKnown : PlanParts → List (Vec ℕ Global) → List Slot → Type 0
+abbrev pub AllKnown : PlanParts → List (Vec ℕ Global) → List Lane → Type 0
 AllKnown p vs ss = (j i : ℕ) → j < length p.programs → i < length (predecessors p j)
-    → (slot ss (predecessor p j i)).ended ≡ false → Contains (list_of vs (predecessor p j i)) j
+    → (lane ss (predecessor p j i)).ended ≡ false → Contains (list_of vs (predecessor p j i)) j
 
--- the slots of these processes are there
-abbrev pub AreThere : List ℕ → List Slot → Type 0
+-- the lanes of these processes are there
+abbrev pub AreThere : List ℕ → List Lane → Type 0
 AreThere qs ss = (i : ℕ) → i < length qs → slice_index_or qs i 0 < length ss
 
 -- whether the i-th of these processes has ended
-abbrev pub ended_at : List ℕ → List Slot → ℕ → Bool
-ended_at qs ss i = (slot ss (slice_index_or qs i 0)).ended
+abbrev pub ended_at : List ℕ → List Lane → ℕ → Bool
+ended_at qs ss i = (lane ss (slice_index_or qs i 0)).ended
 
 -- ---- a watch
 
@@ -72,7 +72,7 @@ pub record IsOpenWatch (p : PlanParts) (w : Watch) : Type 0 where
   pub listed : AllListed p (length p.programs) w.followers.items
 
 -- who is not in the chain is idle, and whoever waits is in the list of each one that it waits for
-pub record Watched (p : PlanParts) (w : Watch) (ss : List Slot) : Type 0 where
+pub record Watched (p : PlanParts) (w : Watch) (ss : List Lane) : Type 0 where
   pub chain : IsChain w.next.items
   pub size : length w.next.items ≡ length p.programs
   pub guesses : length w.guesses.items ≡ length p.programs
@@ -80,6 +80,11 @@ pub record Watched (p : PlanParts) (w : Watch) (ss : List Slot) : Type 0 where
   pub later : AllLater p w.followers.items
   pub idle : OthersIdle w.next.items ss
   pub known : AllKnown p w.followers.items ss
+
+-- the processes of a plan, and what is watched of them
+pub record AreWatched (p : PlanParts) (w : Watch) (ss : List Lane) : Type 0 where
+  pub processes : AreProcesses p ss
+  pub watch : Watched p w ss
 
 -- a predecessor of the process j, from `at` on, is in the chain, and has j in its list
 pub record Awaits (p : PlanParts) (w : Watch) (at j : ℕ) : Type 0 where
@@ -90,5 +95,5 @@ pub record Awaits (p : PlanParts) (w : Watch) (at j : ℕ) : Type 0 where
   pub listed : Contains (list_of w.followers.items (predecessor p j index)) j
 
 -- who has not started waits for one that has not ended, or is in the list of one in the chain from `at` on
-abbrev pub AllAwait : PlanParts → Watch → ℕ → List Slot → Type 0
-AllAwait p w at ss = (j : ℕ) → j < length ss → (slot ss j).strand ≡ None → (IsWaiting p ss j) ⊎ (Awaits p w at j)
+abbrev pub AllAwait : PlanParts → Watch → ℕ → List Lane → Type 0
+AllAwait p w at ss = (j : ℕ) → j < length ss → (lane ss j).strand ≡ None → (IsWaiting p ss j) ⊎ (Awaits p w at j)

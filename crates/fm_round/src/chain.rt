@@ -1,8 +1,8 @@
 //! The numbers of the processes that may have something to do, one behind the other.
 ghost use Rattle.std.specs.Prelude.{◌≡◌, ◌<◌, ◌≤◌, length, IfOk};
-ghost use Rattle.fm_round.specs.Chain.{IsChain, Joins, OthersIdle, link};
+ghost use Rattle.fm_round.specs.Chain.{AreChained, IsChain, Joins, link};
 
-use crate::slot::{Slot, is_idle};
+use crate::lane::{Lane, is_idle};
 use std::alloc::{AllocError, Global};
 
 /// The chain of the first one of so many processes.
@@ -33,18 +33,14 @@ pub fn join(from: u32, process: u32, next: &mut Vec<u32>)
 }
 
 /// Takes those out of the chain that have nothing to do any more, but for the first one.
-pub fn leave(next: &mut Vec<u32>, slots: &[Slot])
-    requires chain { IsChain next.old.items }
-    requires size { length next.old.items ≡ length slots.now }
-    requires idle { OthersIdle next.old.items slots.now }
-    ensures chain { IsChain next.new.items }
-    ensures size { length next.new.items ≡ length slots.now }
-    ensures idle { OthersIdle next.new.items slots.now }
+pub fn leave(next: &mut Vec<u32>, lanes: &[Lane])
+    requires { AreChained next.old.items lanes.now }
+    ensures { AreChained next.new.items lanes.now }
 {
     let mut at = 0;
-    while (next[at] as usize) < slots.len() {
+    while (next[at] as usize) < lanes.len() {
         let after = next[at] as usize;
-        if is_idle(&slots[after]) {
+        if is_idle(&lanes[after]) {
             next[at] = next[after];
             next[after] = 0;
         } else {

@@ -1,25 +1,23 @@
 //! The process from which the next events come.
 ghost use Rattle.std.specs.Prelude.{◌≡◌, ◌^◌, ◌<◌, length};
-ghost use Rattle.fm_round.specs.Chain.{IsChain, OthersIdle};
-ghost use Rattle.fm_round.specs.Slots.{AllSlots, LeastOf, lesser_of};
+ghost use Rattle.fm_round.specs.Chain.{AreChained};
+ghost use Rattle.fm_round.specs.Lanes.{AllLanes, LeastOf, lesser_of};
 
-use crate::slot::{Slot, clock};
+use crate::lane::{Lane, clock};
 use fm_strand::Plan;
 
 /// The least pair of clock and process of those that have started and not ended: no event that is
 /// still to be computed lies before it. Those in the chain are gone through.
-pub fn least(plan: &Plan, next: &[u32], slots: &[Slot]) -> Option<(u64, u32)>
-    requires few { length slots.now < 2 ^ 32 }
-    requires slots { AllSlots plan.now slots.now }
-    requires chain { IsChain next.now }
-    requires size { length next.now ≡ length slots.now }
-    requires idle { OthersIdle next.now slots.now }
-    ensures { LeastOf plan.now slots.now (length slots.now) result }
+pub fn least(plan: &Plan, next: &[u32], lanes: &[Lane]) -> Option<(u64, u32)>
+    requires few { length lanes.now < 2 ^ 32 }
+    requires lanes { AllLanes plan.now lanes.now }
+    requires chained { AreChained next.now lanes.now }
+    ensures { LeastOf plan.now lanes.now (length lanes.now) result }
 {
     let mut best = None;
     let mut at = 0;
-    while (at as usize) < slots.len() {
-        best = lesser(best, clock(plan, at, &slots[at as usize]), at);
+    while (at as usize) < lanes.len() {
+        best = lesser(best, clock(plan, at, &lanes[at as usize]), at);
         at = next[at as usize];
     }
     best

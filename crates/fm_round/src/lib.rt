@@ -9,13 +9,14 @@
 
 mod begin;
 mod chain;
+mod course;
+mod lane;
 mod least;
 mod limits;
-mod perform;
 mod release;
 mod rounds;
 mod run;
-mod slot;
+mod stage;
 mod watch;
 
 pub use fm_play::Played;

@@ -5,12 +5,12 @@ ghost use Rattle.fm_line.specs.Piece.{sorted};
 ghost use Rattle.fm_line.proofs.Sorting.{Ordered};
 ghost use Rattle.fm_smf.specs.Track.{events_bytes};
 ghost use Rattle.fm_smf.specs.Writing.{Writes};
-ghost use Rattle.fm_play.specs.Ends.{CanFollow};
-ghost use Rattle.fm_round.specs.Chain.{IsChain, OthersIdle};
-ghost use Rattle.fm_round.specs.Lefts.{OwnFrom, joined};
-ghost use Rattle.fm_round.specs.Slots.{due, room_of, room_sum, without_due};
+ghost use Rattle.fm_round.specs.Chain.{AreChained};
+ghost use Rattle.fm_round.specs.Lefts.{joined};
+ghost use Rattle.fm_round.specs.Rounds.{MayRelease};
+ghost use Rattle.fm_round.specs.Lanes.{due, room_of, room_sum, without_due};
 
-use crate::slot::Slot;
+use crate::lane::Lane;
 use fm_buffer::Gather;
 use fm_edge::Sink;
 use fm_play::write_all;
@@ -22,28 +22,23 @@ use fm_smf::{SinkFault, Writer};
 pub fn release<K: Sink>(
     key: Option<(u64, u32)>,
     next: &[u32],
-    slots: &mut [Slot],
+    lanes: &mut [Lane],
     gather: &mut Gather,
     writer: &mut Writer,
     sink: &mut K,
 ) -> Result<u64, SinkFault>
-    requires empty { gather.old.events ≡ [] }
-    requires space { room_sum (map room_of slots.old) ≤ gather.old.capacity }
-    requires chain { IsChain next.now }
-    requires size { length next.now ≡ length slots.old }
-    requires idle { OthersIdle next.now slots.old }
-    requires own { OwnFrom 0 (map (due key) slots.old) }
-    requires follow { CanFollow writer.old (sorted (joined (map (due key) slots.old))) }
+    requires chained { AreChained next.now lanes.old }
+    requires may { MayRelease key lanes.old gather.old writer.old }
     requires at_end { IfSome (K.content sink.old) (λ c. length c ≡ writer.old.put) }
-    ensures slots { slots.new ≡ map (without_due key) slots.old }
+    ensures lanes { lanes.new ≡ map (without_due key) lanes.old }
     ensures gather { OnOk result (gather.new ≡ gather.old) }
-    ensures count { IfOk result (λ n. n ≡ length (joined (map (due key) slots.old))) }
+    ensures count { IfOk result (λ n. n ≡ length (joined (map (due key) lanes.old))) }
     ensures ok { OnOk result (Writes K.content K.sure K.faults
-        sink.old sink.new (sorted (joined (map (due key) slots.old))) writer.old writer.new) }
+        sink.old sink.new (sorted (joined (map (due key) lanes.old))) writer.old writer.new) }
     ensures err { OnErr result (Breaks K.content K.sure K.faults sink.old sink.new
-        (events_bytes writer.old.state (sorted (joined (map (due key) slots.old))))) }
+        (events_bytes writer.old.state (sorted (joined (map (due key) lanes.old))))) }
 {
-    gather_due(key, next, slots, gather);
+    gather_due(key, next, lanes, gather);
     settle(gather);
     write_all(gather.events(), writer, sink)?;
     let count = gather.events().len() as u64;
@@ -52,33 +47,31 @@ pub fn release<K: Sink>(
 }
 
 // Takes what is due out of all outboxes.
-fn gather_due(key: Option<(u64, u32)>, next: &[u32], slots: &mut [Slot], gather: &mut Gather)
+fn gather_due(key: Option<(u64, u32)>, next: &[u32], lanes: &mut [Lane], gather: &mut Gather)
     requires empty { gather.old.events ≡ [] }
-    requires space { room_sum (map room_of slots.old) ≤ gather.old.capacity }
-    requires chain { IsChain next.now }
-    requires size { length next.now ≡ length slots.old }
-    requires idle { OthersIdle next.now slots.old }
-    ensures slots { slots.new ≡ map (without_due key) slots.old }
+    requires space { room_sum (map room_of lanes.old) ≤ gather.old.capacity }
+    requires chained { AreChained next.now lanes.old }
+    ensures lanes { lanes.new ≡ map (without_due key) lanes.old }
     ensures gather { gather.new
-        ≡ record gather.old { events = joined (map (due key) slots.old) } }
+        ≡ record gather.old { events = joined (map (due key) lanes.old) } }
 {
     let mut at = 0;
-    while at < slots.len() {
-        take_due(key, &mut slots[at], gather);
+    while at < lanes.len() {
+        take_due(key, &mut lanes[at], gather);
         at = next[at] as usize;
     }
 }
 
 // Takes what is due out of one outbox.
-fn take_due(key: Option<(u64, u32)>, slot: &mut Slot, gather: &mut Gather)
-    requires { length gather.old.events + slot.old.outbox.room ≤ gather.old.capacity }
-    ensures slot { slot.new ≡ without_due key slot.old }
+fn take_due(key: Option<(u64, u32)>, lane: &mut Lane, gather: &mut Gather)
+    requires { length gather.old.events + lane.old.outbox.room ≤ gather.old.capacity }
+    ensures lane { lane.new ≡ without_due key lane.old }
     ensures gather { gather.new
-        ≡ record gather.old { events = gather.old.events ++ due key slot.old } }
-    ensures few { length (due key slot.old) ≤ slot.old.outbox.room }
+        ≡ record gather.old { events = gather.old.events ++ due key lane.old } }
+    ensures few { length (due key lane.old) ≤ lane.old.outbox.room }
 {
-    if slot.outbox.len() > 0 {
-        slot.outbox.take_through(key, gather);
+    if lane.outbox.len() > 0 {
+        lane.outbox.take_through(key, gather);
     }
 }
 

@@ -10,13 +10,14 @@ ghost use Rattle.fm_play.specs.Ends.{piece_end};
 ghost use Rattle.fm_play.specs.Performance.{played_of};
 ghost use Rattle.fm_round.specs.Hands.{AreHands, MayRun};
 ghost use Rattle.fm_round.specs.Rounds.{AreFresh};
-ghost use Rattle.fm_round.specs.Slots.{AllAtEnd, IsAtEnd, IsFresh, RunsAll};
+ghost use Rattle.fm_round.specs.Lanes.{AllAtEnd, IsAtEnd, IsFresh, RunsAll};
 
+use crate::course::play_rounds;
+use crate::lane::Lane;
 use crate::limits::MAX_WORKERS;
-use crate::perform::perform;
-use crate::run::{run_alone, run_shared};
-use crate::slot::Slot;
-use crate::watch::{Watch, open_watch};
+use crate::run::{Round, run_alone, run_shared};
+use crate::stage::Stage;
+use crate::watch::open_watch;
 use fm_buffer::{Gather, MAX_ROOM, Outbox};
 use fm_edge::{Gate, Sink};
 use fm_play::{Played, begin_file, finish_file};
@@ -30,24 +31,19 @@ use std::thread::Threads;
 #[derive(Drop)]
 pub struct Rounds {
     plan: Plan,
-    watch: Watch,
-    slots: Vec<Slot>,
-    gather: Gather,
-    room: u32,
-    lead: u64,
+    stage: Stage,
+    lanes: Vec<Lane>,
 }
 
 impl Model for Rounds {
     ghost use Rattle.fm_program.specs.Parts.{PlanParts};
-    ghost use Rattle.fm_round.specs.Rounds.{Opened};
-    ghost use Rattle.fm_round.specs.Watching.{Watched};
+    ghost use Rattle.fm_round.specs.Rounds.{AreOpened};
 
     ghost Value = { PlanParts };
 
     ghost view = { λ r. r.plan };
 
-    ghost invariant = { λ r. Opened r.plan r.slots.items r.gather r.room
-        × Watched r.plan r.watch r.slots.items };
+    ghost invariant = { λ r. AreOpened r.plan r.stage r.lanes.items };
 }
 
 impl Rounds {
@@ -60,16 +56,14 @@ impl Rounds {
     {
         let processes = plan.processes();
         let watch = open_watch(alloc, &plan)?;
-        let slots = fresh_slots(alloc, processes, room)?;
+        let lanes = fresh_lanes(alloc, processes, room)?;
         let gather = Gather::new(alloc, processes as usize * room as usize)?;
-        Ok(Rounds {
-            plan,
+        let stage = Stage {
             watch,
-            slots,
             gather,
-            room,
             lead,
-        })
+        };
+        Ok(Rounds { plan, stage, lanes })
     }
 
     /// Plays the plan into a new sink, in the plan's profile and in rounds of at most so many
@@ -91,10 +85,10 @@ impl Rounds {
         ensures played { IfOk result (λ played. played ≡ played_of self) }
     {
         let many = workers.max(1);
-        let hands = |plan: &Plan, limit: u64, next: &[u32], slots: &mut [Slot]|
-            requires { (0 < many) × (many ≤ MAX_WORKERS) × MayRun plan.now next.now slots.now }
-            ensures { RunsAll plan.now limit slots.entry.now slots.exit.now }
-        { run_shared(rt, gate, many, plan, limit, next, slots) };
+        let hands = |plan: &Plan, limit: u64, next: &[u32], lanes: &mut [Lane]|
+            requires { (0 < many) × (many ≤ MAX_WORKERS) × MayRun plan.now next.now lanes.now }
+            ensures { RunsAll plan.now limit lanes.entry.now lanes.exit.now }
+        { run_shared(rt, gate, many, &Round { plan, limit, next }, lanes) };
         self.play_by(&hands, sink)
     }
 
@@ -108,15 +102,15 @@ impl Rounds {
             self.profile (piece (plan_lines self)) (piece_end (plan_lines self))) }
         ensures played { IfOk result (λ played. played ≡ played_of self) }
     {
-        let hands = |plan: &Plan, limit: u64, next: &[u32], slots: &mut [Slot]|
-            requires { MayRun plan.now next.now slots.now }
-            ensures { RunsAll plan.now limit slots.entry.now slots.exit.now }
-        { run_alone(plan, limit, next, slots) };
+        let hands = |plan: &Plan, limit: u64, next: &[u32], lanes: &mut [Lane]|
+            requires { MayRun plan.now next.now lanes.now }
+            ensures { RunsAll plan.now limit lanes.entry.now lanes.exit.now }
+        { run_alone(&Round { plan, limit, next }, lanes) };
         self.play_by(&hands, sink)
     }
 
     // Plays the plan into a new sink, whoever runs the rounds.
-    fn play_by<H: Fn(&Plan, u64, &[u32], &mut [Slot]), K: Sink>(
+    fn play_by<H: Fn(&Plan, u64, &[u32], &mut [Lane]), K: Sink>(
         self,
         hands: &H,
         sink: &mut K,
@@ -131,25 +125,12 @@ impl Rounds {
     {
         let Rounds {
             plan,
-            mut watch,
-            mut slots,
-            mut gather,
-            room,
-            lead,
+            mut stage,
+            mut lanes,
         } = self;
-        let lent = slots.as_mut_slice();
+        let lent = lanes.as_mut_slice();
         let mut writer = begin_file(&plan, sink)?;
-        let events = perform(
-            hands,
-            &plan,
-            &mut watch,
-            lent,
-            &mut gather,
-            room,
-            lead,
-            &mut writer,
-            sink,
-        )?;
+        let events = play_rounds(hands, &plan, &mut stage, lent, &mut writer, sink)?;
         let last = end_of_piece(&plan, lent);
         let bytes = finish_file(&plan, last, writer, sink)?;
         Ok(Played {
@@ -161,23 +142,23 @@ impl Rounds {
 }
 
 // So many processes that have not started.
-fn fresh_slots(alloc: Global, processes: u32, room: u32) -> Result<Vec<Slot>, AllocError>
+fn fresh_lanes(alloc: Global, processes: u32, room: u32) -> Result<Vec<Lane>, AllocError>
     requires { (1 ≤ room) × (room ≤ MAX_ROOM) }
-    ensures { IfOk result (λ slots. AreFresh processes room slots.items) }
+    ensures { IfOk result (λ lanes. AreFresh processes room lanes.items) }
 {
-    let mut slots = Vec::with_capacity(alloc, processes as usize)?;
+    let mut lanes = Vec::with_capacity(alloc, processes as usize)?;
     for _process in 0..processes {
-        slots.push_reserved(fresh_slot(alloc, room)?);
+        lanes.push_reserved(fresh_lane(alloc, room)?);
     }
-    Ok(slots)
+    Ok(lanes)
 }
 
-fn fresh_slot(alloc: Global, room: u32) -> Result<Slot, AllocError>
+fn fresh_lane(alloc: Global, room: u32) -> Result<Lane, AllocError>
     requires { (1 ≤ room) × (room ≤ MAX_ROOM) }
-    ensures { IfOk result (λ slot. IsFresh room slot) }
+    ensures { IfOk result (λ lane. IsFresh room lane) }
 {
     let outbox = Outbox::new(alloc, room)?;
-    Ok(Slot {
+    Ok(Lane {
         strand: None,
         ended: false,
         outbox,
@@ -185,22 +166,22 @@ fn fresh_slot(alloc: Global, room: u32) -> Result<Slot, AllocError>
 }
 
 // The tick at which the last process ended.
-fn end_of_piece(plan: &Plan, slots: &[Slot]) -> u64
+fn end_of_piece(plan: &Plan, lanes: &[Lane]) -> u64
     requires fits { PartsFit plan.now }
-    requires count { length slots.now ≡ length plan.now.programs }
-    requires ended { AllAtEnd plan.now slots.now }
+    requires count { length lanes.now ≡ length plan.now.programs }
+    requires ended { AllAtEnd plan.now lanes.now }
     ensures { result ≡ piece_end (plan_lines plan.now) }
 {
-    let last = slots.len() - 1;
-    end_of_process(plan, last as u32, &slots[last])
+    let last = lanes.len() - 1;
+    end_of_process(plan, last as u32, &lanes[last])
 }
 
 // The tick at which a process ended.
-fn end_of_process(plan: &Plan, process: u32, slot: &Slot) -> u64
-    requires { IsAtEnd plan.now process slot.now }
+fn end_of_process(plan: &Plan, process: u32, lane: &Lane) -> u64
+    requires { IsAtEnd plan.now process lane.now }
     ensures { result ≡ (line (plan_lines plan.now) process).end }
 {
-    match &slot.strand {
+    match &lane.strand {
         Some(strand) => strand.clock(),
         None => 0,
     }

@@ -1,23 +1,48 @@
 //! One quantum of each process, on one thread or on several.
 ghost use Rattle.std.specs.Prelude.{◌≡◌, ◌+◌, ◌*◌, ◌<◌, ◌≤◌, true, false, length};
 ghost use Rattle.std.specs.Thread.{IsSync};
-ghost use Rattle.fm_round.specs.Chain.{Cuts, Enters, IsChain, OthersIdleFrom, link};
+ghost use Rattle.fm_round.specs.Chain.{Cuts, IsChain, IsPart, link};
 ghost use Rattle.fm_round.specs.Hands.{MayRun};
-ghost use Rattle.fm_round.specs.Slots.{AreSlots, NoneRuns, RunsAll, RunsEach, SomeRuns};
+ghost use Rattle.fm_round.specs.Lanes.{AreLanes, NoneRuns, RunsAll, RunsEach, SomeRuns};
 
+use crate::lane::{Lane, is_live, run_lane};
 use crate::limits::{MAX_PROCESSES, MAX_WORKERS};
-use crate::slot::{Slot, is_live, run_slot};
 use fm_edge::{Gate, OpenGate};
 use fm_strand::Plan;
 use std::thread::{Threads, join_mut};
 
-/// One quantum of each process up to the limit, a tick, on the caller's thread. Only those in the
-/// chain are gone through.
-pub fn run_alone(plan: &Plan, limit: u64, next: &[u32], slots: &mut [Slot])
-    requires { MayRun plan.now next.now slots.old }
-    ensures { RunsAll plan.now limit slots.old slots.new }
+/// What all threads of a round share: the plan, the limit of each quantum, a tick, and the chain of
+/// the processes that may have something to do.
+#[derive(Drop)]
+pub struct Round<'a> {
+    pub plan: &'a Plan,
+    pub limit: u64,
+    pub next: &'a [u32],
+}
+
+/// A part of the chain: that of the processes from `first` on, which it enters at `head`. So many
+/// workers run it, from this actor on.
+#[derive(Clone, Copy, Drop)]
+pub struct Chain {
+    pub head: u32,
+    pub first: u32,
+    pub actor: u32,
+    pub workers: u32,
+}
+
+/// One quantum of each process up to the limit, on the caller's thread. Only those in the chain are
+/// gone through.
+pub fn run_alone(round: &Round, lanes: &mut [Lane])
+    requires { MayRun round.now.plan.now round.now.next.now lanes.old }
+    ensures { RunsAll round.now.plan.now round.now.limit lanes.old lanes.new }
 {
-    run_chunk(&OpenGate, 0, plan, limit, next, 0, 0, slots);
+    let whole = Chain {
+        head: 0,
+        first: 0,
+        actor: 0,
+        workers: 1,
+    };
+    run_chunk(&OpenGate, round, whole, lanes);
 }
 
 /// The same in exactly as many chunks as there are workers, each with a thread of its own where
@@ -26,100 +51,81 @@ pub fn run_shared<R: Threads + Sync, G: Gate + Sync>(
     rt: &R,
     gate: &G,
     workers: u32,
-    plan: &Plan,
-    limit: u64,
-    next: &[u32],
-    slots: &mut [Slot],
+    round: &Round,
+    lanes: &mut [Lane],
 )
     requires workers { (0 < workers) × (workers ≤ MAX_WORKERS) }
-    requires ready { MayRun plan.now next.now slots.old }
-    ensures { RunsAll plan.now limit slots.old slots.new }
+    requires ready { MayRun round.now.plan.now round.now.next.now lanes.old }
+    ensures { RunsAll round.now.plan.now round.now.limit lanes.old lanes.new }
 {
-    share(rt, gate, plan, 0, workers, limit, next, 0, 0, slots);
+    let whole = Chain {
+        head: 0,
+        first: 0,
+        actor: 0,
+        workers,
+    };
+    share(rt, gate, round, whole, lanes);
 }
 
-// One quantum of each of the processes from `first` on. The chain enters them at `head`.
-fn run_chunk<G: Gate>(
-    gate: &G,
-    actor: u32,
-    plan: &Plan,
-    limit: u64,
-    next: &[u32],
-    head: u32,
-    first: u32,
-    slots: &mut [Slot],
-)
-    requires few { first + length slots.old ≤ MAX_PROCESSES }
-    requires slots { AreSlots plan.now first slots.old }
-    requires chain { IsChain next.now }
-    requires size { first + length slots.old ≤ length next.now }
-    requires head { Enters next.now first (first + length slots.old) head }
-    requires idle { OthersIdleFrom next.now first slots.old }
-    ensures each { RunsEach plan.now first limit slots.old slots.new }
-    ensures len { length slots.new ≡ length slots.old }
+// One quantum of each of the processes of this part.
+fn run_chunk<G: Gate>(gate: &G, round: &Round, chain: Chain, lanes: &mut [Lane])
+    requires lanes { AreLanes round.now.plan.now chain.first lanes.old }
+    requires chain { IsPart round.now.next.now chain.first chain.head lanes.old }
+    ensures each { RunsEach round.now.plan.now chain.first round.now.limit lanes.old lanes.new }
+    ensures len { length lanes.new ≡ length lanes.old }
 {
-    let end = first + slots.len() as u32;
-    let mut at = head;
+    let end = chain.first + lanes.len() as u32;
+    let mut at = chain.head;
     while at < end {
-        run_slot(
+        run_lane(
             gate,
-            actor,
-            plan,
+            chain.actor,
+            round.plan,
             at,
-            limit,
-            &mut slots[(at - first) as usize],
+            round.limit,
+            &mut lanes[(at - chain.first) as usize],
         );
-        at = next[at as usize];
+        at = round.next[at as usize];
     }
 }
 
-// One quantum of each of the processes from `first` on, in exactly so many chunks, which have about
-// as many numbers of the chain. The number of a chunk is the actor at the gate.
+// One quantum of each of the processes of this part, in exactly as many chunks as it has workers,
+// which have about as many numbers of the chain. The number of a chunk is the actor at the gate.
 #[cycle(shares)]
 fn share<R: Threads + Sync, G: Gate + Sync>(
     rt: &R,
     gate: &G,
-    plan: &Plan,
-    actor: u32,
-    workers: u32,
-    limit: u64,
-    next: &[u32],
-    head: u32,
-    first: u32,
-    slots: &mut [Slot],
+    round: &Round,
+    chain: Chain,
+    lanes: &mut [Lane],
 )
-    requires workers { (0 < workers) × (actor + workers ≤ MAX_WORKERS) }
-    requires few { first + length slots.old ≤ MAX_PROCESSES }
-    requires slots { AreSlots plan.now first slots.old }
-    requires chain { IsChain next.now }
-    requires size { first + length slots.old ≤ length next.now }
-    requires head { Enters next.now first (first + length slots.old) head }
-    requires idle { OthersIdleFrom next.now first slots.old }
-    ensures each { RunsEach plan.now first limit slots.old slots.new }
-    ensures len { length slots.new ≡ length slots.old }
+    requires workers { (0 < chain.workers) × (chain.actor + chain.workers ≤ MAX_WORKERS) }
+    requires lanes { AreLanes round.now.plan.now chain.first lanes.old }
+    requires chain { IsPart round.now.next.now chain.first chain.head lanes.old }
+    ensures each { RunsEach round.now.plan.now chain.first round.now.limit lanes.old lanes.new }
+    ensures len { length lanes.new ≡ length lanes.old }
 {
-    if workers == 1 {
-        run_chunk(gate, actor, plan, limit, next, head, first, slots);
+    if chain.workers == 1 {
+        run_chunk(gate, round, chain, lanes);
         return;
     }
-    let low = workers / 2;
-    let mid = middle(next, head, first + slots.len() as u32, low, workers);
-    let (a, b) = slots.split_at_mut((mid - first) as usize);
-    share_both(
-        rt,
-        gate,
-        plan,
-        actor,
-        low,
-        workers - low,
-        limit,
-        next,
-        head,
-        first,
-        mid,
-        a,
-        b,
-    );
+    let low = chain.workers / 2;
+    let end = chain.first + lanes.len() as u32;
+    let mid = middle(round.next, chain.head, end, low, chain.workers);
+    let (a, b) = lanes.split_at_mut((mid - chain.first) as usize);
+    let front = Chain {
+        head: chain.head,
+        first: chain.first,
+        actor: chain.actor,
+        workers: low,
+    };
+    let back = Chain {
+        head: mid,
+        first: mid,
+        actor: chain.actor + low,
+        workers: chain.workers - low,
+    };
+    share_both(rt, gate, round, (front, back), a, b);
 }
 
 // Where the chain is cut so that so many of the workers have their share of it.
@@ -166,20 +172,16 @@ fn part(all: usize, low: u32, workers: u32) -> usize
     all * low as usize / workers as usize
 }
 
-// Whether one of the processes has started and not ended.
-fn has_live(next: &[u32], head: u32, first: u32, slots: &[Slot]) -> bool
-    requires few { first + length slots.now ≤ MAX_PROCESSES }
-    requires chain { IsChain next.now }
-    requires size { first + length slots.now ≤ length next.now }
-    requires head { Enters next.now first (first + length slots.now) head }
-    requires idle { OthersIdleFrom next.now first slots.now }
-    ensures yes { result ≡ true → SomeRuns slots.now }
-    ensures no { result ≡ false → NoneRuns slots.now }
+// Whether one of the processes of a part has started and not ended.
+fn has_live(next: &[u32], chain: Chain, lanes: &[Lane]) -> bool
+    requires { IsPart next.now chain.first chain.head lanes.now }
+    ensures yes { result ≡ true → SomeRuns lanes.now }
+    ensures no { result ≡ false → NoneRuns lanes.now }
 {
-    let end = first + slots.len() as u32;
-    let mut at = head;
+    let end = chain.first + lanes.len() as u32;
+    let mut at = chain.head;
     while at < end {
-        if is_live(&slots[(at - first) as usize]) {
+        if is_live(&lanes[(at - chain.first) as usize]) {
             return true;
         }
         at = next[at as usize];
@@ -187,60 +189,49 @@ fn has_live(next: &[u32], head: u32, first: u32, slots: &[Slot]) -> bool
     false
 }
 
-// Two shares side by side, or in turn where one of them has nothing to run, so that no thread is
+// Two parts side by side, or in turn where one of them has nothing to run, so that no thread is
 // started for it.
 #[cycle(shares)]
 fn share_both<R: Threads + Sync, G: Gate + Sync>(
     rt: &R,
     gate: &G,
-    plan: &Plan,
-    actor: u32,
-    low: u32,
-    high: u32,
-    limit: u64,
-    next: &[u32],
-    head: u32,
-    first: u32,
-    second: u32,
-    a: &mut [Slot],
-    b: &mut [Slot],
+    round: &Round,
+    parts: (Chain, Chain),
+    a: &mut [Lane],
+    b: &mut [Lane],
 )
-    requires workers { (0 < low) × (0 < high) × (actor + low + high ≤ MAX_WORKERS) }
-    requires few { (first + length a.old ≤ MAX_PROCESSES)
-        × (second + length b.old ≤ MAX_PROCESSES) }
-    requires front { AreSlots plan.now first a.old }
-    requires back { AreSlots plan.now second b.old }
-    requires chain { IsChain next.now }
-    requires size { (first + length a.old ≤ length next.now)
-        × (second + length b.old ≤ length next.now) }
-    requires head { Enters next.now first (first + length a.old) head }
-    requires mid { Enters next.now second (second + length b.old) second }
-    requires front_idle { OthersIdleFrom next.now first a.old }
-    requires back_idle { OthersIdleFrom next.now second b.old }
-    ensures ran_front { RunsEach plan.now first limit a.old a.new }
-    ensures ran_back { RunsEach plan.now second limit b.old b.new }
+    requires front_workers { (0 < parts.0.workers)
+        × (parts.0.actor + parts.0.workers ≤ MAX_WORKERS) }
+    requires back_workers { (0 < parts.1.workers)
+        × (parts.1.actor + parts.1.workers ≤ MAX_WORKERS) }
+    requires front_lanes { AreLanes round.now.plan.now parts.0.first a.old }
+    requires back_lanes { AreLanes round.now.plan.now parts.1.first b.old }
+    requires front { IsPart round.now.next.now parts.0.first parts.0.head a.old }
+    requires back { IsPart round.now.next.now parts.1.first parts.1.head b.old }
+    ensures ran_front { RunsEach round.now.plan.now parts.0.first round.now.limit a.old a.new }
+    ensures ran_back { RunsEach round.now.plan.now parts.1.first round.now.limit b.old b.new }
 {
-    let up = actor + low;
-    if !has_live(next, head, first, a) || !has_live(next, second, second, b) {
-        share(rt, gate, plan, actor, low, limit, next, head, first, a);
-        share(rt, gate, plan, up, high, limit, next, second, second, b);
+    let (one, two) = parts;
+    if !has_live(round.next, one, a) || !has_live(round.next, two, b) {
+        share(rt, gate, round, one, a);
+        share(rt, gate, round, two, b);
         return;
     }
     let mut front = ||
-        requires { IsSync R.row × IsSync G.row × (0 < low) × (actor + low ≤ MAX_WORKERS)
-            × (first + length a.now ≤ MAX_PROCESSES) × AreSlots plan.now first a.now
-            × IsChain next.now × (first + length a.now ≤ length next.now)
-            × Enters next.now first (first + length a.now) head
-            × OthersIdleFrom next.now first a.now }
-        ensures { RunsEach plan.entry.now first limit a.entry.now a.exit.now }
-    { share(rt, gate, plan, actor, low, limit, next, head, first, a) };
+        requires { IsSync R.row × IsSync G.row × (0 < one.workers)
+            × (one.actor + one.workers ≤ MAX_WORKERS)
+            × AreLanes round.now.plan.now one.first a.now
+            × IsPart round.now.next.now one.first one.head a.now }
+        ensures { RunsEach round.entry.now.plan.now one.first round.entry.now.limit
+            a.entry.now a.exit.now }
+    { share(rt, gate, round, one, a) };
     let mut back = ||
-        requires { IsSync R.row × IsSync G.row × (0 < high) × (up + high ≤ MAX_WORKERS)
-            × (second + length b.now ≤ MAX_PROCESSES) × AreSlots plan.now second b.now
-            × IsChain next.now × (second + length b.now ≤ length next.now)
-            × Enters next.now second (second + length b.now) second
-            × OthersIdleFrom next.now second b.now }
-        ensures { RunsEach plan.entry.now second limit b.entry.now b.exit.now }
-    { share(rt, gate, plan, up, high, limit, next, second, second, b) };
+        requires { IsSync R.row × IsSync G.row × (0 < two.workers)
+            × (two.actor + two.workers ≤ MAX_WORKERS)
+            × AreLanes round.now.plan.now two.first b.now
+            × IsPart round.now.next.now two.first two.head b.now }
+        ensures { RunsEach round.entry.now.plan.now two.first round.entry.now.limit
+            b.entry.now b.exit.now }
+    { share(rt, gate, round, two, b) };
     join_mut(rt, &mut front, &mut back);
 }

@@ -2,5 +2,4 @@ pub mod Counts
 pub mod Desks
 pub mod Holding
 pub mod Marks
-pub mod PairLemmas
 pub mod Waiting

@@ -2,8 +2,7 @@
 ghost use Rattle.std.specs.Prelude.{◌≡◌, ◌<◌, ◌≤◌, length};
 ghost use Rattle.fm_line.specs.Line.{line};
 ghost use Rattle.fm_core.specs.State.{cell};
-ghost use Rattle.fm_core.specs.Taking.{covers, count_due, outbox, must_take};
-ghost use Rattle.fm_core.specs.Taking as words;
+ghost use Rattle.fm_core.specs.Taking.{count_due, outbox, must_take};
 ghost use Rattle.fm_core.specs.Invariant.{Sound};
 ghost use Rattle.fm_buffer.specs.declared.outbox.TheConstants.{MAX_ROOM};
 
@@ -12,29 +11,6 @@ use crate::tables::Tables;
 use fm_core::Due;
 use fm_msg::Event;
 
-/// Whether something is due.
-pub fn is_due(due: Due) -> bool
-    ensures { result ≡ words.is_due due }
-{
-    match due {
-        Due::Nothing => false,
-        _ => true,
-    }
-}
-
-// Whether the event is due.
-fn is_covered(due: Due, event: &Event) -> bool
-    ensures { result ≡ covers due event.now }
-{
-    match due {
-        Due::Nothing => false,
-        Due::Pair { time, process } => {
-            event.time() < time || event.time() == time && event.process() <= process
-        }
-        Due::Everything => true,
-    }
-}
-
 /// How many of these events are due.
 pub fn due_among(due: Due, events: &[Event]) -> u32
     requires { length events.now ≤ MAX_ROOM }
@@ -42,7 +18,7 @@ pub fn due_among(due: Due, events: &[Event]) -> u32
 {
     let mut count = 0;
     for event in events {
-        if is_covered(due, event) {
+        if due.covers(event) {
             count += 1;
         }
     }

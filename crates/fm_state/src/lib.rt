@@ -8,13 +8,12 @@
 mod desk;
 mod dues;
 mod holds;
-mod pairs;
 mod rules;
 mod sweeps;
 mod tables;
 mod visits;
 
-pub use dues::{due_among, is_due, must_be_taken, waiting_events};
+pub use dues::{due_among, must_be_taken, waiting_events};
 pub use rules::{Rules, time_at};
 pub use sweeps::{greatest_end, sight_of, start_of};
 pub use tables::Tables;

@@ -2,33 +2,12 @@
 ghost use Rattle.std.specs.Prelude.{◌≡◌, ◌<◌, length, map};
 ghost use Rattle.fm_line.specs.Line.{line, greatest, start};
 ghost use Rattle.fm_core.specs.State.{Setting};
-ghost use Rattle.fm_core.specs.Sweep.{sight, sighted};
+ghost use Rattle.fm_core.specs.Sweep.{sighted};
 
 use crate::rules::Rules;
 use crate::tables::Tables;
 use fm_core::Sight;
 use fm_line::Line;
-
-// The greatest clock that was seen of these processes.
-fn greatest_seen(seen: &[Sight], processes: &[u32]) -> u64
-    ensures { result ≡ greatest (map (λ q. (sight seen.now q).clock) processes.now) }
-{
-    let mut most = 0;
-    for process in processes {
-        most = most.max(clock_seen(seen, *process));
-    }
-    most
-}
-
-// The clock that was seen of a process, 0 where it was not seen.
-fn clock_seen(seen: &[Sight], process: u32) -> u64
-    ensures { result ≡ (sight seen.now process).clock }
-{
-    match seen.get(process as usize) {
-        Some(sight) => sight.clock,
-        None => 0,
-    }
-}
 
 /// What a look at a process enters in this sweep.
 pub fn sight_of(rules: &Rules, tables: &Tables, seen: &[Sight], process: u32) -> Sight
@@ -37,15 +16,7 @@ pub fn sight_of(rules: &Rules, tables: &Tables, seen: &[Sight], process: u32) ->
     ensures { result ≡ sighted rules.now tables.now.state seen.now process }
 {
     let own = tables.cell(process);
-    let clock = if own.tag.is_unborn() {
-        greatest_seen(seen, rules.predecessors(process))
-    } else {
-        own.clock
-    };
-    Sight {
-        clock,
-        ended: own.tag.is_ended(),
-    }
+    Sight::of(own.tag, own.clock, seen, rules.predecessors(process))
 }
 
 /// The greatest end of these processes' lines, 0 of none.

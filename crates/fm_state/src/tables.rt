@@ -12,10 +12,9 @@ ghost use Rattle.fm_state.specs.Stored.{Stored, desk_of, IsDesk, AreDesks};
 
 use crate::desk::Desk;
 use crate::holds::{begin_hold, end_hold};
-use crate::pairs::{lesser_pair, pair_of};
 use crate::visits::Visits;
 use fm_buffer::Gather;
-use fm_core::{Cell, Due, Floor, Sight, Tag};
+use fm_core::{Cell, Due, Floor, Sight, Tag, lesser_pair};
 use fm_msg::Event;
 use std::alloc::{AllocError, Global};
 use std::marker::Model;
@@ -331,7 +330,7 @@ fn enter_sight(desk: &mut Desk, process: u32, sight: Sight)
     ensures least { desk.new.least ≡ least desk.new.sweep.items }
     ensures capacity { vec_capacity desk.new.sweep ≡ vec_capacity desk.old.sweep }
 {
-    let pair = pair_of(sight, process);
+    let pair = sight.pair(process);
     if process == 0 {
         desk.sweep.clear();
         desk.sweep.push_reserved(sight);

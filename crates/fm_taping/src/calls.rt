@@ -8,7 +8,7 @@ ghost use Rattle.fm_core.specs.Taking.{due_of};
 ghost use Rattle.fm_core.specs.declared.due.Due.TheVariants.{Nothing};
 ghost use Rattle.fm_core.specs.declared.step.Step.TheVariants.{Pace, Publish, Record, Release};
 ghost use Rattle.fm_board.specs.Answers.{Claims, Gave, Looks};
-ghost use Rattle.fm_board.specs.Calls.{MayGive, MayRecord, Releases};
+ghost use Rattle.fm_board.specs.Calls.{MayComeBack, MayRecord, Releases};
 ghost use Rattle.fm_board.specs.Knowing.{Knows};
 ghost use Rattle.fm_board.specs.Plays.{MayRelease};
 ghost use Rattle.fm_board.specs.Seats.{IsOurs, making, seeing};
@@ -108,7 +108,7 @@ pub trait Calls {
     /// those who keep a record, just as it was.
     fn give(&self, seat: &mut BoardSeat, berth: Berth, work: Work)
         requires ours { IsOurs (table self.now) (about self.now) seat.old }
-        requires may { MayGive (about self.now) seat.old.mind.view
+        requires may { MayComeBack (about self.now) seat.old.mind.view
             berth.process berth.strand berth.outbox }
         requires told { IsWorkOf seat.old.mind.view (length berth.outbox.events) work }
         ensures gave { Gave (about self.now) seat.old berth seat.new }

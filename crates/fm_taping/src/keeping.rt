@@ -12,7 +12,7 @@ ghost use Rattle.fm_core.specs.declared.step.Step.TheVariants as step;
 ghost use Rattle.fm_record.specs.StepBytes.{HasFields};
 ghost use Rattle.fm_strand.specs.Strand.{clock_of};
 ghost use Rattle.fm_board.specs.Answers.{Claims, Gave, Looks};
-ghost use Rattle.fm_board.specs.Calls.{MayGive, MayRecord, Releases};
+ghost use Rattle.fm_board.specs.Calls.{MayComeBack, MayRecord, Releases};
 ghost use Rattle.fm_board.specs.Knowing.{Knows};
 ghost use Rattle.fm_board.specs.Plays.{MayRelease};
 ghost use Rattle.fm_board.specs.Seats.{IsOurs, making};
@@ -131,7 +131,7 @@ pub fn record(board: &Board, recorder: &mut Recorder, seat: &mut BoardSeat, bert
 /// A give, which is always kept: just the step that the seat makes.
 pub fn give(board: &Board, recorder: &mut Recorder, seat: &mut BoardSeat, berth: Berth, work: Work)
     requires ours { IsOurs board.now.table.shared.table_id board.now.about seat.old }
-    requires may { MayGive board.now.about seat.old.mind.view
+    requires may { MayComeBack board.now.about seat.old.mind.view
         berth.process berth.strand berth.outbox }
     requires told { IsWorkOf seat.old.mind.view (length berth.outbox.events) work }
     ensures gave { Gave board.now.about seat.old berth seat.new }

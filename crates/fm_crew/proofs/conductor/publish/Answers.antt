@@ -2,7 +2,7 @@ use Rattle.std.proofs.Common.{◌≡◌, ◌∙◌, sym, ap, subst}
 use Rattle.fm_core.specs.Floors.{floor_of}
 use Rattle.fm_core.specs.Taking.{due_of}
 use Rattle.fm_board.specs.Knowing.{Knows}
-use Rattle.fm_board.specs.Seats.{Sight, making}
+use Rattle.fm_board.specs.Seats.{SeatState, making}
 use Rattle.fm_core.specs.declared.step.Step.TheVariants.{Pace}
 use Rattle.fm_board.specs.View.{processes}
 use Rattle.fm_board.specs.declared.view.Mind.{Mind}
@@ -13,8 +13,8 @@ use Rattle.fm_crew.proofs.conductor.publish.Goals as goal
 
 pub returns-clause-knows : goal.returns-clause-knows
 returns-clause-knows g c =
-    let minds = ap (λ (x : Sight). x.mind) (c.pace.ensures.paced
-    ∙ ap (λ (x : Sight). making x (Pace x.mind.view.number) (record x.mind.view { paced = c.pace.result }) c.pace.new.seat.mind.log.seen)
+    let minds = ap (λ (x : SeatState). x.mind) (c.pace.ensures.paced
+    ∙ ap (λ (x : SeatState). making x (Pace x.mind.view.number) (record x.mind.view { paced = c.pace.result }) c.pace.new.seat.mind.log.seen)
     c.publish.ensures) in
     knows_then c.args.seat.now.mind c.look_again.new.seat.mind c.pace.new.seat.mind c.look_again.ensures.knows
     (subst (Knows c.look_again.new.seat.mind) (sym minds) (knows_stepped c.look_again.new.seat.mind _ _))
@@ -23,8 +23,8 @@ pub returns-clause-back : goal.returns-clause-back
 returns-clause-back g c =
     λ full tick p is.
     let m : Mind = c.look_again.new.seat.mind in
-    let minds = ap (λ (x : Sight). x.mind) (c.pace.ensures.paced
-    ∙ ap (λ (x : Sight). making x (Pace x.mind.view.number) (record x.mind.view { paced = c.pace.result }) c.pace.new.seat.mind.log.seen)
+    let minds = ap (λ (x : SeatState). x.mind) (c.pace.ensures.paced
+    ∙ ap (λ (x : SeatState). making x (Pace x.mind.view.number) (record x.mind.view { paced = c.pace.result }) c.pace.new.seat.mind.log.seen)
     c.publish.ensures) in
     let many : processes m.view ≡ processes c.args.seat.now.mind.view = ap processes c.look_again.ensures.looked in
     let r = held_back (g.B.Calls.about c.args.board.now) m tick p c.look_again.ensures.conductor.idle.ours.plan
@@ -33,7 +33,7 @@ returns-clause-back g c =
       subst (λ (y : Mind). HoldsBack y tick p) (sym minds)
           (record { there = r.0.there; live = r.0.live; soon = r.0.soon; ready = r.0.ready }),
       r.1,
-      c.pace.ensures.own (ap (λ (x : Sight). x.mind.view.number) c.publish.ensures ∙ c.look_again.ensures.conductor.conductor)
-          ∙ (ap (λ (x : Sight). x.mind.view.published) c.publish.ensures
+      c.pace.ensures.own (ap (λ (x : SeatState). x.mind.view.number) c.publish.ensures ∙ c.look_again.ensures.conductor.conductor)
+          ∙ (ap (λ (x : SeatState). x.mind.view.published) c.publish.ensures
           ∙ (c.next_floor.ensures ∙ (ap floor_of c.sweep-least.ensures.least ∙ r.2))),
     )

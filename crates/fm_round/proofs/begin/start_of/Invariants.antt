@@ -1,6 +1,6 @@
 use Rattle.std.proofs.Common.{◌≡◌, map, take, IfSome}
 use Rattle.fm_strand.specs.Course.{end_place, start_place}
-use Rattle.fm_round.specs.Slots.{predecessors}
+use Rattle.fm_round.specs.Lanes.{predecessors}
 use Rattle.fm_play.specs.Places.{HasLevelsOf, latest_of}
 use Rattle.fm_round.proofs.begin.start_of.Given as goal
 

@@ -6,7 +6,7 @@ use Rattle.fm_round.proofs.release.release.Goals as goal
 
 pub settle-requires : goal.settle-requires
 settle-requires g c =
-    subst Ordered (sym (ap (λ (x : EventGather). x.events) c.gather_due.ensures.gather)) (own_ordered 0 _ c.requires.own)
+    subst Ordered (sym (ap (λ (x : EventGather). x.events) c.gather_due.ensures.gather)) (own_ordered 0 _ c.requires.may.own)
 
 pub returns-clause-count : goal.returns-clause-count
 returns-clause-count g c =

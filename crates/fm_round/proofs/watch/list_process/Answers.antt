@@ -1,5 +1,5 @@
 use Rattle.std.proofs.Common.{◌≤◌, ◌∙◌, length, get_or, arith}
-use Rattle.fm_round.specs.Slots.{predecessors}
+use Rattle.fm_round.specs.Lanes.{predecessors}
 use Rattle.fm_round.proofs.Listing.{listed_here, listed_more, lists_kept, lists_later, predecessor_less}
 use Rattle.fm_round.proofs.watch.list_process.Goals as goal
 

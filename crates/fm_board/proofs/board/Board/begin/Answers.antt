@@ -1,5 +1,5 @@
 use Rattle.std.proofs.Common.{arith, ◌∙◌, Some, sym, ap}
-use Rattle.fm_board.specs.Seats.{Sight}
+use Rattle.fm_board.specs.Seats.{SeatState}
 use Rattle.fm_board.specs.declared.view.Mind.{Mind}
 use Rattle.fm_board.specs.declared.view.View.{View}
 use Rattle.fm_board.proofs.Births.{begun_as, begun_tidy, not_unborn, start_low, starts_at}
@@ -15,7 +15,7 @@ pub compare_exchange-found-requires-clause-may : goal.compare_exchange-found-req
 compare_exchange-found-requires-clause-may c =
     starts_at _ c.args.self.now.about _ _ _ _ c.args.process _ c.args.tick c.seat.inside.number _ c.args.seat.now c.args.self.now.same.0
     c.requires.ours
-    (ap (λ (x : Sight). x.mind) c.seat.view_is) c.index_of.ensures c.requires.there c.requires.idle c.requires.ended c.requires.tick
+    (ap (λ (x : SeatState). x.mind) c.seat.view_is) c.index_of.ensures c.requires.there c.requires.idle c.requires.ended c.requires.tick
     c.seat.invariant.0 c.word_of-new.ensures
 
 pub seen_of-requires : goal.seen_of-requires
@@ -55,7 +55,7 @@ pub invariant_of-seat-2 : goal.invariant_of-seat-2
 invariant_of-seat-2 c =
     let hit = (c.compare_exchange-found.ensures.told c.args.process c.index_of.ensures).0 c.if-found-ne0.false in
     begun_tidy _ c.args.process _ _ _ c.seat.inside.token.me _ _ c.seat.invariant
-    (ap (λ (x : Sight). x.mind.view.holds) c.seat.view_is ∙ c.requires.idle) hit c.exchange.ensures.is
+    (ap (λ (x : SeatState). x.mind.view.holds) c.seat.view_is ∙ c.requires.idle) hit c.exchange.ensures.is
 
 pub returns : goal.returns
 returns c =

@@ -1,5 +1,5 @@
 use Rattle.std.proofs.Common.{◌∙◌, sym, ap, Some}
-use Rattle.fm_board.specs.Seats.{Sight}
+use Rattle.fm_board.specs.Seats.{SeatState}
 use Rattle.fm_board.specs.Words.{spell}
 use Rattle.fm_board.specs.declared.seen.Seen.{Seen}
 use Rattle.fm_board.specs.declared.view.Mind.{Mind}
@@ -10,11 +10,11 @@ use Rattle.fm_board.proofs.board.Board.claim.Goals as goal
 pub compare_exchange-found-requires-clause-may : goal.compare_exchange-found-requires-clause-may
 compare_exchange-found-requires-clause-may c =
     let e : Seen = c.args.expected.now in
-    claims_at _ c.args.self.now.about c.args.self.now.table.shared.table_id _ _ _ c.args.process _ _ e.tag c.held_tag.result e.clock e.seat
+    claims_at _ c.args.self.now.about c.args.self.now.table.shared.table_id _ _ _ c.args.process _ _ e.tag c.claimed.result e.clock e.seat
     c.seat.inside.number _ c.args.seat.now
-    c.args.self.now.same.0 c.requires.ours (ap (λ (x : Sight). x.mind) c.seat.view_is) c.index_of.ensures c.requires.there c.requires.idle
+    c.args.self.now.same.0 c.requires.ours (ap (λ (x : SeatState). x.mind) c.seat.view_is) c.index_of.ensures c.requires.there c.requires.idle
     c.requires.tag
-    e.fits.few c.word_of-old.ensures c.held_tag.ensures c.seat.invariant.0 c.word_of-new.ensures
+    e.fits.few c.word_of-old.ensures c.claimed.ensures c.seat.invariant.0 c.word_of-new.ensures
 
 pub seen_of-requires : goal.seen_of-requires
 seen_of-requires c = ((c.compare_exchange-found.ensures.told c.args.process c.index_of.ensures).1 c.if-found-old.true).word
@@ -67,8 +67,8 @@ invariant_of-seat-2 c =
     let hit = (c.compare_exchange-found.ensures.told c.args.process c.index_of.ensures).0 c.if-found-old.false e.tag e.clock e.seat
     e.fits.few c.word_of-old.ensures in
     held_tidy _ _ _ _ _ c.seat.inside.token.me _ _ c.args.process _ _ _ c.seat.invariant
-    (ap (λ (x : Sight). x.mind.view.holds) c.seat.view_is ∙ c.requires.idle) hit
-    c.exchange.ensures.is c.is_at_end-seat-inside.ensures
+    (ap (λ (x : SeatState). x.mind.view.holds) c.seat.view_is ∙ c.requires.idle) hit
+    c.exchange.ensures.is c.is_ended-seat-inside.ensures
 
 pub returns : goal.returns
 returns c =

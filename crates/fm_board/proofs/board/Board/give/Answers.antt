@@ -4,13 +4,13 @@ use Rattle.fm_buffer.specs.Outbox.{EventQueue}
 use Rattle.fm_strand.specs.declared.strand.Strand.{Strand}
 use Rattle.fm_program.specs.Parts.{PlanParts}
 use Rattle.fm_board.specs.Plays.{left_of}
-use Rattle.fm_board.specs.Seats.{Sight}
-use Rattle.fm_board.specs.declared.room.Room.{Room}
+use Rattle.fm_board.specs.Seats.{SeatState}
+use Rattle.fm_board.specs.declared.deposit.Deposit.{Deposit}
 use Rattle.fm_board.proofs.Returns.{clock_low, gave_as, gave_extends, gave_knows, gave_tidy, gives_at}
 use Rattle.fm_board.proofs.board.Board.give.Goals as goal
 
 -- a slot with this in it
-abbrev holding : Option Strand → EventQueue → Room
+abbrev holding : Option Strand → EventQueue → Deposit
 holding strand box = record { strand = strand; outbox = box }
 
 pub word_of-new-requires : goal.word_of-new-requires
@@ -27,15 +27,15 @@ store-requires-clause-may c =
     ∙ ap (λ (o : Option Strand). (me.0, (c.args.berth.process, Some (holding o c.args.berth.outbox)) ∷ rest me.1)) c.of.ensures in
     gives_at _ c.args.self.now.about _ _ _ c.args.berth.process _ c.len.result _ _ _ _ _ _ c.seat.inside.token.me _ c.args.berth.strand
     c.args.berth.outbox c.args.seat.now
-    c.args.self.now.same.0 (ap (λ (x : Sight). x.mind) c.seat.view_is) c.index_of.ensures c.requires.may c.len.ensures.bound.within
+    c.args.self.now.same.0 (ap (λ (x : SeatState). x.mind) c.seat.view_is) c.index_of.ensures c.requires.may c.len.ensures.bound.within
     c.seat.invariant
-    c.home_tag-tag.ensures c.len.ensures.value (c.clock-clock.ensures c.args.self.now.about.plan c.requires.may.strand.course)
+    c.given-tag.ensures c.len.ensures.value (c.clock-clock.ensures c.args.self.now.about.plan c.requires.may.strand.course)
     c.word_of-new.ensures brought
 
 pub invariant_of-seat : goal.invariant_of-seat
 invariant_of-seat c =
     gave_tidy _ c.args.berth.process _ _ _ _ _ c.seat.inside.token.me c.exchange.new.self.me _ _ c.seat.invariant c.exchange.ensures.is
-    (c.store.ensures.told c.args.berth.process c.home_tag-tag.result c.clock-clock.result 0 c.index_of.ensures
+    (c.store.ensures.told c.args.berth.process c.given-tag.result c.clock-clock.result 0 c.index_of.ensures
     (omega arith) c.word_of-new.ensures)
 
 pub returns-clause-gave : goal.returns-clause-gave
@@ -43,21 +43,21 @@ returns-clause-gave c =
     gave_as c.args.self.now.about _ _ _ _ c.args.berth.process _ c.len.result _ _ _ _ c.seat.inside.token.me c.exchange.new.self.me _ _
     c.args.berth.strand c.args.berth.outbox _
     c.requires.may c.seat.invariant c.exchange.ensures.is refl (λ (q : PlanParts). ap (left_of q) c.of.ensures) c.requires.ours.plan
-    (c.store.ensures.told c.args.berth.process c.home_tag-tag.result c.clock-clock.result 0 c.index_of.ensures
+    (c.store.ensures.told c.args.berth.process c.given-tag.result c.clock-clock.result 0 c.index_of.ensures
     (omega arith) c.word_of-new.ensures)
-    c.home_tag-tag.ensures c.len.ensures.value (c.clock-clock.ensures c.args.self.now.about.plan c.requires.may.strand.course)
+    c.given-tag.ensures c.len.ensures.value (c.clock-clock.ensures c.args.self.now.about.plan c.requires.may.strand.course)
     c.store.ensures.kept.0 c.exchange.ensures.kept.0 c.seat.view_is
 
 pub returns-clause-knows : goal.returns-clause-knows
 returns-clause-knows c =
-    gave_knows c.args.berth.process c.home_tag-tag.result c.clock-clock.result c.seat.inside.token.me c.exchange.new.self.me _ _ _
+    gave_knows c.args.berth.process c.given-tag.result c.clock-clock.result c.seat.inside.token.me c.exchange.new.self.me _ _ _
     c.args.seat.now c.exchange.ensures.is
-    (c.store.ensures.told c.args.berth.process c.home_tag-tag.result c.clock-clock.result 0 c.index_of.ensures
+    (c.store.ensures.told c.args.berth.process c.given-tag.result c.clock-clock.result 0 c.index_of.ensures
     (omega arith) c.word_of-new.ensures) c.seat.view_is
 
 pub returns-clause-extends : goal.returns-clause-extends
 returns-clause-extends c =
-    gave_extends c.args.berth.process c.home_tag-tag.result c.clock-clock.result c.seat.inside.token.me c.exchange.new.self.me _ _ _
+    gave_extends c.args.berth.process c.given-tag.result c.clock-clock.result c.seat.inside.token.me c.exchange.new.self.me _ _ _
     c.args.seat.now c.exchange.ensures.is
-    (c.store.ensures.told c.args.berth.process c.home_tag-tag.result c.clock-clock.result 0 c.index_of.ensures
+    (c.store.ensures.told c.args.berth.process c.given-tag.result c.clock-clock.result 0 c.index_of.ensures
     (omega arith) c.word_of-new.ensures) c.seat.view_is

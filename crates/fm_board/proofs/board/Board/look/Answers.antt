@@ -1,9 +1,10 @@
-use Rattle.std.proofs.Common.{ap}
-use Rattle.fm_board.specs.Seats.{Sight}
+use Rattle.std.proofs.Common.{ap, sym, ◌∙◌}
+use Rattle.fm_board.specs.Seats.{SeatState}
 use Rattle.fm_board.specs.View.{looked}
 use Rattle.fm_board.specs.declared.view.Mind.{Mind}
 use Rattle.fm_board.specs.declared.view.View.{View}
 use Rattle.fm_board.specs.Minds.{did}
+use Rattle.fm_program.proofs.Lines.{plan-lines-waits}
 use Rattle.fm_core.specs.declared.step.Step.TheVariants.{Look}
 use Rattle.fm_board.proofs.Steps.{found_as, looks_at}
 use Rattle.fm_board.proofs.Sweeping.{looked_tidy}
@@ -13,7 +14,7 @@ pub load-found-requires-clause-may : goal.load-found-requires-clause-may
 load-found-requires-clause-may c =
     looks_at _ c.args.self.now.about c.args.self.now.table.shared.table_id _ _ _ c.args.process _ c.args.seat.now c.args.self.now.same.0
     c.requires.ours
-    (ap (λ (x : Sight). x.mind) c.seat.view_is) c.index_of.ensures c.requires.turn
+    (ap (λ (x : SeatState). x.mind) c.seat.view_is) c.index_of.ensures c.requires.turn
 
 pub seen_of-seen-requires : goal.seen_of-seen-requires
 seen_of-seen-requires c = (c.load-found.ensures.told c.args.process c.index_of.ensures).word
@@ -24,9 +25,10 @@ invariant_of-seat c =
     let s = c.seen_of-seen.result in
     let mind = found.mind s.tag s.clock s.seat c.seen_of-seen.ensures.few c.seen_of-seen.ensures.word in
     looked_tidy _ _ _ _ _ _ _ c.args.process s.clock _ s.tag c.seat.inside.token.me c.load-found.new.self.me c.args.seat.now.mind
-    c.args.self.now.about.plan _ _ c.seat.invariant (ap (λ (x : Sight). x.mind) c.seat.view_is) c.requires.turn c.requires.ours.plan mind
-    found.out c.as_slice.ensures.value c.sight_of-look.ensures.clock c.sight_of-look.ensures.ended c.enter.ensures.items
-    c.enter.ensures.capacity
+    c.args.self.now.about.plan _ _ _ c.seat.invariant (ap (λ (x : SeatState). x.mind) c.seat.view_is) c.requires.turn c.requires.ours.plan mind
+    found.out c.as_slice.ensures.value
+    (c.predecessors-predecessors.ensures ∙ sym (plan-lines-waits c.args.self.now.about.plan c.args.process)) c.of-look.ensures
+    c.enter.ensures.items c.enter.ensures.capacity
 
 pub returns : goal.returns
 returns c =

@@ -1,5 +1,5 @@
 use Rattle.std.proofs.Common.{ap}
-use Rattle.fm_board.specs.Seats.{Sight}
+use Rattle.fm_board.specs.Seats.{SeatState}
 use Rattle.fm_board.specs.declared.view.Mind.{Mind}
 use Rattle.fm_board.specs.declared.view.View.{View}
 use Rattle.fm_board.specs.Minds.{recalled}
@@ -33,5 +33,5 @@ returns-clause-found c =
 
 pub returns-clause-wide : goal.returns-clause-wide
 returns-clause-wide c =
-    widths c.seat.inside.token.me.0 c.args.seat.now (ap (λ (x : Sight). x.mind) c.seat.view_is)
+    widths c.seat.inside.token.me.0 c.args.seat.now (ap (λ (x : SeatState). x.mind) c.seat.view_is)
     (c.load-found.ensures.told c.args.process c.index_of.ensures).wide

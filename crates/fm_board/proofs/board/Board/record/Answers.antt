@@ -1,5 +1,5 @@
 use Rattle.std.proofs.Common.{arith, ℕ, ◌+◌, ◌∙◌, ap, subst}
-use Rattle.fm_board.specs.Seats.{Sight}
+use Rattle.fm_board.specs.Seats.{SeatState}
 use Rattle.fm_board.specs.View.{wrote_hold}
 use Rattle.fm_board.specs.declared.view.Hold.{Hold}
 use Rattle.fm_board.specs.declared.view.Log.{Log}
@@ -32,11 +32,11 @@ write-requires-clause-may c =
 pub loop-word-preserved : goal.loop-word-preserved
 loop-word-preserved c =
     let y = c.loop-word.invariant.hold in
-    let is = ap (λ (x : Sight). x.mind) c.write.ensures in
+    let is = ap (λ (x : SeatState). x.mind) c.write.ensures in
     let z : Hold = record y.0 { written = c.loop-word.word + 1 } in
-    let holds = ap (λ (x : Sight). x.mind.view.holds) c.write.ensures ∙ ap (λ o. wrote_hold o (c.loop-word.word + 1)) y.1 in
+    let holds = ap (λ (x : SeatState). x.mind.view.holds) c.write.ensures ∙ ap (λ o. wrote_hold o (c.loop-word.word + 1)) y.1 in
     record {
-      table = ap (λ (x : Sight). x.table) c.write.ensures ∙ c.loop-word.invariant.table;
+      table = ap (λ (x : SeatState). x.table) c.write.ensures ∙ c.loop-word.invariant.table;
       number = ap (λ (m : Mind). m.view.number) is ∙ c.loop-word.invariant.number;
       log = ap (λ (m : Mind). m.log) is ∙ c.loop-word.invariant.log;
       same = λ xs. still_noted c.loop-word.seat.mind c.write.new.seat.mind c.args.berth.now.process (c.loop-word.word + 1) xs is

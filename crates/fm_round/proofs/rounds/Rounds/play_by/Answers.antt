@@ -18,18 +18,18 @@ returns-in_err-writer-clause-err g c =
     (piece_end (plan_lines q)))) c.self.view_is
     (on_err c.from_residual.result c.in_err-writer.ensures.err)
 
-pub perform-requires-clause-at_end : goal.perform-requires-clause-at_end
-perform-requires-clause-at_end g c = c.in_ok-writer.ensures.ok.at_end
+pub play_rounds-requires-clause-at_end : goal.play_rounds-requires-clause-at_end
+play_rounds-requires-clause-at_end g c = c.in_ok-writer.ensures.ok.at_end
 
 -- the events are written
 pub returns-in_err-events-clause-err : goal.returns-in_err-events-clause-err
 returns-in_err-events-clause-err g c =
     subst (λ (q : PlanParts). OnErr c.from_residual-in_err-events.result
-    (IsBroken g.K.Sink.content g.K.Sink.sure g.K.Sink.faults c.args.sink.now c.perform.new.sink q.profile (piece (plan_lines q))
+    (IsBroken g.K.Sink.content g.K.Sink.sure g.K.Sink.faults c.args.sink.now c.play_rounds.new.sink q.profile (piece (plan_lines q))
     (piece_end (plan_lines q)))) c.self.view_is
     (on_err c.from_residual-in_err-events.result
     (events_break g.K.Sink.content g.K.Sink.sure g.K.Sink.faults c.self.inside.plan c.args.sink.now c.begin_file.new.sink
-    c.perform.new.sink c.in_ok-writer.writer c.in_ok-writer.ensures.ok c.in_err-events.ensures.err))
+    c.play_rounds.new.sink c.in_ok-writer.writer c.in_ok-writer.ensures.ok c.in_err-events.ensures.err))
 
 -- and the file is finished
 pub finish_file-requires-clause-end : goal.finish_file-requires-clause-end
@@ -40,7 +40,7 @@ pub finish_file-requires-clause-put : goal.finish_file-requires-clause-put
 finish_file-requires-clause-put g c = (
   c.args.sink.now,
   events_written g.K.Sink.content g.K.Sink.sure g.K.Sink.faults c.self.inside.plan c.args.sink.now c.begin_file.new.sink
-      c.perform.new.sink c.in_ok-writer.writer c.in_ok-writer.ensures.ok c.perform.new.writer c.in_ok-events.ensures.ok,
+      c.play_rounds.new.sink c.in_ok-writer.writer c.in_ok-writer.ensures.ok c.play_rounds.new.writer c.in_ok-events.ensures.ok,
 )
 
 pub returns-in_err-bytes-clause-err : goal.returns-in_err-bytes-clause-err
@@ -51,7 +51,7 @@ returns-in_err-bytes-clause-err g c =
     (on_err c.from_residual-in_err-bytes.result
     (c.in_err-bytes.ensures.err c.args.sink.now
     (events_written g.K.Sink.content g.K.Sink.sure g.K.Sink.faults c.self.inside.plan c.args.sink.now c.begin_file.new.sink
-    c.perform.new.sink c.in_ok-writer.writer c.in_ok-writer.ensures.ok c.perform.new.writer c.in_ok-events.ensures.ok)))
+    c.play_rounds.new.sink c.in_ok-writer.writer c.in_ok-writer.ensures.ok c.play_rounds.new.writer c.in_ok-events.ensures.ok)))
 
 pub returns-clause-ok : goal.returns-clause-ok
 returns-clause-ok g c =
@@ -59,7 +59,7 @@ returns-clause-ok g c =
     q.profile (piece (plan_lines q)) (piece_end (plan_lines q))) c.self.view_is
     (c.in_ok-bytes.ensures.ok c.args.sink.now
     (events_written g.K.Sink.content g.K.Sink.sure g.K.Sink.faults c.self.inside.plan c.args.sink.now c.begin_file.new.sink
-    c.perform.new.sink c.in_ok-writer.writer c.in_ok-writer.ensures.ok c.perform.new.writer c.in_ok-events.ensures.ok))
+    c.play_rounds.new.sink c.in_ok-writer.writer c.in_ok-writer.ensures.ok c.play_rounds.new.writer c.in_ok-events.ensures.ok))
 
 pub returns-clause-played : goal.returns-clause-played
 returns-clause-played g c =

@@ -1,0 +1,14 @@
+use Rattle.fm_round.specs.Rounds.{Between}
+use Rattle.fm_round.specs.Lanes.{loads}
+use Rattle.fm_round.specs.Watching.{Watched}
+use Rattle.fm_round.proofs.course.play_rounds.Given as goal
+
+abbrev pub invariant-loop-next : goal.invariant-loop-next
+invariant-loop-next g l = record {
+  between : Between g.K.Sink.content g.K.Sink.sure g.K.Sink.faults l.plan l.fn.sink l.sink l.fn.writer l.writer l.lanes l.stage.gather l.events;
+  watched : Watched l.plan l.stage.watch l.lanes;
+}
+
+-- a round makes a step, or ends a process
+abbrev pub decreases-loop-next : goal.decreases-loop-next
+decreases-loop-next g l = loads l.plan 0 l.lanes

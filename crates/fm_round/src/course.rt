@@ -1,0 +1,69 @@
+//! Plays all rounds.
+ghost use Rattle.std.specs.Prelude.{◌≡◌, ◌≤◌, length, OnOk, OnErr, IfOk, IfSome};
+ghost use Rattle.fm_edge.specs.Runs.{Breaks};
+ghost use Rattle.fm_line.specs.Piece.{piece};
+ghost use Rattle.fm_program.specs.Process.{plan_lines};
+ghost use Rattle.fm_smf.specs.Track.{events_bytes};
+ghost use Rattle.fm_smf.specs.Writing.{Writes, just_begun};
+ghost use Rattle.fm_round.specs.Hands.{AreHands, MayRun};
+ghost use Rattle.fm_round.specs.Rounds.{AreOpened};
+ghost use Rattle.fm_round.specs.Lanes.{AllAtEnd, RunsAll};
+
+use crate::begin::{begin_first, begin_next};
+use crate::lane::Lane;
+use crate::least::least;
+use crate::release::release;
+use crate::stage::Stage;
+use fm_edge::Sink;
+use fm_smf::{SinkFault, Writer};
+use fm_strand::Plan;
+
+/// Plays all rounds, whoever runs them: a call of `hands` gives each process one quantum, up to a
+/// limit. Says how many events these are.
+pub fn play_rounds<H: Fn(&Plan, u64, &[u32], &mut [Lane]), K: Sink>(
+    hands: &H,
+    plan: &Plan,
+    stage: &mut Stage,
+    lanes: &mut [Lane],
+    writer: &mut Writer,
+    sink: &mut K,
+) -> Result<u64, SinkFault>
+    requires hands { AreHands H.Fn hands.now }
+    requires opened { AreOpened plan.now stage.old lanes.old }
+    requires begun { writer.old ≡ just_begun plan.now.profile }
+    requires at_end { IfSome (K.content sink.old) (λ c. length c ≡ writer.old.put) }
+    ensures ended { OnOk result (AllAtEnd plan.now lanes.new) }
+    ensures count { IfOk result (λ n. n ≡ length (piece (plan_lines plan.now))) }
+    ensures ok { OnOk result (Writes K.content K.sure K.faults
+        sink.old sink.new (piece (plan_lines plan.now)) writer.old writer.new) }
+    ensures err { OnErr result (Breaks K.content K.sure K.faults
+        sink.old sink.new (events_bytes writer.old.state (piece (plan_lines plan.now)))) }
+{
+    let mut events = 0;
+    begin_first(plan, &mut stage.watch, lanes);
+    while let Some(next) = least(plan, &stage.watch.next, lanes) {
+        let gather = &mut stage.gather;
+        events += release(Some(next), &stage.watch.next, lanes, gather, writer, sink)?;
+        let limit = next.0.saturating_add(stage.lead);
+        run_round(hands, plan, limit, &stage.watch.next, lanes);
+        begin_next(plan, &mut stage.watch, lanes);
+    }
+    let gather = &mut stage.gather;
+    events += release(None, &stage.watch.next, lanes, gather, writer, sink)?;
+    Ok(events)
+}
+
+// One quantum of each process up to the limit.
+fn run_round<H: Fn(&Plan, u64, &[u32], &mut [Lane])>(
+    hands: &H,
+    plan: &Plan,
+    limit: u64,
+    next: &[u32],
+    lanes: &mut [Lane],
+)
+    requires hands { AreHands H.Fn hands.now }
+    requires may { MayRun plan.now next.now lanes.old }
+    ensures { RunsAll plan.now limit lanes.old lanes.new }
+{
+    hands(plan, limit, next, lanes);
+}
