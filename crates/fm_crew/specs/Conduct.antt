@@ -1,6 +1,7 @@
 -- What a conductor's passes need and leave.
 use Rattle.std.specs.Prelude.{◌≡◌, ℕ, ◌-◌, ◌*◌, ◌<◌, ◌≤◌, List, [], length, take, true, false, Option, IfSome}
 use Rattle.atomic_table.specs.Seated.{TableId}
+use Rattle.fm_edge.specs.Seen.{SinkSeen}
 use Rattle.fm_msg.specs.Event.{TimedMessage}
 use Rattle.fm_line.specs.Line.{line}
 use Rattle.fm_line.specs.Piece.{piece}
@@ -102,7 +103,7 @@ pub record IsConductor (t : TableId) (a : About) (s : Sight) : Type 0 where
   pub idle : IsIdle t a s
   pub conductor : s.mind.view.number ≡ 0
 
-module _ {K : Type 0} (content : K → Option (List ℕ)) (sure : K → Option ℕ) (faults : K → ℕ) where
+module _ {K : Type 0} (seen : SinkSeen K) where
   -- the next events were released and written
   pub record WritesNext (old new : View) (gather gather' : EventGather) (begin now : K) (writer writer' : Written)
       (n : ℕ) : Type 0 where
@@ -112,14 +113,14 @@ module _ {K : Type 0} (content : K → Option (List ℕ)) (sure : K → Option �
     pub many : length events ≡ length gather.events
     pub cleared : gather' ≡ record gather { events = [] }
     pub count : n ≡ length events
-    pub writes : Writes content sure faults begin now events writer writer'
+    pub writes : Writes seen begin now events writer writer'
 
   -- the next events were released, and the sink failed before all were written
   pub record BreaksNext (old new : View) (begin now : K) (writer : Written) : Type 0 where
     pub events : List TimedMessage
     pub releases : Releases old events
     pub view : new ≡ released old (length events)
-    pub breaks : Breaks content sure faults begin now (events_bytes writer.state events)
+    pub breaks : Breaks seen begin now (events_bytes writer.state events)
 
   -- a conductor that has visited what is due, and can put what comes next into the sink
   pub record CanRelease (t : TableId) (a : About) (c : Conductor) (due : Due) (begin : K) (writer : Written)
@@ -132,7 +133,7 @@ module _ {K : Type 0} (content : K → Option (List ℕ)) (sure : K → Option �
     pub none : is_due due ≡ false → c.gather.events ≡ []
     pub within : c.seat.mind.view.released ≤ length (piece (lines_of c.seat.mind.view))
     pub follow : (events : List TimedMessage) → Releases c.seat.mind.view events → CanFollow writer events
-    pub at_end : IfSome (content begin) (λ c. length c ≡ writer.put)
+    pub at_end : IfSome (seen.content begin) (λ c. length c ≡ writer.put)
 
   -- between two passes: what the seat counts as released is what the sink holds
   pub record Conducting (a : About) (v : View) (gather : EventGather) (due : Due) (limit : ℕ) (start now : K)
@@ -142,5 +143,5 @@ module _ {K : Type 0} (content : K → Option (List ℕ)) (sure : K → Option �
     pub done : due ≡ Everything → v.published ≡ Done
     pub many : events ≡ v.released
     pub within : v.released ≤ length (piece (lines_of v))
-    pub writes : Writes content sure faults start now (take v.released (piece (lines_of v))) first writer
-    pub at_end : IfSome (content now) (λ c. length c ≡ writer.put)
+    pub writes : Writes seen start now (take v.released (piece (lines_of v))) first writer
+    pub at_end : IfSome (seen.content now) (λ c. length c ≡ writer.put)

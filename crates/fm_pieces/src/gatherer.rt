@@ -41,9 +41,9 @@ impl Gatherer {
     /// Takes a byte more, and puts the piece that is full with it. After an `Err` some front of
     /// what is gathered and the byte was put, and the gatherer is of no more use.
     pub fn push<K: Sink>(&mut self, byte: u8, sink: &mut K) -> Result<(), Failed>
-        ensures ok { OnOk result (Passes K.content K.sure K.faults
+        ensures ok { OnOk result (Passes K.seen
             sink.old sink.new self.old self.new (byte ∷ [])) }
-        ensures err { OnErr result (Breaks K.content K.sure K.faults
+        ensures err { OnErr result (Breaks K.seen
             sink.old sink.new (self.old ++ byte ∷ [])) }
     {
         self.bytes.push(byte);
@@ -58,9 +58,9 @@ impl Gatherer {
     /// Takes these bytes, and puts each piece that is full with them. After an `Err` some front of
     /// what is gathered and the bytes was put, and the gatherer is of no more use.
     pub fn push_all<K: Sink>(&mut self, bytes: &[u8], sink: &mut K) -> Result<(), Failed>
-        ensures ok { OnOk result (Passes K.content K.sure K.faults
+        ensures ok { OnOk result (Passes K.seen
             sink.old sink.new self.old self.new bytes.now) }
-        ensures err { OnErr result (Breaks K.content K.sure K.faults
+        ensures err { OnErr result (Breaks K.seen
             sink.old sink.new (self.old ++ bytes.now)) }
     {
         for byte in bytes {
@@ -72,8 +72,8 @@ impl Gatherer {
     /// Puts what is gathered, which is less than a piece; where it is nothing, no call is made.
     /// After an `Err` some front of it was put.
     pub fn finish<K: Sink>(self, sink: &mut K) -> Result<(), Failed>
-        ensures ok { OnOk result (Puts K.content K.sure K.faults sink.old sink.new self) }
-        ensures err { OnErr result (Breaks K.content K.sure K.faults sink.old sink.new self) }
+        ensures ok { OnOk result (Puts K.seen sink.old sink.new self) }
+        ensures err { OnErr result (Breaks K.seen sink.old sink.new self) }
     {
         if self.bytes.is_empty() {
             Ok(())

@@ -30,10 +30,10 @@ pub fn play<R: Threads + Wait + Sync, G: Gate + Sync, K: Sink>(
     sink: &mut K,
 ) -> Result<Played, RunFault>
     requires ranges { HasRanges (options_view options.now) }
-    requires new { IsNew (K.content sink.old) }
-    ensures ok { OnOk result (IsFinished K.content K.sure K.faults sink.old sink.new
+    requires new { IsNew (K.seen.content sink.old) }
+    ensures ok { OnOk result (IsFinished K.seen sink.old sink.new
         plan.profile (piece (plan_lines plan)) (piece_end (plan_lines plan))) }
-    ensures err { IfErr result (StopsAt K.Sink sink.old sink.new plan) }
+    ensures err { IfErr result (StopsAt K.seen sink.old sink.new plan) }
     ensures played { IfOk result (λ played. played ≡ played_of plan) }
 {
     if options.workers == 0 {
@@ -53,10 +53,10 @@ fn play_alone<K: Sink>(
     sink: &mut K,
 ) -> Result<Played, RunFault>
     requires ranges { HasRanges (options_view options.now) }
-    requires new { IsNew (K.content sink.old) }
-    ensures ok { OnOk result (IsFinished K.content K.sure K.faults sink.old sink.new
+    requires new { IsNew (K.seen.content sink.old) }
+    ensures ok { OnOk result (IsFinished K.seen sink.old sink.new
         plan.profile (piece (plan_lines plan)) (piece_end (plan_lines plan))) }
-    ensures err { IfErr result (StopsAt K.Sink sink.old sink.new plan) }
+    ensures err { IfErr result (StopsAt K.seen sink.old sink.new plan) }
     ensures played { IfOk result (λ played. played ≡ played_of plan) }
 {
     let rounds = Rounds::open(alloc, plan, options.room, options.lead)?;
@@ -73,10 +73,10 @@ fn play_in_rounds<R: Threads + Sync, G: Gate + Sync, K: Sink>(
     sink: &mut K,
 ) -> Result<Played, RunFault>
     requires ranges { HasRanges (options_view options.now) }
-    requires new { IsNew (K.content sink.old) }
-    ensures ok { OnOk result (IsFinished K.content K.sure K.faults sink.old sink.new
+    requires new { IsNew (K.seen.content sink.old) }
+    ensures ok { OnOk result (IsFinished K.seen sink.old sink.new
         plan.profile (piece (plan_lines plan)) (piece_end (plan_lines plan))) }
-    ensures err { IfErr result (StopsAt K.Sink sink.old sink.new plan) }
+    ensures err { IfErr result (StopsAt K.seen sink.old sink.new plan) }
     ensures played { IfOk result (λ played. played ≡ played_of plan) }
 {
     let rounds = Rounds::open(alloc, plan, options.room, options.lead)?;
@@ -93,10 +93,10 @@ fn play_by_crew<R: Threads + Wait + Sync, G: Gate + Sync, K: Sink>(
     sink: &mut K,
 ) -> Result<Played, RunFault>
     requires ranges { HasRanges (options_view options.now) }
-    requires new { IsNew (K.content sink.old) }
-    ensures ok { OnOk result (IsFinished K.content K.sure K.faults sink.old sink.new
+    requires new { IsNew (K.seen.content sink.old) }
+    ensures ok { OnOk result (IsFinished K.seen sink.old sink.new
         plan.profile (piece (plan_lines plan)) (piece_end (plan_lines plan))) }
-    ensures err { IfErr result (StopsAt K.Sink sink.old sink.new plan) }
+    ensures err { IfErr result (StopsAt K.seen sink.old sink.new plan) }
     ensures played { IfOk result (λ played. played ≡ played_of plan) }
 {
     // A plan of one process has nothing to run beside it.
