@@ -4,7 +4,7 @@ ghost use Rattle.fm_edge.specs.Runs.{Puts, Breaks};
 ghost use Rattle.fm_pieces.specs.Gathered.{Passes};
 
 use arrayvec::ArrayVec;
-use fm_edge::{Failed, Sink};
+use fm_edge::{Append, Failed};
 use std::marker::Model;
 
 /// How many bytes a piece has that is put before the end.
@@ -40,7 +40,7 @@ impl Gatherer {
 
     /// Takes a byte more, and puts the piece that is full with it. After an `Err` some front of
     /// what is gathered and the byte was put, and the gatherer is of no more use.
-    pub fn push<K: Sink>(&mut self, byte: u8, sink: &mut K) -> Result<(), Failed>
+    pub fn push<K: Append>(&mut self, byte: u8, sink: &mut K) -> Result<(), Failed>
         ensures ok { OnOk result (Passes K.seen
             sink.old sink.new self.old self.new (byte ∷ [])) }
         ensures err { OnErr result (Breaks K.seen
@@ -57,7 +57,7 @@ impl Gatherer {
 
     /// Takes these bytes, and puts each piece that is full with them. After an `Err` some front of
     /// what is gathered and the bytes was put, and the gatherer is of no more use.
-    pub fn push_all<K: Sink>(&mut self, bytes: &[u8], sink: &mut K) -> Result<(), Failed>
+    pub fn push_all<K: Append>(&mut self, bytes: &[u8], sink: &mut K) -> Result<(), Failed>
         ensures ok { OnOk result (Passes K.seen
             sink.old sink.new self.old self.new bytes.now) }
         ensures err { OnErr result (Breaks K.seen
@@ -71,7 +71,7 @@ impl Gatherer {
 
     /// Puts what is gathered, which is less than a piece; where it is nothing, no call is made.
     /// After an `Err` some front of it was put.
-    pub fn finish<K: Sink>(self, sink: &mut K) -> Result<(), Failed>
+    pub fn finish<K: Append>(self, sink: &mut K) -> Result<(), Failed>
         ensures ok { OnOk result (Puts K.seen sink.old sink.new self) }
         ensures err { OnErr result (Breaks K.seen sink.old sink.new self) }
     {
