@@ -1,6 +1,7 @@
 -- A publish, and a release where nothing is due.
 use Rattle.std.proofs.Common.{◌≡◌, ℕ, ◌≤◌, Bool, true, false, List, [], length, take, Option, refl, sym, ap, ◌∙◌, arith, append-nil}
 use Rattle.std.proofs.lemmas.Bool.{both_ways}
+use Rattle.fm_edge.specs.Seen.{SinkSeen}
 use Rattle.fm_msg.specs.Event.{TimedMessage}
 use Rattle.fm_line.specs.Piece.{piece}
 use Rattle.fm_core.specs.Floors.{floor_of}
@@ -56,14 +57,14 @@ same_view v none empty =
     ∙ ap (λ n. record v { due = Nothing; gathered = []; released = n }) (omega arith))
 
 -- and nothing is written
-pub writes_nothing : {K : Type 0} (content : K → Option (List ℕ)) (sure : K → Option ℕ) (faults : K → ℕ) (c : Conductor) (now : K)
+pub writes_nothing : {K : Type 0} (seen : SinkSeen K) (c : Conductor) (now : K)
     (w : Written) → is_due c.seat.mind.view.due ≡ false → c.seat.mind.view.gathered ≡ [] → c.gather.events ≡ []
-    → c.seat.mind.view.released ≤ length (piece (lines_of c.seat.mind.view)) → WritesNext content sure faults c c now now w w 0
-writes_nothing content sure faults c now w none empty cleared within = record {
+    → c.seat.mind.view.released ≤ length (piece (lines_of c.seat.mind.view)) → WritesNext seen c c now now w w 0
+writes_nothing seen c now w none empty cleared within = record {
   events = [];
   next = record { releases = releases_none c.seat.mind.view none within; view = same_view c.seat.mind.view none empty };
   gathered = sym (ap length cleared);
   cleared = ap (λ xs. record c.gather { events = xs }) cleared;
   count = refl;
-  writes = writes_none content sure faults now w;
+  writes = writes_none seen now w;
 }

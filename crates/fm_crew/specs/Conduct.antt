@@ -1,6 +1,7 @@
 -- What a conductor's passes need and leave.
 use Rattle.std.specs.Prelude.{◌≡◌, ℕ, ◌-◌, ◌*◌, ◌<◌, ◌≤◌, List, [], length, true, false, Option, IfSome}
 use Rattle.atomic_table.specs.Seated.{TableId}
+use Rattle.fm_edge.specs.Seen.{SinkSeen}
 use Rattle.fm_msg.specs.Event.{TimedMessage}
 use Rattle.fm_line.specs.Line.{line}
 use Rattle.fm_line.specs.Piece.{piece}
@@ -117,7 +118,7 @@ pub record ReleasesNext (old new : View) (events : List TimedMessage) : Type 0 w
   pub releases : Releases old events
   pub view : new ≡ released old (length events)
 
-module _ {K : Type 0} (content : K → Option (List ℕ)) (sure : K → Option ℕ) (faults : K → ℕ) where
+module _ {K : Type 0} (seen : SinkSeen K) where
   -- the next events were released and written, and the gather is empty
   pub record WritesNext (old new : Conductor) (begin now : K) (writer writer' : Written) (n : ℕ) : Type 0 where
     pub events : List TimedMessage
@@ -125,19 +126,19 @@ module _ {K : Type 0} (content : K → Option (List ℕ)) (sure : K → Option �
     pub gathered : length events ≡ length old.gather.events
     pub cleared : new.gather ≡ record old.gather { events = [] }
     pub count : n ≡ length events
-    pub writes : Writes content sure faults begin now events writer writer'
+    pub writes : Writes seen begin now events writer writer'
 
   -- the next events were released, and the sink failed before all were written
   pub record BreaksNext (old new : Conductor) (begin now : K) (writer : Written) : Type 0 where
     pub events : List TimedMessage
     pub next : ReleasesNext old.seat.mind.view new.seat.mind.view events
-    pub breaks : Breaks content sure faults begin now (events_bytes writer.state events)
+    pub breaks : Breaks seen begin now (events_bytes writer.state events)
 
   -- what comes next can be put into the sink
   pub record CanPutNext (v : View) (begin : K) (writer : Written) : Type 0 where
     pub within : v.released ≤ length (piece (lines_of v))
     pub follow : (events : List TimedMessage) → Releases v events → CanFollow writer events
-    pub at_end : IfSome (content begin) (λ c. length c ≡ writer.put)
+    pub at_end : IfSome (seen.content begin) (λ c. length c ≡ writer.put)
 
   -- a conductor that has visited what is due, and can put what comes next into the sink
   pub record CanRelease (t : TableId) (a : About) (c : Conductor) (due : Due) (begin : K) (writer : Written)

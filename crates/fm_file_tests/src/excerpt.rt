@@ -123,7 +123,7 @@ fn excerpt_of<K: Sink>(
     until: Option<u64>,
     sink: &mut K,
 ) -> Option<u64>
-    requires new { IsNew (K.content sink.old) }
+    requires new { IsNew (K.seen.content sink.old) }
     requires small { length bytes.now ≤ MAX_FILE }
     requires written { (c : Contents) → contents bytes.now ≡ Ok c → HasExcerpts profile.now c }
 {
@@ -143,7 +143,7 @@ fn excerpt_again<K: Sink>(
     sink: &mut K,
 ) -> Option<u64>
     requires empty { memory.old.content ≡ [] }
-    requires new { IsNew (K.content sink.old) }
+    requires new { IsNew (K.seen.content sink.old) }
     requires small { length bytes.now ≤ MAX_FILE }
     requires written { (c : Contents) → contents bytes.now ≡ Ok c → HasExcerpts profile.now c }
 {

@@ -3,7 +3,7 @@ ghost use Rattle.std.specs.Prelude.{◌≤◌, length};
 
 use crate::memory::memory_of;
 use crate::same::{same, same_bytes};
-use fm_edge::Sink;
+use fm_edge::Append;
 use fm_listing::list;
 use fm_read::{MAX_FILE, read};
 use std::alloc::AllocError;
@@ -46,7 +46,7 @@ format 1 tracks 2 division 96
 ";
 
 // One caller: the listing of bytes that are a file.
-fn list_bytes<K: Sink>(bytes: &[u8], sink: &mut K) -> bool
+fn list_bytes<K: Append>(bytes: &[u8], sink: &mut K) -> bool
     requires { length bytes.now ≤ MAX_FILE }
 {
     match read(bytes) {

@@ -6,7 +6,7 @@ ghost use Rattle.fm_read.specs.WrittenFile.{IsWritten};
 
 use crate::memory::memory_of;
 use crate::same::{same, same_bytes};
-use fm_edge::Sink;
+use fm_edge::Append;
 use fm_parts::split;
 use fm_read::{MAX_FILE, read};
 use std::alloc::AllocError;
@@ -56,7 +56,7 @@ const RUNNING_PARTS: [u8; 68] = [
 ];
 
 // One caller: the parts of the bytes of a file.
-fn parts_of<K: Sink>(bytes: &[u8], sink: &mut K) -> Option<u64>
+fn parts_of<K: Append>(bytes: &[u8], sink: &mut K) -> Option<u64>
     requires small { length bytes.now ≤ MAX_FILE }
     requires written { (c : Contents) → contents bytes.now ≡ Ok c → IsWritten c }
 {

@@ -4,16 +4,16 @@ ghost use Rattle.fm_edge.specs.Runs.{Puts, Breaks};
 
 use crate::memory::memory_of;
 use crate::same::{same, same_bytes};
-use fm_edge::{Failed, Sink};
+use fm_edge::{Append, Failed};
 use fm_pieces::{Gatherer, PIECE_LENGTH};
 use std::alloc::{AllocError, Global};
 
 // One caller: a title and a text, gathered.
-fn put_gathered<K: Sink>(title: u8, text: &[u8], sink: &mut K) -> Result<(), Failed>
+fn put_gathered<K: Append>(title: u8, text: &[u8], sink: &mut K) -> Result<(), Failed>
     ensures ok { OnOk result
-        (Puts K.content K.sure K.faults sink.old sink.new (title ∷ [] ++ text.now)) }
+        (Puts K.seen sink.old sink.new (title ∷ [] ++ text.now)) }
     ensures err { OnErr result
-        (Breaks K.content K.sure K.faults sink.old sink.new (title ∷ [] ++ text.now)) }
+        (Breaks K.seen sink.old sink.new (title ∷ [] ++ text.now)) }
 {
     let mut out = Gatherer::new();
     out.push(title, sink)?;

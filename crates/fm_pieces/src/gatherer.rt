@@ -4,7 +4,7 @@ ghost use Rattle.fm_edge.specs.Runs.{Puts, Breaks};
 ghost use Rattle.fm_pieces.specs.Gathered.{Passes};
 
 use arrayvec::ArrayVec;
-use fm_edge::{Failed, Sink};
+use fm_edge::{Append, Failed};
 use std::marker::Model;
 
 /// How many bytes a piece has that is put before the end.
@@ -40,10 +40,10 @@ impl Gatherer {
 
     /// Takes a byte more, and puts the piece that is full with it. After an `Err` some front of
     /// what is gathered and the byte was put, and the gatherer is of no more use.
-    pub fn push<K: Sink>(&mut self, byte: u8, sink: &mut K) -> Result<(), Failed>
-        ensures ok { OnOk result (Passes K.content K.sure K.faults
+    pub fn push<K: Append>(&mut self, byte: u8, sink: &mut K) -> Result<(), Failed>
+        ensures ok { OnOk result (Passes K.seen
             sink.old sink.new self.old self.new (byte ∷ [])) }
-        ensures err { OnErr result (Breaks K.content K.sure K.faults
+        ensures err { OnErr result (Breaks K.seen
             sink.old sink.new (self.old ++ byte ∷ [])) }
     {
         self.bytes.push(byte);
@@ -57,10 +57,10 @@ impl Gatherer {
 
     /// Takes these bytes, and puts each piece that is full with them. After an `Err` some front of
     /// what is gathered and the bytes was put, and the gatherer is of no more use.
-    pub fn push_all<K: Sink>(&mut self, bytes: &[u8], sink: &mut K) -> Result<(), Failed>
-        ensures ok { OnOk result (Passes K.content K.sure K.faults
+    pub fn push_all<K: Append>(&mut self, bytes: &[u8], sink: &mut K) -> Result<(), Failed>
+        ensures ok { OnOk result (Passes K.seen
             sink.old sink.new self.old self.new bytes.now) }
-        ensures err { OnErr result (Breaks K.content K.sure K.faults
+        ensures err { OnErr result (Breaks K.seen
             sink.old sink.new (self.old ++ bytes.now)) }
     {
         for byte in bytes {
@@ -71,9 +71,9 @@ impl Gatherer {
 
     /// Puts what is gathered, which is less than a piece; where it is nothing, no call is made.
     /// After an `Err` some front of it was put.
-    pub fn finish<K: Sink>(self, sink: &mut K) -> Result<(), Failed>
-        ensures ok { OnOk result (Puts K.content K.sure K.faults sink.old sink.new self) }
-        ensures err { OnErr result (Breaks K.content K.sure K.faults sink.old sink.new self) }
+    pub fn finish<K: Append>(self, sink: &mut K) -> Result<(), Failed>
+        ensures ok { OnOk result (Puts K.seen sink.old sink.new self) }
+        ensures err { OnErr result (Breaks K.seen sink.old sink.new self) }
     {
         if self.bytes.is_empty() {
             Ok(())

@@ -31,12 +31,12 @@ pub fn play_rounds<H: Fn(&Plan, u64, &[u32], &mut [Lane]), K: Sink>(
     requires hands { AreHands H.Fn hands.now }
     requires opened { AreOpened plan.now stage.old lanes.old }
     requires begun { writer.old ≡ just_begun plan.now.profile }
-    requires at_end { IfSome (K.content sink.old) (λ c. length c ≡ writer.old.put) }
+    requires at_end { IfSome (K.seen.content sink.old) (λ c. length c ≡ writer.old.put) }
     ensures ended { OnOk result (AllAtEnd plan.now lanes.new) }
     ensures count { IfOk result (λ n. n ≡ length (piece (plan_lines plan.now))) }
-    ensures ok { OnOk result (Writes K.content K.sure K.faults
+    ensures ok { OnOk result (Writes K.seen
         sink.old sink.new (piece (plan_lines plan.now)) writer.old writer.new) }
-    ensures err { OnErr result (Breaks K.content K.sure K.faults
+    ensures err { OnErr result (Breaks K.seen
         sink.old sink.new (events_bytes writer.old.state (piece (plan_lines plan.now)))) }
 {
     let mut events = 0;

@@ -6,6 +6,7 @@ pub mod Products
 pub mod Audits
 pub mod Taking
 pub mod Outcome
+pub mod OverFiles
 pub mod Summing
 pub mod Schedules
 pub mod Verdicts

@@ -1,7 +1,7 @@
 //! A file in memory that grows as it is written.
 ghost use Rattle.std.specs.Prelude.{◌≡◌, [], Some, None};
 
-use fm_edge::{Failed, Sink};
+use fm_edge::{Append, Failed, Sink};
 use std::alloc::Global;
 
 /// A sink in memory, which takes memory as it is filled. A put that finds none fails.
@@ -30,12 +30,12 @@ impl GrowingSink {
     }
 }
 
-impl Sink for GrowingSink {
-    ghost content = { λ sink. Some sink.bytes.items };
-
-    ghost sure = { λ _. None };
-
-    ghost faults = { λ sink. sink.faults };
+impl Append for GrowingSink {
+    ghost seen = { record {
+        content = λ sink. Some sink.bytes.items;
+        sure = λ _. None;
+        faults = λ sink. sink.faults;
+    } };
 
     fn put(&mut self, piece: &[u8]) -> Result<(), Failed> {
         match self.bytes.extend_from_slice(piece) {
@@ -46,7 +46,9 @@ impl Sink for GrowingSink {
             }
         }
     }
+}
 
+impl Sink for GrowingSink {
     fn patch(&mut self, at: u64, bytes: &[u8; 4]) -> Result<(), Failed> {
         let at = at as usize;
         self.bytes[at..at + bytes.len()].copy_from_slice(bytes);

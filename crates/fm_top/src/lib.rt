@@ -11,6 +11,7 @@
 mod audits;
 mod excerpt;
 mod growing;
+mod headline;
 mod input;
 mod judge;
 mod laws;
@@ -30,5 +31,6 @@ mod told;
 mod top;
 
 pub use fm_words::{WordsFault, names};
-pub use laws::{each_input_has_one_verdict, same_file_for_every_schedule};
+pub use headline::formula_over;
+pub use laws::{each_input_has_one_verdict, one_text_has_one_file, same_file_for_every_schedule};
 pub use top::formula;

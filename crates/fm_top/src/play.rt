@@ -27,9 +27,9 @@ pub fn play<R: Threads + Wait + Sync, G: Gate + Sync, K: Sink>(
     sink: &mut K,
 ) -> Result<Played, RunFault>
     requires ranges { HasRanges (options_view options.now) }
-    requires new { IsNew (K.content sink.old) }
-    ensures played { IfOk result (HasWholeFile K.content K.sure K.faults sink.old sink.new plan) }
-    ensures err { IfErr result (StopsAt K.Sink sink.old sink.new plan) }
+    requires new { IsNew (K.seen.content sink.old) }
+    ensures played { IfOk result (HasWholeFile K.seen sink.old sink.new plan) }
+    ensures err { IfErr result (StopsAt K.seen sink.old sink.new plan) }
 {
     if options.workers == 0 {
         play_alone(alloc, plan, options, sink)
@@ -50,9 +50,9 @@ fn play_alone<K: Sink>(
     sink: &mut K,
 ) -> Result<Played, RunFault>
     requires ranges { HasRanges (options_view options.now) }
-    requires new { IsNew (K.content sink.old) }
-    ensures played { IfOk result (HasWholeFile K.content K.sure K.faults sink.old sink.new plan) }
-    ensures err { IfErr result (StopsAt K.Sink sink.old sink.new plan) }
+    requires new { IsNew (K.seen.content sink.old) }
+    ensures played { IfOk result (HasWholeFile K.seen sink.old sink.new plan) }
+    ensures err { IfErr result (StopsAt K.seen sink.old sink.new plan) }
 {
     let rounds = Rounds::open(alloc, plan, options.room, options.lead)?;
     Ok(rounds.play_alone(sink)?)
@@ -67,9 +67,9 @@ fn conduct_only<G: Gate, K: Sink>(
     sink: &mut K,
 ) -> Result<Played, RunFault>
     requires ranges { HasRanges (options_view options.now) }
-    requires new { IsNew (K.content sink.old) }
-    ensures played { IfOk result (HasWholeFile K.content K.sure K.faults sink.old sink.new plan) }
-    ensures err { IfErr result (StopsAt K.Sink sink.old sink.new plan) }
+    requires new { IsNew (K.seen.content sink.old) }
+    ensures played { IfOk result (HasWholeFile K.seen sink.old sink.new plan) }
+    ensures err { IfErr result (StopsAt K.seen sink.old sink.new plan) }
 {
     let (board, mut conductor, _others) = fm_crew::open(
         alloc,
@@ -91,9 +91,9 @@ fn play_in_rounds<R: Threads + Sync, G: Gate + Sync, K: Sink>(
     sink: &mut K,
 ) -> Result<Played, RunFault>
     requires ranges { HasRanges (options_view options.now) }
-    requires new { IsNew (K.content sink.old) }
-    ensures played { IfOk result (HasWholeFile K.content K.sure K.faults sink.old sink.new plan) }
-    ensures err { IfErr result (StopsAt K.Sink sink.old sink.new plan) }
+    requires new { IsNew (K.seen.content sink.old) }
+    ensures played { IfOk result (HasWholeFile K.seen sink.old sink.new plan) }
+    ensures err { IfErr result (StopsAt K.seen sink.old sink.new plan) }
 {
     let rounds = Rounds::open(alloc, plan, options.room, options.lead)?;
     Ok(rounds.play(rt, options.workers, gate, sink)?)
@@ -109,9 +109,9 @@ fn play_by_crew<R: Threads + Wait + Sync, G: Gate + Sync, K: Sink>(
     sink: &mut K,
 ) -> Result<Played, RunFault>
     requires ranges { HasRanges (options_view options.now) }
-    requires new { IsNew (K.content sink.old) }
-    ensures played { IfOk result (HasWholeFile K.content K.sure K.faults sink.old sink.new plan) }
-    ensures err { IfErr result (StopsAt K.Sink sink.old sink.new plan) }
+    requires new { IsNew (K.seen.content sink.old) }
+    ensures played { IfOk result (HasWholeFile K.seen sink.old sink.new plan) }
+    ensures err { IfErr result (StopsAt K.seen sink.old sink.new plan) }
 {
     let (board, mut conductor, others) = fm_crew::open(
         alloc,

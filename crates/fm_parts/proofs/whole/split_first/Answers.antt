@@ -18,7 +18,7 @@ returns-in_err-push_all-clause-err g c =
     let chunks = flat_map track_chunk (channel_tracks CHANNELS (decoded 0 (first_track c.args.file.now)) c.tally_of-tally.result.1) in
     let tempo = track_chunk (tempo_track c.tally_of-tally.result.1) in
     on_err c.from_residual.result
-    (breaks_all _ _ _ _ _ [] (format1_header (1 + c.tracks.result) c.args.file.now.division) (tempo ++ chunks) _
+    (breaks_all _ _ _ [] (format1_header (1 + c.tracks.result) c.args.file.now.division) (tempo ++ chunks) _
     (sym (append_assoc (format1_header (1 + c.tracks.result) c.args.file.now.division) tempo chunks) ∙ sym whole)
     (rw (head, c.new-out.ensures) at c.in_err-push_all.ensures.err))
 
@@ -31,8 +31,8 @@ returns-in_err-tempo-clause-err g c =
     let chunks = flat_map track_chunk (channel_tracks CHANNELS (decoded 0 (first_track c.args.file.now)) c.tally_of-tally.result.1) in
     let tempo = track_chunk (tempo_track c.tally_of-tally.result.1) in
     on_err c.from_residual-in_err-tempo.result
-    (breaks_all _ _ _ _ _ [] (format1_header (1 + c.tracks.result) c.args.file.now.division ++ tempo) chunks _ (sym whole)
-    (pass_breaks _ _ _ _ _ _ _ _ _ _ (rw (head, c.new-out.ensures) at c.in_ok-push_all.ensures.ok) c.in_err-tempo.ensures.err))
+    (breaks_all _ _ _ [] (format1_header (1 + c.tracks.result) c.args.file.now.division ++ tempo) chunks _ (sym whole)
+    (pass_breaks _ _ _ _ _ _ _ _ (rw (head, c.new-out.ensures) at c.in_ok-push_all.ensures.ok) c.in_err-tempo.ensures.err))
 
 pub returns-in_err-channels-clause-err : goal.returns-in_err-channels-clause-err
 returns-in_err-channels-clause-err g c =
@@ -41,8 +41,8 @@ returns-in_err-channels-clause-err g c =
     let whole = split_parts c.args.file.now c.tally_of-tally.result.1 c.tracks.result at_end count in
     let head = rw c.division.ensures.value at c.header.ensures in
     on_err c.from_residual-in_err-channels.result
-    (parts_break _ _ _ _ _ _ _ _ _ _ _ whole
-    (pass_after _ _ _ _ _ _ _ _ _ _ _ (rw (head, c.new-out.ensures) at c.in_ok-push_all.ensures.ok) c.in_ok-tempo.ensures.ok)
+    (parts_break _ _ _ _ _ _ _ _ _ whole
+    (pass_after _ _ _ _ _ _ _ _ _ (rw (head, c.new-out.ensures) at c.in_ok-push_all.ensures.ok) c.in_ok-tempo.ensures.ok)
     c.in_err-channels.ensures.err)
 
 pub returns-in_err-finish-clause-err : goal.returns-in_err-finish-clause-err
@@ -52,9 +52,9 @@ returns-in_err-finish-clause-err g c =
     let whole = split_parts c.args.file.now c.tally_of-tally.result.1 c.tracks.result at_end count in
     let head = rw c.division.ensures.value at c.header.ensures in
     on_err c.from_residual-in_err-finish.result
-    (pass_finish_breaks _ _ _ _ _ _ _ _
-    (pass_parts _ _ _ _ _ _ _ _ _ _ _ _ whole
-    (pass_after _ _ _ _ _ _ _ _ _ _ _ (rw (head, c.new-out.ensures) at c.in_ok-push_all.ensures.ok) c.in_ok-tempo.ensures.ok)
+    (pass_finish_breaks _ _ _ _ _ _
+    (pass_parts _ _ _ _ _ _ _ _ _ _ whole
+    (pass_after _ _ _ _ _ _ _ _ _ (rw (head, c.new-out.ensures) at c.in_ok-push_all.ensures.ok) c.in_ok-tempo.ensures.ok)
     c.in_ok-channels.ensures.ok)
     c.in_err-finish.ensures.err)
 
@@ -75,8 +75,8 @@ returns-clause-ok g c =
     let count = c.tracks.ensures.value _ _ (rw c.first_track.ensures.value at c.tally_of-tally.ensures.tally) in
     let whole = split_parts c.args.file.now c.tally_of-tally.result.1 c.tracks.result at_end count in
     let head = rw c.division.ensures.value at c.header.ensures in
-    pass_finish _ _ _ _ _ _ _ _
-    (pass_parts _ _ _ _ _ _ _ _ _ _ _ _ whole
-    (pass_after _ _ _ _ _ _ _ _ _ _ _ (rw (head, c.new-out.ensures) at c.in_ok-push_all.ensures.ok) c.in_ok-tempo.ensures.ok)
+    pass_finish _ _ _ _ _ _
+    (pass_parts _ _ _ _ _ _ _ _ _ _ whole
+    (pass_after _ _ _ _ _ _ _ _ _ (rw (head, c.new-out.ensures) at c.in_ok-push_all.ensures.ok) c.in_ok-tempo.ensures.ok)
     c.in_ok-channels.ensures.ok)
     c.in_ok-finish.ensures.ok

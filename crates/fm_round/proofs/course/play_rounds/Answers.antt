@@ -23,7 +23,7 @@ begin_first-requires g c = record {
 
 pub loop-next-init : goal.loop-next-init
 loop-next-init g c = record {
-  between = first_between g.K.Sink.content g.K.Sink.sure g.K.Sink.faults c.args.plan.now c.args.sink.now c.args.writer.now
+  between = first_between g.K.Append.seen c.args.plan.now c.args.sink.now c.args.writer.now
       c.args.lanes.now c.begin_first.new.lanes c.args.stage.now.gather c.requires.opened.room c.requires.opened.opened c.requires.at_end
       c.begin_first.ensures.starts
       c.begin_first.auto.lanes;
@@ -34,13 +34,13 @@ pub release-requires-clause-may : goal.release-requires-clause-may
 release-requires-clause-may g c = record {
   empty = c.loop-next.invariant.between.empty;
   space = c.loop-next.invariant.between.space;
-  own = due_own g.K.Sink.content g.K.Sink.sure g.K.Sink.faults c.args.plan.now c.requires.opened.opened.fits
+  own = due_own g.K.Append.seen c.args.plan.now c.requires.opened.opened.fits
       c.args.sink.now c.loop-next.sink c.args.writer.now c.loop-next.writer c.requires.begun c.loop-next.lanes c.loop-next.stage.gather
       c.loop-next.events c.loop-next.invariant.between (Some c.in-Some.next);
-  follow = follows g.K.Sink.content g.K.Sink.sure g.K.Sink.faults c.args.plan.now c.requires.opened.opened.fits
+  follow = follows g.K.Append.seen c.args.plan.now c.requires.opened.opened.fits
       c.args.sink.now c.loop-next.sink c.args.writer.now c.loop-next.writer c.requires.begun c.loop-next.lanes c.loop-next.stage.gather
       c.loop-next.events c.loop-next.invariant.between (Some c.in-Some.next)
-      (next_first g.K.Sink.content g.K.Sink.sure g.K.Sink.faults c.args.plan.now c.requires.opened.opened.fits c.args.sink.now c.loop-next.sink
+      (next_first g.K.Append.seen c.args.plan.now c.requires.opened.opened.fits c.args.sink.now c.loop-next.sink
       c.args.writer.now c.loop-next.writer c.requires.begun c.loop-next.lanes c.loop-next.stage.gather c.loop-next.events
       c.loop-next.invariant.between
       c.in-Some.next.0 c.in-Some.next.1 c.in-Some.ensures);
@@ -48,20 +48,20 @@ release-requires-clause-may g c = record {
 
 pub returns-in_err-events-clause-err : goal.returns-in_err-events-clause-err
 returns-in_err-events-clause-err g c =
-    on_err c.from_residual.result (release_breaks g.K.Sink.content g.K.Sink.sure g.K.Sink.faults c.args.plan.now c.requires.opened.opened.fits
+    on_err c.from_residual.result (release_breaks g.K.Append.seen c.args.plan.now c.requires.opened.opened.fits
     c.args.sink.now c.loop-next.sink c.args.writer.now c.loop-next.writer c.requires.begun c.loop-next.lanes c.loop-next.stage.gather
     c.loop-next.events c.loop-next.invariant.between (Some c.in-Some.next)
-    (next_first g.K.Sink.content g.K.Sink.sure g.K.Sink.faults c.args.plan.now c.requires.opened.opened.fits c.args.sink.now c.loop-next.sink
+    (next_first g.K.Append.seen c.args.plan.now c.requires.opened.opened.fits c.args.sink.now c.loop-next.sink
     c.args.writer.now c.loop-next.writer c.requires.begun c.loop-next.lanes c.loop-next.stage.gather c.loop-next.events
     c.loop-next.invariant.between
     c.in-Some.next.0 c.in-Some.next.1 c.in-Some.ensures) c.release.new.sink c.in_err-events.ensures.err)
 
 pub overflow_add-events : goal.overflow_add-events
 overflow_add-events g c =
-    let few = few_events g.K.Sink.content g.K.Sink.sure g.K.Sink.faults c.args.plan.now c.requires.opened.opened.fits c.args.sink.now
+    let few = few_events g.K.Append.seen c.args.plan.now c.requires.opened.opened.fits c.args.sink.now
     c.loop-next.sink c.args.writer.now c.loop-next.writer c.requires.begun c.loop-next.lanes c.loop-next.stage.gather c.loop-next.events
     c.loop-next.invariant.between (Some c.in-Some.next)
-    (next_first g.K.Sink.content g.K.Sink.sure g.K.Sink.faults c.args.plan.now c.requires.opened.opened.fits c.args.sink.now c.loop-next.sink
+    (next_first g.K.Append.seen c.args.plan.now c.requires.opened.opened.fits c.args.sink.now c.loop-next.sink
     c.args.writer.now c.loop-next.writer c.requires.begun c.loop-next.lanes c.loop-next.stage.gather c.loop-next.events
     c.loop-next.invariant.between
     c.in-Some.next.0 c.in-Some.next.1 c.in-Some.ensures) in
@@ -104,7 +104,7 @@ begin_next-requires-clause-awaited g c =
     c.in_ok-events.ensures.lanes c.run_round.ensures c.run_round.auto.lanes c.loop-next.invariant.between.started
 
 pub loop-next-smaller : goal.loop-next-smaller
-loop-next-smaller g c = falls g.K.Sink.content g.K.Sink.sure g.K.Sink.faults c.args.plan.now c.requires.opened.opened.fits c.args.sink.now
+loop-next-smaller g c = falls g.K.Append.seen c.args.plan.now c.requires.opened.opened.fits c.args.sink.now
     c.loop-next.sink c.args.writer.now c.loop-next.writer c.requires.begun c.loop-next.lanes c.loop-next.stage.gather c.loop-next.events
     c.loop-next.invariant.between c.in-Some.next.0 c.in-Some.next.1 c.saturating_add-limit.result c.in-Some.ensures (omega arith)
     c.release.new.sink
@@ -115,7 +115,7 @@ loop-next-smaller g c = falls g.K.Sink.content g.K.Sink.sure g.K.Sink.faults c.a
 
 pub loop-next-preserved : goal.loop-next-preserved
 loop-next-preserved g c = record {
-  between = next g.K.Sink.content g.K.Sink.sure g.K.Sink.faults c.args.plan.now c.requires.opened.opened.fits c.args.sink.now
+  between = next g.K.Append.seen c.args.plan.now c.requires.opened.opened.fits c.args.sink.now
       c.loop-next.sink c.args.writer.now c.loop-next.writer c.requires.begun c.loop-next.lanes c.loop-next.stage.gather c.loop-next.events
       c.loop-next.invariant.between c.in-Some.next.0 c.in-Some.next.1 c.saturating_add-limit.result c.in-Some.ensures (omega arith)
       c.release.new.sink
@@ -130,13 +130,13 @@ pub release-requires-2-clause-may : goal.release-requires-2-clause-may
 release-requires-2-clause-may g c = record {
   empty = c.loop-next.invariant.between.empty;
   space = c.loop-next.invariant.between.space;
-  own = due_own g.K.Sink.content g.K.Sink.sure g.K.Sink.faults c.args.plan.now c.requires.opened.opened.fits
+  own = due_own g.K.Append.seen c.args.plan.now c.requires.opened.opened.fits
       c.args.sink.now c.loop-next.sink c.args.writer.now c.loop-next.writer c.requires.begun c.loop-next.lanes c.loop-next.stage.gather
       c.loop-next.events c.loop-next.invariant.between None;
-  follow = follows g.K.Sink.content g.K.Sink.sure g.K.Sink.faults c.args.plan.now c.requires.opened.opened.fits
+  follow = follows g.K.Append.seen c.args.plan.now c.requires.opened.opened.fits
       c.args.sink.now c.loop-next.sink c.args.writer.now c.loop-next.writer c.requires.begun c.loop-next.lanes c.loop-next.stage.gather
       c.loop-next.events c.loop-next.invariant.between None
-      (last_first g.K.Sink.content g.K.Sink.sure g.K.Sink.faults c.args.plan.now c.requires.opened.opened.fits c.args.sink.now c.loop-next.sink
+      (last_first g.K.Append.seen c.args.plan.now c.requires.opened.opened.fits c.args.sink.now c.loop-next.sink
       c.args.writer.now c.loop-next.writer c.requires.begun c.loop-next.lanes c.loop-next.stage.gather c.loop-next.events
       c.loop-next.invariant.between
       c.in_default.ensures);
@@ -145,20 +145,20 @@ release-requires-2-clause-may g c = record {
 pub returns-in_err-events-2-clause-err : goal.returns-in_err-events-2-clause-err
 returns-in_err-events-2-clause-err g c =
     on_err c.from_residual-in_err-events-2.result
-    (release_breaks g.K.Sink.content g.K.Sink.sure g.K.Sink.faults c.args.plan.now c.requires.opened.opened.fits c.args.sink.now c.loop-next.sink
+    (release_breaks g.K.Append.seen c.args.plan.now c.requires.opened.opened.fits c.args.sink.now c.loop-next.sink
     c.args.writer.now c.loop-next.writer c.requires.begun c.loop-next.lanes c.loop-next.stage.gather c.loop-next.events
     c.loop-next.invariant.between None
-    (last_first g.K.Sink.content g.K.Sink.sure g.K.Sink.faults c.args.plan.now c.requires.opened.opened.fits c.args.sink.now c.loop-next.sink
+    (last_first g.K.Append.seen c.args.plan.now c.requires.opened.opened.fits c.args.sink.now c.loop-next.sink
     c.args.writer.now c.loop-next.writer c.requires.begun c.loop-next.lanes c.loop-next.stage.gather c.loop-next.events
     c.loop-next.invariant.between
     c.in_default.ensures) c.release-2.new.sink c.in_err-events-2.ensures.err)
 
 pub overflow_add-events-2 : goal.overflow_add-events-2
 overflow_add-events-2 g c =
-    let few = few_events g.K.Sink.content g.K.Sink.sure g.K.Sink.faults c.args.plan.now c.requires.opened.opened.fits c.args.sink.now
+    let few = few_events g.K.Append.seen c.args.plan.now c.requires.opened.opened.fits c.args.sink.now
     c.loop-next.sink c.args.writer.now c.loop-next.writer c.requires.begun c.loop-next.lanes c.loop-next.stage.gather c.loop-next.events
     c.loop-next.invariant.between None
-    (last_first g.K.Sink.content g.K.Sink.sure g.K.Sink.faults c.args.plan.now c.requires.opened.opened.fits c.args.sink.now c.loop-next.sink
+    (last_first g.K.Append.seen c.args.plan.now c.requires.opened.opened.fits c.args.sink.now c.loop-next.sink
     c.args.writer.now c.loop-next.writer c.requires.begun c.loop-next.lanes c.loop-next.stage.gather c.loop-next.events
     c.loop-next.invariant.between
     c.in_default.ensures) in
@@ -167,19 +167,19 @@ overflow_add-events-2 g c =
 pub returns-clause-ended : goal.returns-clause-ended
 returns-clause-ended g c =
     subst (AllAtEnd c.args.plan.now) (sym c.in_ok-events-2.ensures.lanes)
-    (last_ends g.K.Sink.content g.K.Sink.sure g.K.Sink.faults c.args.plan.now c.requires.opened.opened.fits c.args.sink.now c.loop-next.sink
+    (last_ends g.K.Append.seen c.args.plan.now c.requires.opened.opened.fits c.args.sink.now c.loop-next.sink
     c.args.writer.now c.loop-next.writer c.requires.begun c.loop-next.lanes c.loop-next.stage.gather c.loop-next.events
     c.loop-next.invariant.between
     c.in_default.ensures)
 
 pub returns-clause-count : goal.returns-clause-count
 returns-clause-count g c = ap (λ n. c.loop-next.events + n) c.in_ok-events-2.ensures.count
-    ∙ last_count g.K.Sink.content g.K.Sink.sure g.K.Sink.faults c.args.plan.now c.requires.opened.opened.fits c.args.sink.now c.loop-next.sink
+    ∙ last_count g.K.Append.seen c.args.plan.now c.requires.opened.opened.fits c.args.sink.now c.loop-next.sink
     c.args.writer.now c.loop-next.writer c.requires.begun c.loop-next.lanes c.loop-next.stage.gather c.loop-next.events
     c.loop-next.invariant.between
     c.in_default.ensures
 
 pub returns-clause-ok : goal.returns-clause-ok
-returns-clause-ok g c = last_writes g.K.Sink.content g.K.Sink.sure g.K.Sink.faults c.args.plan.now c.requires.opened.opened.fits c.args.sink.now
+returns-clause-ok g c = last_writes g.K.Append.seen c.args.plan.now c.requires.opened.opened.fits c.args.sink.now
     c.loop-next.sink c.args.writer.now c.loop-next.writer c.requires.begun c.loop-next.lanes c.loop-next.stage.gather c.loop-next.events
     c.loop-next.invariant.between c.in_default.ensures c.release-2.new.sink c.release-2.new.writer c.in_ok-events-2.ensures.ok

@@ -5,7 +5,7 @@ use Rattle.fm_round.proofs.course.play_rounds.Given as goal
 
 abbrev pub invariant-loop-next : goal.invariant-loop-next
 invariant-loop-next g l = record {
-  between : Between g.K.Sink.content g.K.Sink.sure g.K.Sink.faults l.plan l.fn.sink l.sink l.fn.writer l.writer l.lanes l.stage.gather l.events;
+  between : Between g.K.Append.seen l.plan l.fn.sink l.sink l.fn.writer l.writer l.lanes l.stage.gather l.events;
   watched : Watched l.plan l.stage.watch l.lanes;
 }
 

@@ -26,7 +26,7 @@ returns-in-Ok-clause-ok g c =
     let known = file_of_plan c.plans_play_the_score.ensures c.scores_end_with_their_last_line.ensures
     c.accepted_files_are_read.ensures _ _ c.in_ok-plan.plan c.in_ok-plan.ensures.planned _ _
     (c.content.ensures ∙ c.in_ok-memory.ensures.file) c.open_written-file.ensures _ c.profile-profile.ensures in
-    excerpt_done {S = g.row.S.Denot} {K = g.row.K.Denot} g.S.Source _ _ g.K.Sink _ _ _ _ _ c.plans_play_the_score.ensures
+    excerpt_done {S = g.row.S.Denot} {K = g.row.K.Denot} g.S.Source.seen _ _ g.K.Append.seen _ _ _ _ _ c.plans_play_the_score.ensures
     c.scores_end_with_their_last_line.ensures _
     c.in_ok-plan.ensures.planned _ c.profile-profile.ensures _ _ _ _ c.processes-processes.ensures.value
     c.in_ok-memory.ensures.played (c.in-Ok.ensures.length _ _ known) c.totals_of.ensures (c.in-Ok.ensures.ok _ _ known)
@@ -36,6 +36,6 @@ returns-clause-err g c =
     let known = file_of_plan c.plans_play_the_score.ensures c.scores_end_with_their_last_line.ensures
     c.accepted_files_are_read.ensures _ _ c.in_ok-plan.plan c.in_ok-plan.ensures.planned _ _
     (c.content.ensures ∙ c.in_ok-memory.ensures.file) c.open_written-file.ensures _ c.profile-profile.ensures in
-    excerpt_cut {S = g.row.S.Denot} {K = g.row.K.Denot} g.S.Source _ _ g.K.Sink _ _ _ _ _ c.plans_play_the_score.ensures
+    excerpt_cut {S = g.row.S.Denot} {K = g.row.K.Denot} g.S.Source.seen _ _ g.K.Append.seen _ _ _ _ _ c.plans_play_the_score.ensures
     c.scores_end_with_their_last_line.ensures _
     c.in_ok-plan.ensures.planned _ c.profile-profile.ensures (c.in-Err.ensures.err _ _ known)

@@ -26,7 +26,7 @@ returns-in-Ok-clause-ok g c =
     let known = file_read c.plans_play_the_score.ensures c.scores_end_with_their_last_line.ensures c.accepted_files_are_read.ensures
     _ _ c.in_ok-plan.plan c.in_ok-plan.ensures.planned _ _ (c.content.ensures ∙ c.in_ok-memory.ensures.file)
     c.open_written-file.ensures in
-    split_done {S = g.row.S.Denot} {K = g.row.K.Denot} g.S.Source _ _ g.K.Sink _ _ _ c.plans_play_the_score.ensures
+    split_done {S = g.row.S.Denot} {K = g.row.K.Denot} g.S.Source.seen _ _ g.K.Append.seen _ _ _ c.plans_play_the_score.ensures
     c.scores_end_with_their_last_line.ensures _ c.in_ok-plan.ensures.planned _ _ _ _
     c.processes-processes.ensures.value c.in_ok-memory.ensures.played (c.in-Ok.ensures.count _ _ _ known) c.totals_of.ensures
     (c.in-Ok.ensures.ok _ _ _ known)
@@ -36,6 +36,6 @@ returns-clause-err g c =
     let known = file_read c.plans_play_the_score.ensures c.scores_end_with_their_last_line.ensures c.accepted_files_are_read.ensures
     _ _ c.in_ok-plan.plan c.in_ok-plan.ensures.planned _ _ (c.content.ensures ∙ c.in_ok-memory.ensures.file)
     c.open_written-file.ensures in
-    split_cut {S = g.row.S.Denot} {K = g.row.K.Denot} g.S.Source _ _ g.K.Sink _ _ _ c.plans_play_the_score.ensures
+    split_cut {S = g.row.S.Denot} {K = g.row.K.Denot} g.S.Source.seen _ _ g.K.Append.seen _ _ _ c.plans_play_the_score.ensures
     c.scores_end_with_their_last_line.ensures _ c.in_ok-plan.ensures.planned
     (c.in-Err.ensures.err _ _ _ known)

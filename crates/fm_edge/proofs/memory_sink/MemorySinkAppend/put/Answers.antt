@@ -1,9 +1,9 @@
 use Rattle.std.proofs.Common.{◌∙◌, sym, ap, arith, ◌++◌, take, length, unwrap_or}
 use Rattle.std.specs.Prelude.{is_some}
 use Rattle.fm_edge.proofs.SinkMemoryLemmas.{put_breaks, listed_unsure, sure_fits, front-whole}
-use Rattle.fm_edge.proofs.memory_sink.MemorySinkSink.put.Goals as goal
-use Rattle.fm_edge.proofs.memory_sink.MemorySinkSink.put.Goals.{then-is_some-via-then-is_some}
-use Rattle.fm_edge.proofs.memory_sink.MemorySinkSink.put.Goals.{then-is_some-via-else-is_some+then-count-piece}
+use Rattle.fm_edge.proofs.memory_sink.MemorySinkAppend.put.Goals as goal
+use Rattle.fm_edge.proofs.memory_sink.MemorySinkAppend.put.Goals.{then-is_some-via-then-is_some}
+use Rattle.fm_edge.proofs.memory_sink.MemorySinkAppend.put.Goals.{then-is_some-via-else-is_some+then-count-piece}
 
 pub returns-then-is_some-clause-err : goal.returns-then-is_some-clause-err
 returns-then-is_some-clause-err c =

@@ -1,0 +1,36 @@
+-- The body is empty: the borrow is opened, and closed at the value with the bytes behind its own.
+use Rattle.fm_edge.proofs.Noting.{[], ◌∷◌, ◌++◌, refl, proved, vunit, id⊢, ftrue, flft, named, ‵, raw, ◌⊛◌, ◌$◌, ◌∵◌, !, qed, done, move, keep, drop, use1, split, join, fsplit, fsplit3, feq_i, suffices, frame, group, enter, of_opd, unit_lit, returns, alloc_all, pass_all, free_all, look_at, sets, u8, yes, MutRef, mut_vals, mut_Tells, plain, ShrSlice, shr_slice_vals, shr_slice_Tells, nothing, opens, closes, Stays, says, stay_none_slice, Goes-none_slice, stay_ref, Goes-ref, ends_at, on_entry}
+use Rattle.fm_edge.specs.declared.noted.Noted.{Noted}
+use Rattle.fm_edge.specs.contracts.noted.Noted as type
+use Rattle.fm_edge.specs.contracts.noted.Noted.append as call
+use Rattle.fm_edge.proofs.noted.Noted.append.Statement.{statement}
+use Rattle.fm_edge.proofs.noted.Noted.append.Code as code
+
+abbrev stayed : Stays call.ended.signature.params call.ended.kept
+stayed = (stay_ref (0 ∷ []) tt (plain (λ _. type.the_row)), (stay_none_slice (1 ∷ []) tt (plain (λ _. u8)) yes, tt))
+
+pub append_spec : {M : Type 1} → statement M
+append_spec 𝓤 𝓛 𝓜 𝓡 wired =
+    let clauses = call.clauses 𝓛 𝓜.mem 𝓡.returns in
+    proved 𝓛 call.ended stayed clauses 𝓜 𝓡
+    (Goes-ref 𝓛 2 0 tt (plain (λ _. type.the_row)), (Goes-none_slice 𝓛 2 (1 ∷ []) tt (plain (λ _. u8)) yes, tt))
+    call.Key.name code.function (code.unfolded 𝓤 𝓛.H 𝓜 𝓡 wired)
+    (λ κs. (mut_vals, (shr_slice_vals, tt)))
+    (λ κs. (mut_Tells (named 0) κs.0 type.the_row, (shr_slice_Tells (named 1) κs.1.0 u8, tt)))
+    (λ κs qs bounds a _ are.
+    let self = a.0 in let piece = a.1.0 in let b = self.ref_ptr.0 in let o = self.ref_ptr.1 in
+    let longer : Noted = record self.now { bytes = self.now.bytes ++ piece.now } in
+    qed 𝓛 (((‵ (flft κs.0 qs.0) ⊛ ‵ (flft κs.1.0 qs.1.0) ⊛ ‵ ftrue) ⊛ ‵ ((MutRef (named 0) κs.0 type.the_row).own_val self (mut_vals self))
+        ⊛ ‵ ((ShrSlice (named 1) κs.1.0 u8).own_val piece (shr_slice_vals piece)) ⊛ ‵ ftrue) ∷ ‵ ftrue ∷ []) ∵
+    split ! $ split ! $ move ! (2 ∷ []) $ split ! $ keep ! (0 ∷ 2 ∷ 1 ∷ 3 ∷ []) $
+    -- [the reference; its token; the slice; the slice's token]
+    fsplit3 ! $ enter ! _ _ _ _ _ $
+    alloc_all ! (λ l. pass_all ! refl ((tt, tt), ((tt, (tt, (record { fits = are.1.0.0.1.0 }, tt))), tt)) $
+    move ! (1 ∷ 2 ∷ 3 ∷ []) $ opens ! tt type.the_row b o (λ us.
+    sets ! (of_opd ! (unit_lit !)) refl (tt, tt) $
+    -- what lies there is a value of the other bytes too, since it owns nothing
+    move ! (1 ∷ []) $ use1 𝓛 (‵ (type.the_row.own_val longer us)) (id⊢ 𝓤 _) $ move ! (1 ∷ 0 ∷ []) $
+    closes ! tt type.the_row longer us b o $
+    returns ! (look_at ! 0 refl) $ free_all ! refl $ keep ! (3 ∷ 0 ∷ 1 ∷ 4 ∷ 2 ∷ 5 ∷ []) $
+    suffices ! _ (ends_at 𝓛 call.ended stayed clauses ((κs, qs, bounds, a, (mut_vals self, (shr_slice_vals piece, tt))), tt) vunit tt (longer, (tt, tt)) (tt, (tt, tt))) $
+    says ! refl $ group ! 3 $ join ! $ move ! (1 ∷ 2 ∷ []) $ join ! $ frame ! $ frame ! $ feq_i ! _ (vunit ∷ []) _ refl $ done !)))
