@@ -1,9 +1,5 @@
--- Limits in numbers: those of this crate, and those of texts and values, which stand in crates below it.
+-- The limits of a score in numbers.
 use Rattle.std.proofs.Common.{◌≡◌, ◌+◌, ◌^◌, refl}
-use Rattle.fm_lex.specs.declared.lexer.TheConstants.{MAX_TEXT}
-use Rattle.fm_value.specs.declared.expr.TheConstants.{MAX_NODES}
-use Rattle.fm_value.specs.declared.node.TheConstants.{MAX_VALUE}
-use Rattle.fm_value.specs.declared.registers.TheConstants.{REGISTERS}
 use Rattle.fm_bounds.specs.declared.excess.TheConstants.{MAX_EVENTS, MAX_OPERATIONS, MAX_STEPS}
 use Rattle.fm_bounds.specs.declared.sums.TheConstants.{CEILING}
 
@@ -18,15 +14,3 @@ most_events = refl
 
 most_steps : MAX_STEPS ≡ 2 ^ 24
 most_steps = refl
-
-most_bytes_of_a_text : MAX_TEXT ≡ 1048576
-most_bytes_of_a_text = refl
-
-registers : REGISTERS ≡ 8
-registers = refl
-
-most_nodes : MAX_NODES ≡ 64
-most_nodes = refl
-
-most_value : MAX_VALUE ≡ 1000000
-most_value = refl

@@ -24,24 +24,24 @@ pub count_through-cons : (key : Option (ℕ × ℕ)) (event : TimedMessage) (eve
     → is_through key event ≡ true → count_through key (event ∷ events) ≡ suc (count_through key events)
 count_through-cons key event events through = ap (λ b. if b then suc (count_through key events) else 0) through
 
--- the events from the place on begin with this one, and these follow
-pub record IsNext (events : List TimedMessage) (place : ℕ) (event : TimedMessage) (pastr : List TimedMessage) : Type 0 where
-  pub within : place < length events
-  pub dropped : drop (place + 1) events ≡ pastr
-  pub taken : take (place + 1) events ≡ take place events ++ event ∷ []
+-- the events from the index on begin with this one, and these follow
+pub record IsNext (events : List TimedMessage) (index : ℕ) (event : TimedMessage) (pastr : List TimedMessage) : Type 0 where
+  pub within : index < length events
+  pub dropped : drop (index + 1) events ≡ pastr
+  pub taken : take (index + 1) events ≡ take index events ++ event ∷ []
 
 -- one event more
-pub next_at : (events : List TimedMessage) (place : ℕ) (event : TimedMessage) (pastr : List TimedMessage)
-    → drop place events ≡ event ∷ pastr → IsNext events place event pastr
+pub next_at : (events : List TimedMessage) (index : ℕ) (event : TimedMessage) (pastr : List TimedMessage)
+    → drop index events ≡ event ∷ pastr → IsNext events index event pastr
 next_at [] zero event pastr here = cc
-next_at [] (suc place) event pastr here = cc
+next_at [] (suc index) event pastr here = cc
 next_at (first ∷ events) zero event pastr here = record {
   within = omega arith;
   dropped = cc;
   taken = cc;
 }
-next_at (first ∷ events) (suc place) event pastr here =
-    let next = next_at events place event pastr here in record {
+next_at (first ∷ events) (suc index) event pastr here =
+    let next = next_at events index event pastr here in record {
       within = let w = next.within in omega arith;
       dropped = rw add-one (rw add-one at next.dropped);
       taken = rw add-one (ap (λ xs. first ∷ xs) (rw add-one at next.taken));

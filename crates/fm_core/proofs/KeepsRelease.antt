@@ -42,7 +42,7 @@ module _ (g : Setting) (h : State) (valid : ValidSetting g) (ok : Sound g h) whe
       (each_from (event_at 0) (λ e. e.process < length h.cells) all ok.named) i in
       let there : In x (take (cell h p).taken (line g.lines p).events) = subst (In x) (ok.kept p lt) (in_of p x all refl i) in
       let r = in_take x (event_at (line g.lines p).end) (cell h p).taken (line g.lines p).events there in
-      let at : x.index ≡ r.place = ap (λ (e : TimedMessage). e.index) r.is ∙ (valid.lines.numbered p r.place r.there).1 in
+      let at : x.index ≡ r.index = ap (λ (e : TimedMessage). e.index) r.is ∙ (valid.lines.numbered p r.index r.there).1 in
       let a = r.below in let b = r.there in record {
         process = lt;
         taken = omega arith;

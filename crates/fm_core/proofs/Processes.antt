@@ -69,21 +69,21 @@ in_of p x (y ∷ ys) e i = go (nat_eq y.process p) refl i (λ j. in_of p x ys e 
     go false f (inl g) r = absurd (clash _ (eq-eqb y.process p (sym (ap (λ (z : TimedMessage). z.process) g) ∙ e)) f)
     go false f (inr j) r = r j
 
--- an element that stands at a place below n
+-- an element that stands at an index below n
 pub record InTake (x d : TimedMessage) (n : ℕ) (xs : List TimedMessage) : Type 0 where
-  pub place : ℕ
-  pub below : place < n
-  pub there : place < length xs
-  pub is : x ≡ get_or xs place d
+  pub index : ℕ
+  pub below : index < n
+  pub there : index < length xs
+  pub is : x ≡ get_or xs index d
 
--- what is among the first n stands at a place below n
+-- what is among the first n stands at an index below n
 pub in_take : (x d : TimedMessage) (n : ℕ) (xs : List TimedMessage) → In x (take n xs) → InTake x d n xs
 in_take x d zero [] i = absurd i
 in_take x d zero (y ∷ ys) i = absurd i
 in_take x d (suc n) [] i = absurd i
-in_take x d (suc n) (y ∷ ys) (inl e) = record { place = 0; below = omega arith; there = omega arith; is = e }
+in_take x d (suc n) (y ∷ ys) (inl e) = record { index = 0; below = omega arith; there = omega arith; is = e }
 in_take x d (suc n) (y ∷ ys) (inr i) = let r = in_take x d n ys i in let a = r.below in let b = r.there in
-    record { place = suc r.place; below = omega arith; there = omega arith; is = r.is }
+    record { index = suc r.index; below = omega arith; there = omega arith; is = r.is }
 
 -- an element before the n-th is among the first n
 pub take_in : (d : TimedMessage) (n k : ℕ) (xs : List TimedMessage) → k < n → k < length xs → In (get_or xs k d) (take n xs)
@@ -105,7 +105,7 @@ up_from o zero d (x ∷ xs) f = tt
 up_from o (suc n) d [] f = tt
 up_from o (suc n) d (x ∷ xs) f = (
   in_each (λ y. x.index < y.index) (take n xs) (λ y i. let r = in_take y d n xs i in let a = f 0 (omega arith) in let t = r.there in
-      let b = f (suc r.place) (omega arith) in let e = ap (λ (z : TimedMessage). z.index) r.is in omega arith),
+      let b = f (suc r.index) (omega arith) in let e = ap (λ (z : TimedMessage). z.index) r.is in omega arith),
   up_from (suc o) n d xs (λ k lt. let a = f (suc k) (omega arith) in omega arith),
 )
 

@@ -1,3 +1,4 @@
+mod Numerals
 pub mod Below
 pub mod FileLemmas
 pub mod StateValues

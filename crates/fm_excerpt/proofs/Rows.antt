@@ -28,6 +28,12 @@ behind_the_end = refl
 no_length : excerpt_end 5000 None 960 ≡ 0
 no_length = refl
 
+-- notes without note-offs get them, so an excerpt may be longer than its file
+longer_than_its_file : excerpt 0 None ((0, On 0 60 64) ∷ (0, On 0 62 64) ∷ []) 480
+    ≡ (0, On 0 60 64) ∷ (0, On 0 62 64) ∷ (480, Off 0 60) ∷ (480, Off 0 62) ∷ []
+unfolding excerpt window closing state channel_state below
+longer_than_its_file = refl
+
 -- a bend of 0, and a controller that is set three times
 abbrev pedals : List (ℕ × Msg)
 pedals = (0, Bend 1 0) ∷ (0, Control 1 7 3) ∷ (9, Control 1 7 4) ∷ (10, Control 1 7 5) ∷ []

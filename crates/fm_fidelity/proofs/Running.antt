@@ -26,7 +26,7 @@ pub has_front : (t : StockParts) (code : List Action) (operation : ℕ) (a b : L
 has_front t code operation [] b h = tt
 has_front t code operation (o ∷ a) b h = (h.0, has_front t code (operation + 1) a b h.1)
 
--- the second, behind as many places as the first has
+-- the second, behind as many operations as the first has
 pub has_back : (t : StockParts) (code : List Action) (operation n : ℕ) (a b : List Op) → length a ≡ n
     → HasAt t code operation (a ++ b)
     → HasAt t code (operation + n) b

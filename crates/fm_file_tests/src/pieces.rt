@@ -5,7 +5,7 @@ ghost use Rattle.fm_edge.specs.Runs.{Puts, Breaks};
 use crate::memory::memory_of;
 use crate::same::{same, same_bytes};
 use fm_edge::{Append, Failed};
-use fm_pieces::{Gatherer, PIECE_LENGTH};
+use fm_pieces::Gatherer;
 use std::alloc::{AllocError, Global};
 
 // One caller: a title and a text, gathered.
@@ -38,7 +38,7 @@ fn gathered(
 #[test]
 fn bytes_are_put_in_whole_pieces(rt: HostRuntime) -> Result<(), AllocError> {
     let (put, left) = gathered(rt.alloc(), &[7; 5_000], 10_000, &[(2, 10)])?;
-    same(&rt, &(put, left.len()), &(false, PIECE_LENGTH + 10));
+    same(&rt, &(put, left.len()), &(false, 4_106));
     same_bytes(&rt, left.get(..3).unwrap_or_default(), b"#\x07\x07");
     Ok(())
 }
@@ -46,9 +46,9 @@ fn bytes_are_put_in_whole_pieces(rt: HostRuntime) -> Result<(), AllocError> {
 // Behind a whole piece nothing is left, and nothing is put.
 #[test]
 fn nothing_is_put_behind_a_whole_piece(rt: HostRuntime) -> Result<(), AllocError> {
-    let text = &[7; PIECE_LENGTH - 1];
+    let text = &[7; 4_095];
     let (put, left) = gathered(rt.alloc(), text, 10_000, &[(2, 0)])?;
-    same(&rt, &(put, left.len()), &(true, PIECE_LENGTH));
+    same(&rt, &(put, left.len()), &(true, 4_096));
     Ok(())
 }
 

@@ -1,8 +1,8 @@
 -- Worked examples of the texts.
-use Rattle.std.proofs.Common.{◌≡◌, ◌^◌, ◌-◌, [], ◌∷◌, ◌++◌, length, refl}
+use Rattle.std.proofs.Common.{◌≡◌, ◌^◌, ◌-◌, [], ◌∷◌, ◌++◌, length, take, refl}
 use Rattle.std.specs.Prelude.{codes}
 use Rattle.std.specs.Fmt.{digits}
-use Rattle.fm_gen.specs.LargeScore.{notes_of, stretch_of, lines_text}
+use Rattle.fm_gen.specs.LargeScore.{notes_of, stretch_of, line_text, lines_text}
 use Rattle.fm_gen.specs.LargeScore.{large_score, branch, branches, head}
 use Rattle.fm_gen.specs.SummaryLine.{summary_line}
 use Rattle.fm_gen.specs.declared.score.TheConstants.{MAX_NUMBER, MAX_SCORE}
@@ -13,6 +13,15 @@ head_of_124 : head 124 ≡ lines_text (codes "formula 1;" ∷ codes "seed 124;"
     ∷ codes "shape b = pause 1/8, flat 4/1 by 1500;" ∷ codes "par {" ∷ [])
 unfolding head digits
 head_of_124 = refl
+
+-- a line ends with a line feed
+line_of_two : line_text (codes "ab") ≡ 97 ∷ 98 ∷ 10 ∷ []
+line_of_two = refl
+
+-- the text begins with its head
+first_line_of_0 : take 11 (large_score 0) ≡ codes "formula 1;\n"
+unfolding large_score branch digits
+first_line_of_0 = refl
 
 notes_of_124 : notes_of 124 ≡ 125000
 notes_of_124 = refl

@@ -5,7 +5,7 @@ use crate::number::Number;
 /// A share of a whole note, or a number of ticks.
 #[derive(Clone, Copy, Debug, PartialEq, Eq)]
 pub enum Length {
-    /// `over / under` of a whole note, which is 1,920 ticks.
+    /// `over / under` of a whole note, which is four quarter notes.
     Share { over: Number, under: Number },
     Ticks { count: Number },
 }

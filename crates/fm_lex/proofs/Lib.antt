@@ -1,3 +1,4 @@
+mod Numerals
 pub mod Gaps
 pub mod Digits
 pub mod Steps

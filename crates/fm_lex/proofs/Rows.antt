@@ -1,6 +1,6 @@
 -- Texts and their tokens, by computing.
 use Rattle.std.proofs.Common.{◌≡◌, ℕ, List, [], ◌∷◌, ◌++◌, Ok, Err, map, refl}
-use Rattle.std.specs.Prelude.{codes}
+use Rattle.std.specs.Prelude.{codes, true, false}
 use Rattle.std.specs.Fmt.{digits}
 use Rattle.fm_lex.specs.declared.kind.Kind.{Kind}
 use Rattle.fm_lex.specs.declared.kind.Kind.TheVariants.{Name, Number, Pitch, Register, Index, Symbol, End}
@@ -8,8 +8,28 @@ use Rattle.fm_lex.specs.declared.kind.Kind.TheVariants as kinds
 use Rattle.fm_lex.specs.declared.keyword.Keyword.TheVariants.{Formula, Note, Key, Min}
 use Rattle.fm_lex.specs.declared.token.LexFault.{LexFault}
 use Rattle.fm_lex.specs.declared.token.LexFault.TheVariants.{BadByte, BadNumber}
-use Rattle.fm_lex.specs.Bytes.{spot_text}
+use Rattle.fm_lex.specs.Bytes.{is_digit, is_letter, decimal, spot_text}
+use Rattle.fm_lex.specs.Words.{spelling, keywords}
 use Rattle.fm_lex.specs.Tokens.{Lexed, tokens, walk}
+
+-- digits and letters, and the bytes beside them
+digits_and_letters : map is_digit (47 ∷ 48 ∷ 57 ∷ 58 ∷ []) ++ map is_letter (96 ∷ 97 ∷ 122 ∷ 123 ∷ [])
+    ≡ false ∷ true ∷ true ∷ false ∷ false ∷ true ∷ true ∷ false ∷ []
+digits_and_letters = refl
+
+-- decimal digits
+number_of_four_digits : map decimal (codes "1024" ∷ codes "007" ∷ codes "999999999" ∷ []) ≡ 1024 ∷ 7 ∷ 999999999 ∷ []
+number_of_four_digits = refl
+
+-- the words of the language
+words_of_the_language : map spelling keywords
+    ≡ codes "formula" ∷ codes "seed" ∷ codes "shape" ∷ codes "flat" ∷ codes "by" ∷ codes "slope" ∷
+    codes "to" ∷ codes "pause" ∷ codes "breath" ∷ codes "ticks" ∷ codes "phrase" ∷ codes "note" ∷
+    codes "play" ∷ codes "rest" ∷ codes "skip" ∷ codes "control" ∷ codes "program" ∷ codes "bend" ∷
+    codes "set" ∷ codes "if" ∷ codes "else" ∷ codes "repeat" ∷ codes "max" ∷ codes "do" ∷ codes "par" ∷
+    codes "branch" ∷ codes "warp" ∷ codes "channel" ∷ codes "volume" ∷ codes "gate" ∷ codes "rhythm" ∷
+    codes "artic" ∷ codes "loud" ∷ codes "key" ∷ codes "pick" ∷ codes "min" ∷ codes "less" ∷ codes "same" ∷ []
+words_of_the_language = refl
 
 data Seen : Type 0 where
   seen : Kind → ℕ → ℕ → Seen

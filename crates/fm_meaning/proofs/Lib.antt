@@ -9,6 +9,8 @@ mod PieceRows
 mod MarkRows
 mod RangeRows
 mod PlaceRows
+mod TurnRows
+mod RuleRows
 mod DepthRows
 mod BoundRows
 mod LimitRows

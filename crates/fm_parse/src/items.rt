@@ -211,7 +211,7 @@ pub fn read_statement<'s>(
     read_worded(alloc, r, word, depth)
 }
 
-/// Reads statements.
+// Reads statements.
 #[cycle(item)]
 fn read_statements<'s>(
     alloc: Global,

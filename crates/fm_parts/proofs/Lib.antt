@@ -1,3 +1,4 @@
+mod Numerals
 pub mod Channels
 pub mod Counts
 pub mod Passing

@@ -1,2 +1,3 @@
+mod Numerals
 pub mod Coming
 pub mod Passing

@@ -1,4 +1,4 @@
--- Statements that do not fork, operation by operation, and places that are filled in behind.
+-- Statements that do not fork, operation by operation, and targets that are filled in behind.
 use Rattle.std.proofs.Common.{◌≡◌, ℕ, zero, suc, ◌+◌, ◌<◌, ◌≤◌, Bool, true, false, List, [], ◌∷◌, ◌++◌, map, drop, length, refl}
 use Rattle.std.proofs.Common.{sym, ap, ap₂, ◌∙◌, arith, append_assoc, append-nil, length-append}
 use Rattle.std.specs.Prelude.{slice_index_or, slice_set}
@@ -120,7 +120,7 @@ pub made_under : (f : Bool) (q : Quality) (l : ℕ) (b : Block) (i : Inside) (e 
 made_under true q l b i e = refl
 made_under false q l b i e = between (op.Begin l) op.Close b (at_home (list_frame q l) i) e
 
--- ---- places that are filled in behind
+-- ---- targets that are filled in behind
 
 -- a loop in a frame
 pub made_loop : (c : Count) (b : Block) (i : Inside) (e : Emitting)

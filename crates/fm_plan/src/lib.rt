@@ -1,7 +1,7 @@
 //! From a score to its plan.
 //!
 //! [`expand`] writes the programs of all processes from the outline of a score: operations are
-//! appended to the program that grows, and the places of jumps are filled in behind. Contracts see
+//! appended to the program that grows, and the targets of jumps are filled in behind. Contracts see
 //! the programs as `fm_expansion` says them.
 #![tactic(auto)]
 

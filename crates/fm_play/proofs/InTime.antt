@@ -139,7 +139,7 @@ can_follow profile events done more rest end w can parts state put =
 
 -- ---- one event at a time
 
--- the event at a place follows those in front of it
+-- the event at an index follows those in front of it
 pub record FollowsAt (w : Written) (events : List TimedMessage) (k : ℕ) (e : TimedMessage) : Type 0 where
   pub parts : (take k events ++ e ∷ []) ++ drop (k + 1) events ≡ events
   pub later : (state_after w.state (take k events)).last ≤ e.time

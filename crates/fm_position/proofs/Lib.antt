@@ -1,3 +1,4 @@
+mod Numerals
 pub mod LevelLemmas
 pub mod ToldLemmas
 pub mod StartLemmas

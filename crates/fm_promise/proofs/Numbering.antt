@@ -68,7 +68,7 @@ pub sum_same : (n : ℕ) (f g : ℕ → ℕ) → ((p : ℕ) → p < n → f p �
 sum_same zero f g same = omega arith
 sum_same (suc n) f g same = omega (arith, sum_same n f g (λ p is. same p (omega (arith, is))), same n (omega arith))
 
--- what a number at one place adds, by the place
+-- what a number at one index adds, by the index
 adds_at : (q c : ℕ) (p : ℕ) (b : Bool) → nat_eq q p ≡ b → (if nat_eq q p then c else 0) ≤ c
 adds_at q c p true is = rw is (omega arith)
 adds_at q c p false is = rw is (omega arith)
@@ -78,13 +78,13 @@ adds_elsewhere : (q c : ℕ) (p : ℕ) (b : Bool) → nat_eq q p ≡ b → (q �
 adds_elsewhere q c p true is apart = absurd (apart (eqb-true q p is))
 adds_elsewhere q c p false is apart = rw is (omega arith)
 
--- below its place
+-- below its index
 sum_elsewhere : (n q c : ℕ) (f : ℕ → ℕ) → n ≤ q → sum_below n (λ p. (if nat_eq q p then c else 0) + f p) ≤ sum_below n f
 sum_elsewhere n q c f past =
     sum_same n (λ p. (if nat_eq q p then c else 0) + f p) f
     (λ p is. omega (arith, adds_elsewhere q c p (nat_eq q p) refl (λ same. omega (arith, same, is, past))))
 
--- a number at one place, and others
+-- a number at one index, and others
 sum_one : (n q c : ℕ) (f : ℕ → ℕ) → sum_below n (λ p. (if nat_eq q p then c else 0) + f p) ≤ c + sum_below n f
 sum_one zero q c f = omega arith
 sum_one (suc n) q c f = by_place (cases_lt q n) (sum_one n q c f)

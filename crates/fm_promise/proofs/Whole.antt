@@ -104,17 +104,17 @@ end_to p t (m ∷ ms) all = by_kind (seen p m ms) (end_to p t ms all.1)
 
 -- ---- predecessors
 
--- what holds of each holds at each place
-at_places : (P : ℕ → Type 0) (ps : List ℕ) → AllByRecursion P ps → All P ps
-at_places P [] all k d within = absurd (omega (arith, within))
-at_places P (p ∷ ps) all zero d within = all.0
-at_places P (p ∷ ps) all (suc k) d within = at_places P ps all.1 k d (omega (arith, within))
+-- what holds of each holds at each index
+at_indices : (P : ℕ → Type 0) (ps : List ℕ) → AllByRecursion P ps → All P ps
+at_indices P [] all k d within = absurd (omega (arith, within))
+at_indices P (p ∷ ps) all zero d within = all.0
+at_indices P (p ∷ ps) all (suc k) d within = at_indices P ps all.1 k d (omega (arith, within))
 
 -- numbers that climb are apart
 climbs_apart : (ps : List ℕ) → Climbs ps → (i j : ℕ) → i < j → j < length ps → slice_index_or ps i 0 < slice_index_or ps j 0
 climbs_apart [] climbs i j order within = absurd (omega (arith, within))
 climbs_apart (p ∷ ps) climbs i zero order within = absurd (omega (arith, order))
-climbs_apart (p ∷ ps) climbs zero (suc j) order within = at_places (λ q. p < q) ps climbs.0 j 0 (omega (arith, within))
+climbs_apart (p ∷ ps) climbs zero (suc j) order within = at_indices (λ q. p < q) ps climbs.0 j 0 (omega (arith, within))
 climbs_apart (p ∷ ps) climbs (suc i) (suc j) order within = climbs_apart ps climbs.1 i j (omega (arith, order)) (omega (arith, within))
 
 -- the greatest of numbers none of which is above t
@@ -257,7 +257,7 @@ whole_valid b births ms end w few soon many = record {
       let inside : p < length births = omega (arith, lines_count births 0 ms, within) in
       omega (arith, (w.born p later inside).some, ap (λ l. length l.predecessors) (line_at births p ms inside));
   below = λ p. by_process births ms (λ l. All (λ q. q < p) l.predecessors) p
-      (λ within. at_places (λ q. q < p) (list_at births p) (births_of b births ms end w p within).0) (nothing_below p);
+      (λ within. at_indices (λ q. q < p) (list_at births p) (births_of b births ms end w p within).0) (nothing_below p);
   once = λ p. by_process births ms
       (λ l. (i j : ℕ) → i < j → j < length l.predecessors → slice_index_or l.predecessors i 0 ≡ slice_index_or l.predecessors j 0 → ⊥) p
       (λ within i j order inside same.

@@ -1,3 +1,4 @@
+mod Numerals
 mod Rows
 pub mod Quantities
 pub mod EndsLemmas

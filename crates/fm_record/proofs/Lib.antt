@@ -1,3 +1,4 @@
+mod Numerals
 pub mod ReadingLemmas
 pub mod StepLemmas
 pub mod HeadLemmas

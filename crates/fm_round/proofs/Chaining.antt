@@ -6,7 +6,7 @@ use Rattle.fm_round.specs.Chain.{IsChain, IsIdle, Joins, OthersIdle, link}
 use Rattle.fm_round.specs.Lanes.{lane}
 use Rattle.fm_round.specs.declared.lane.Lane.{Lane}
 
--- a number of the chain has a place
+-- a number of the chain has an index
 pub chained_within : (ns : List ℕ) → IsChain ns → (x : ℕ) → 0 < link ns x → x < length ns
 chained_within ns chain x on = let rises = chain.rises x on in let within = chain.within x in omega arith
 
@@ -18,12 +18,12 @@ none_between ns chain x k on above = by_order (cases_lt k (link ns x))
     by_order (inl less) = let off = chain.passed x k above less in absurd (omega arith)
     by_order (inr more) = more
 
--- ---- two places are set
+-- ---- two numbers are set
 
--- what holds at a place and its number behind it, where those of two places were set
-by_place : (ns : List ℕ) (a b u v : ℕ) → a < length ns → b < length ns → (a ≡ b → ⊥) → (P : ℕ → ℕ → Type 0) → P a u → P b v
+-- what holds at an index and its number behind it, where those of two indices were set
+by_index : (ns : List ℕ) (a b u v : ℕ) → a < length ns → b < length ns → (a ≡ b → ⊥) → (P : ℕ → ℕ → Type 0) → P a u → P b v
     → ((k : ℕ) → (k ≡ a → ⊥) → (k ≡ b → ⊥) → P k (link ns k)) → (k : ℕ) → P k (link (set (set ns a u) b v) k)
-by_place ns a b u v in_a in_b apart P at_a at_b elsewhere k = by_a (cases_eq k a)
+by_index ns a b u v in_a in_b apart P at_a at_b elsewhere k = by_a (cases_eq k a)
   where
     long : length (set ns a u) ≡ length ns
     long = length-set ns a u
@@ -52,7 +52,7 @@ module _ (ns : List ℕ) (at x : ℕ) (chain : IsChain ns) (on : 0 < link ns at)
 
   joined_at : (P : ℕ → ℕ → Type 0) → P x (link ns at) → P at x
       → ((k : ℕ) → (k ≡ x → ⊥) → (k ≡ at → ⊥) → P k (link ns k)) → (k : ℕ) → P k (link (set (set ns x (link ns at)) at x) k)
-  joined_at = by_place ns x at (link ns at) x x_within (chained_within ns chain at on) (λ same. absurd (omega arith))
+  joined_at = by_index ns x at (link ns at) x x_within (chained_within ns chain at on) (λ same. absurd (omega arith))
 
   joined_kept : (k : ℕ) → 0 < link ns k → 0 < link (set (set ns x (link ns at)) at x) k
   joined_kept = joined_at (λ k v. 0 < link ns k → 0 < v) (λ was. on) (λ was. omega arith) (λ k far other was. was)
@@ -112,7 +112,7 @@ module _ (ns : List ℕ) (at a : ℕ) (chain : IsChain ns) (on : 0 < link ns at)
 
   left_at : (P : ℕ → ℕ → Type 0) → P at (link ns a) → P a 0
       → ((k : ℕ) → (k ≡ at → ⊥) → (k ≡ a → ⊥) → P k (link ns k)) → (k : ℕ) → P k (link (set (set ns at (link ns a)) a 0) k)
-  left_at = by_place ns at a (link ns a) 0 (chained_within ns chain at on) there (λ same. absurd (omega (arith, above)))
+  left_at = by_index ns at a (link ns a) 0 (chained_within ns chain at on) there (λ same. absurd (omega (arith, above)))
 
   -- those behind another one stay in the chain
   left_kept : (k : ℕ) → (k ≡ a → ⊥) → 0 < link ns k → 0 < link (set (set ns at (link ns a)) a 0) k

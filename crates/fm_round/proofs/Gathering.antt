@@ -10,7 +10,7 @@ use Rattle.fm_buffer.specs.Outbox.{count_through}
 use Rattle.fm_round.specs.Lanes.{due, no_lane, room_of, room_sum, lane, without_due}
 use Rattle.fm_round.proofs.Opening.{joined-append}
 
--- the room of the lanes from a place on is that of the lane there and of those behind it
+-- the room of the lanes from an index on is that of the lane there and of those behind it
 pub rooms_from : (ss : List Lane) (i : ℕ) → i < length ss
     → room_sum (map room_of (drop i ss)) ≡ room_of (lane ss i) + room_sum (map room_of (drop (i + 1) ss))
 rooms_from ss i within =
@@ -31,7 +31,7 @@ due_more key ss i within =
     ∙ joined-append (map (due key) (take i ss)) (due key (lane ss i) ∷ [])
     ∙ ap (λ es. joined (map (due key) (take i ss)) ++ es) (append-nil (due key (lane ss i)))
 
--- what holds at each place is a mapped list
+-- what holds at each index is a mapped list
 pub mapped_each : (f : Lane → Lane) (old new : List Lane) → length new ≡ length old
     → ((k : ℕ) → k < length old → lane new k ≡ f (lane old k)) → new ≡ map f old
 mapped_each f [] [] same each = refl

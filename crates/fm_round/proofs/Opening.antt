@@ -57,7 +57,7 @@ rises_from d (x ∷ xs) each = (
     first y i =
         let r = in_at y d xs i in
         let within = r.below in
-        subst (Before x) (sym r.is) (each 0 (suc r.place) (omega arith) (omega arith))
+        subst (Before x) (sym r.is) (each 0 (suc r.index) (omega arith) (omega arith))
 
 module _ (ls : List Line) (valid : ValidLines ls) where
   in_turn : (j a b : ℕ) → a < b → b < length (line ls j).events
@@ -77,10 +77,10 @@ module _ (ls : List Line) (valid : ValidLines ls) where
         (λ a b less within. in_turn j a b less within (cases_eq (upper (line ls j) a) (upper (line ls j) b)));
     process = λ e i.
         let r = in_at e (event_at (line ls j).end) (line ls j).events i in
-        ap (λ (x : TimedMessage). x.process) r.is ∙ (valid.numbered j r.place r.below).0;
+        ap (λ (x : TimedMessage). x.process) r.is ∙ (valid.numbered j r.index r.below).0;
   }
 
--- what is own at each place is own from there on
+-- what is own at each index is own from there on
 own_each : (k : ℕ) (ls : List Line) → ((i : ℕ) → i < length ls → IsOwn (k + i) (line ls i).events)
     → OwnFrom k (map events_of ls)
 own_each k [] each = tt

@@ -113,7 +113,7 @@ pub start_below : (ls : List Line) → ValidLines ls → (j : ℕ) (e : TimedMes
     → start ls j ≤ e.time
 start_below ls valid j e i =
     let stands = in_at e (event_at (line ls j).end) (line ls j).events i in
-    subst (λ (x : TimedMessage). start ls j ≤ x.time) (sym stands.is) (valid.begun j stands.place)
+    subst (λ (x : TimedMessage). start ls j ≤ x.time) (sym stands.is) (valid.begun j stands.index)
 
 -- a later process at the same time is not before the pair either
 past_process : (c m t i j : ℕ) → IsNotPast c m t i → i ≤ j → IsNotPast c m t j

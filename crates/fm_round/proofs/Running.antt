@@ -15,7 +15,7 @@ use Rattle.fm_round.specs.Lanes.{AllLanes, IsRun, IsLaneOf, Runs, RunsAll, RunsE
 
 -- ---- lane by lane
 
--- a place of a list is read the same with any default
+-- an element is read the same with any default
 pub any_default : {A : Type 0} (xs : List A) (k : ℕ) (c d : A) → k < length xs → get_or xs k c ≡ get_or xs k d
 any_default [] k c d lt = absurd (omega arith)
 any_default (x ∷ xs) zero c d lt = refl

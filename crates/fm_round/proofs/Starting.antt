@@ -22,7 +22,7 @@ use Rattle.fm_play.proofs.PlanFacts.{plan_valid}
 
 -- ---- lane by lane
 
--- equal at each place, for the line that is there
+-- equal at each index, for the line that is there
 lefts_each : (p : PlanParts) (ls : List Line) (old new : List Lane) → length new ≡ length old
     → ((k : ℕ) → k < length old → left p (line ls k).events (lane new k) ≡ left p (line ls k).events (lane old k))
     → lefts p ls new ≡ lefts p ls old

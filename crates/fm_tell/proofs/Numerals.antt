@@ -1,6 +1,6 @@
 -- The exit statuses in numbers.
 use Rattle.std.proofs.Common.{◌≡◌, refl}
-use Rattle.fm_tell.specs.declared.status.TheConstants.{CONSOLE_FAULT, DONE, OUT_OF_MEMORY, READ_FAULT, SCORE_REFUSED, WORDS_REFUSED, WRITE_FAULT}
+use Rattle.fm_tell.specs.declared.status.TheConstants.{CONSOLE_FAULT, DONE, NO_PROCESS, OUT_OF_MEMORY, READ_FAULT, SCORE_REFUSED, WORDS_REFUSED, WRITE_FAULT}
 
 done : DONE ≡ 0
 done = refl
@@ -22,3 +22,6 @@ console_fault = refl
 
 out_of_memory : OUT_OF_MEMORY ≡ 6
 out_of_memory = refl
+
+no_process : NO_PROCESS ≡ 7
+no_process = refl

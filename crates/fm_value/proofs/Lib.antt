@@ -1,3 +1,4 @@
+mod Numerals
 pub mod Evaluations
 pub mod Floors
 mod Rows

@@ -1,11 +1,12 @@
 -- Values of single expressions, and the first draws of the generator.
 use Rattle.std.proofs.Common.{◌≡◌, ◌/◌, ◌^◌, [], ◌∷◌, refl}
-use Rattle.std.specs.Prelude.{pos, negsuc, true, false}
+use Rattle.std.specs.Prelude.{pos, negsuc, true, false, None}
 use Rattle.fm_value.specs.declared.node.Node.TheVariants.{Literal, Register, Index, Add, Subtract, Multiply, Pick}
 use Rattle.fm_value.specs.declared.node.TheConstants.{MAX_VALUE}
-use Rattle.fm_value.specs.Generator.{next_state}
+use Rattle.fm_value.specs.Generator.{next_state, draw_below}
 use Rattle.fm_value.specs.Operation.{floor_div, floor_rem}
-use Rattle.fm_value.specs.Value.{readable, value_of, is_expr}
+use Rattle.fm_value.specs.Tree.{register, index}
+use Rattle.fm_value.specs.Value.{readable, tree_value, value_at, value_of, is_expr}
 
 -- the first draw of the state 0 shows 167951807
 first_draw : next_state 0 / 2 ^ 33 ≡ 167951807
@@ -22,6 +23,15 @@ pitch_and_state = refl
 -- a draw below 0 is 0, and steps the state all the same
 draw_below_0 : (value_of (readable [] []) (Literal 0 ∷ Pick ∷ []) 0) ≡ record { value = pos 0; state = next_state 0 }
 draw_below_0 = refl
+
+-- of no number there is none to draw
+draws_below_1 : draw_below (pos 0) (2 ^ 33) ∷ draw_below (negsuc 6) (2 ^ 33) ∷ draw_below (pos 1) (2 ^ 33) ∷ [] ≡ pos 0 ∷ pos 0 ∷ pos 0 ∷ []
+draws_below_1 = refl
+
+-- a register or an index that is not there is 0, and so is what is no expression
+absent_values : tree_value (readable [] []) (register 3) 5 ∷ tree_value (readable [] []) (index 3) 5 ∷ value_at (readable [] []) None 5 ∷ []
+    ≡ record { value = pos 0; state = 5 } ∷ record { value = pos 0; state = 5 } ∷ record { value = pos 0; state = 5 } ∷ []
+absent_values = refl
 
 -- the left operand is drawn first
 left_is_drawn_first : (value_of (readable [] []) (Literal MAX_VALUE ∷ Pick ∷ Literal 1000 ∷ Pick ∷ Subtract ∷ []) 0).value

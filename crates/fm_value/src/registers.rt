@@ -43,7 +43,7 @@ impl Registers {
 
     /// Gives the register `k` a value.
     pub fn set(&mut self, k: u32, value: i64)
-        requires place { k < REGISTERS }
+        requires index { k < REGISTERS }
         requires within { IsWithin value }
         ensures { self.new ≡ slice_set self.old k value }
     {

@@ -22,7 +22,7 @@ few_entries faults spot zero (x ∷ xs) none = cc
 few_entries faults spot (suc most) (x ∷ xs) none =
     omega (arith, few_entries faults spot most xs (none_second (faults x) (each_faults faults spot most xs) none))
 
--- the entry at a place has no fault
+-- the entry at an index has no fault
 pub entry_without : {A : Type 0} (faults : A → List NumberedFault) (spot : A → Spot) (most : ℕ) (xs : List A)
     → each_faults faults spot most xs ≡ [] → (i : ℕ) (d : A) → i < length xs → faults (get_or xs i d) ≡ []
 entry_without faults spot most [] none i d within = absurd (omega arith)
