@@ -1,12 +1,15 @@
 """Which crates stand on which, as crates.txt says, and what is proved one after another."""
+from typing import Iterable, Mapping
+
+Uses = dict[str, list[str]]
 
 
-def read_names(path: str) -> dict[str, list[str]]:
+def read_names(path: str) -> Uses:
     """Returns for each crate all that its line names, none where there is no such file."""
-    uses: dict[str, list[str]] = {}
+    uses: Uses = {}
     try:
-        with open(path, encoding="utf-8", errors="replace") as it:
-            lines = it.readlines()
+        with open(path, encoding="utf-8", errors="replace") as file:
+            lines = file.readlines()
     except OSError:
         lines = []
     for line in lines:
@@ -16,35 +19,35 @@ def read_names(path: str) -> dict[str, list[str]]:
     return uses
 
 
-def read_uses(path):
+def read_uses(path: str) -> Uses:
     """Returns for each crate those of the file that it stands on, none where there is no such file."""
     uses = read_names(path)
-    return {name: [it for it in below if it in uses] for name, below in uses.items()}
+    return {name: [crate for crate in below if crate in uses] for name, below in uses.items()}
 
 
-def all_below(uses, name):
+def all_below(uses: Mapping[str, Iterable[str]], name: str) -> set[str]:
     """Returns all crates that a crate stands on, and those that they stand on."""
-    todo, below = [name], set()
+    todo, below = [name], set[str]()
     while todo:
-        new = [it for it in uses.get(todo.pop(), ()) if it not in below]
+        new = [crate for crate in uses.get(todo.pop(), ()) if crate not in below]
         below.update(new)
         todo += new
     return below
 
 
-def turned(uses):
+def turned(uses: Uses) -> Uses:
     """Returns for each crate those that stand on it."""
-    return {name: [it for it in uses if name in uses[it]] for name in uses}
+    return {name: [crate for crate in uses if name in uses[crate]] for name in uses}
 
 
-def longest_chains(uses, costs):
+def longest_chains(uses: Uses, costs: Mapping[str, float]) -> dict[str, tuple[float, list[str]]]:
     """Returns for each crate the chain that ends with it and costs most: its cost, and its crates."""
-    chains = {}
+    chains: dict[str, tuple[float, list[str]]] = {}
 
-    def chain(name):
+    def chain(name: str) -> tuple[float, list[str]]:
         if name not in chains:
-            cost, names = max(map(chain, uses[name]), default=(0, []))
-            chains[name] = cost + costs.get(name, 0), [*names, name]
+            cost, names = max(map(chain, uses[name]), default=(0.0, list[str]()))
+            chains[name] = cost + costs.get(name, 0.0), [*names, name]
         return chains[name]
 
     return {name: chain(name) for name in uses}
