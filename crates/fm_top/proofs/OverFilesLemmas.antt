@@ -89,9 +89,15 @@ module _ {S K : Type 0} (from : SourceSeen S) (source source' : Given S) (to : S
   pub refused_told : (status : ℕ) (t : Task) (fault : RunFault) → asked ≡ Some t → fault_status fault ≡ status
       → IsRefused (given from) source source' (handed to) sink sink' t fault
       → (t : Task) × (fault : RunFault) × (asked ≡ Some t) × (fault_status fault ≡ status) × RefusesOf source source' t fault
-  refused_told status t fault is tells r = (t, fault, is, tells, record {
-    input = r.input;
-    is = passed_is_input from source source' unread (number_of t) r.input (left_alone_of source source' asked t is alone) r.taken;
-    whole = ends_or_long t r.input _ (at_end from source source' unread (number_of t)) r.whole;
-    refuses = r.holds;
-  })
+  refused_told status t fault is tells r = (
+    t,
+    fault,
+    is,
+    tells,
+    record {
+      input = r.input;
+      is = passed_is_input from source source' unread (number_of t) r.input (left_alone_of source source' asked t is alone) r.taken;
+      whole = ends_or_long t r.input _ (at_end from source source' unread (number_of t)) r.whole;
+      refuses = r.holds;
+    },
+  )

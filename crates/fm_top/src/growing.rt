@@ -32,9 +32,9 @@ impl GrowingSink {
 
 impl Append for GrowingSink {
     ghost seen = { record {
-        content = λ sink. Some sink.bytes.items;
-        sure = λ _. None;
-        faults = λ sink. sink.faults;
+      content = λ sink. Some sink.bytes.items;
+      sure = λ _. None;
+      faults = λ sink. sink.faults;
     } };
 
     fn put(&mut self, piece: &[u8]) -> Result<(), Failed> {

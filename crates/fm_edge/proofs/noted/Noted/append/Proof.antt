@@ -1,5 +1,5 @@
 -- The body is empty: the borrow is opened, and closed at the value with the bytes behind its own.
-use Rattle.fm_edge.proofs.Noting.{[], ◌∷◌, ◌++◌, refl, proved, vunit, id⊢, ftrue, flft, named, ‵, raw, ◌⊛◌, ◌$◌, ◌∵◌, !, qed, done, move, keep, drop, use1, split, join, fsplit, fsplit3, feq_i, suffices, frame, group, enter, of_opd, unit_lit, returns, alloc_all, pass_all, free_all, look_at, sets, u8, yes, MutRef, mut_vals, mut_Tells, plain, ShrSlice, shr_slice_vals, shr_slice_Tells, nothing, opens, closes, Stays, says, stay_none_slice, Goes-none_slice, stay_ref, Goes-ref, ends_at, on_entry}
+use Rattle.fm_edge.proofs.Noting.{[], ◌∷◌, ◌++◌, refl, proved, vunit, id⊢, ftrue, flft, named, ‵, ◌⊛◌, ◌$◌, ◌∵◌, !, qed, done, move, keep, use1, split, join, fsplit, fsplit3, feq_i, suffices, frame, group, enter, of_opd, unit_lit, returns, alloc_all, pass_all, free_all, look_at, sets, u8, yes, MutRef, mut_vals, mut_Tells, plain, ShrSlice, shr_slice_vals, shr_slice_Tells, nothing, opens, closes, Stays, says, stay_none_slice, Goes-none_slice, stay_ref, Goes-ref, ends_at}
 use Rattle.fm_edge.specs.declared.noted.Noted.{Noted}
 use Rattle.fm_edge.specs.contracts.noted.Noted as type
 use Rattle.fm_edge.specs.contracts.noted.Noted.append as call
@@ -21,7 +21,7 @@ append_spec 𝓤 𝓛 𝓜 𝓡 wired =
     let self = a.0 in let piece = a.1.0 in let b = self.ref_ptr.0 in let o = self.ref_ptr.1 in
     let longer : Noted = record self.now { bytes = self.now.bytes ++ piece.now } in
     qed 𝓛 (((‵ (flft κs.0 qs.0) ⊛ ‵ (flft κs.1.0 qs.1.0) ⊛ ‵ ftrue) ⊛ ‵ ((MutRef (named 0) κs.0 type.the_row).own_val self (mut_vals self))
-        ⊛ ‵ ((ShrSlice (named 1) κs.1.0 u8).own_val piece (shr_slice_vals piece)) ⊛ ‵ ftrue) ∷ ‵ ftrue ∷ []) ∵
+    ⊛ ‵ ((ShrSlice (named 1) κs.1.0 u8).own_val piece (shr_slice_vals piece)) ⊛ ‵ ftrue) ∷ ‵ ftrue ∷ []) ∵
     split ! $ split ! $ move ! (2 ∷ []) $ split ! $ keep ! (0 ∷ 2 ∷ 1 ∷ 3 ∷ []) $
     -- [the reference; its token; the slice; the slice's token]
     fsplit3 ! $ enter ! _ _ _ _ _ $

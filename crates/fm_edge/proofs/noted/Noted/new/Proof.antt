@@ -28,6 +28,6 @@ new_spec 𝓤 𝓛 𝓜 𝓡 wired =
     returns ! (look_at ! 0 refl) $ free_all ! refl $
     -- it owns nothing, so it is a value of these bytes
     pure_i ! (type.the_row.own_val fresh (made ∷ [])) ((λ us. (tt, ((λ ws. (tt, tt)), tt))), tt)
-        (((empty ∷ [], tt), (refl, ((tt, (refl, tt)), tt))), tt) $
+    (((empty ∷ [], tt), (refl, ((tt, (refl, tt)), tt))), tt) $
     suffices ! _ (ends_at 𝓛 call.ended tt clauses ((κs, qs, bounds, a, tt), g) made fresh tt tt) $
     says ! refl $ nothing ! $ join ! $ nothing ! $ done !))

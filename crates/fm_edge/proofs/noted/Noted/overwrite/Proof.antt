@@ -1,5 +1,5 @@
 -- The body is empty: the borrow is opened, and closed at the value with the bytes over its own.
-use Rattle.fm_edge.proofs.Noting.{[], ◌∷◌, refl, w64, u64, uint_vals, uint_Tells, stay_none, Goes-none, proved, vunit, id⊢, ftrue, flft, named, ‵, raw, ◌⊛◌, ◌$◌, ◌∵◌, !, qed, done, move, keep, drop, use1, split, join, fsplit, fsplit3, feq_i, suffices, frame, group, enter, of_opd, unit_lit, returns, alloc_all, pass_all, free_all, look_at, sets, u8, yes, MutRef, mut_vals, mut_Tells, plain, ShrSlice, shr_slice_vals, shr_slice_Tells, nothing, opens, closes, Stays, says, stay_none_slice, Goes-none_slice, stay_ref, Goes-ref, ends_at, on_entry}
+use Rattle.fm_edge.proofs.Noting.{[], ◌∷◌, refl, w64, u64, uint_vals, uint_Tells, stay_none, Goes-none, proved, vunit, id⊢, ftrue, flft, named, ‵, ◌⊛◌, ◌$◌, ◌∵◌, !, qed, done, move, keep, use1, split, join, fsplit, fsplit3, feq_i, suffices, frame, group, enter, of_opd, unit_lit, returns, alloc_all, pass_all, free_all, look_at, sets, u8, yes, MutRef, mut_vals, mut_Tells, plain, ShrSlice, shr_slice_vals, shr_slice_Tells, nothing, opens, closes, Stays, says, stay_none_slice, Goes-none_slice, stay_ref, Goes-ref, ends_at}
 use Rattle.fm_edge.specs.Content.{overwritten}
 use Rattle.fm_edge.specs.declared.noted.Noted.{Noted}
 use Rattle.fm_edge.specs.contracts.noted.Noted as type
@@ -22,7 +22,7 @@ overwrite_spec 𝓤 𝓛 𝓜 𝓡 wired =
     let self = a.0 in let at = a.1.0 in let piece = a.1.1.0 in let b = self.ref_ptr.0 in let o = self.ref_ptr.1 in
     let changed : Noted = record self.now { bytes = overwritten self.now.bytes at piece.now } in
     qed 𝓛 (((‵ (flft κs.0 qs.0) ⊛ ‵ (flft κs.1.0 qs.1.0) ⊛ ‵ ftrue) ⊛ ‵ ((MutRef (named 0) κs.0 type.the_row).own_val self (mut_vals self))
-        ⊛ ‵ (u64.own_val at (uint_vals w64 at)) ⊛ ‵ ((ShrSlice (named 1) κs.1.0 u8).own_val piece (shr_slice_vals piece)) ⊛ ‵ ftrue) ∷ ‵ ftrue ∷ []) ∵
+    ⊛ ‵ (u64.own_val at (uint_vals w64 at)) ⊛ ‵ ((ShrSlice (named 1) κs.1.0 u8).own_val piece (shr_slice_vals piece)) ⊛ ‵ ftrue) ∷ ‵ ftrue ∷ []) ∵
     split ! $ split ! $ move ! (2 ∷ []) $ split ! $ keep ! (0 ∷ 2 ∷ 1 ∷ 3 ∷ []) $
     -- [the reference; its token; the number and the slice; the slice's token]
     fsplit3 ! $ enter ! _ _ _ _ _ $
