@@ -29,6 +29,7 @@ use Rattle.fm_board.specs.declared.about.About.{About}
 use Rattle.fm_board.specs.declared.seen.Seen.{Seen}
 use Rattle.fm_board.specs.declared.view.Log.{Log}
 use Rattle.fm_board.specs.declared.view.Mind.{Mind}
+use Rattle.fm_board.specs.declared.view.View.{View}
 use Rattle.fm_board.proofs.Goings.{seen_fewer}
 use Rattle.fm_crew.specs.Onward.{AreSeen, HoldsBack, IsFull, IsSeen}
 use Rattle.fm_crew.proofs.Startings.{seen_born}
