@@ -9,6 +9,9 @@ from sampling import KINDS, Task
 # The crate by whose code machines are compared, and the seconds that it takes on the machine of the budget.
 MEASURE, MEASURE_SECONDS = "fm_msg", 26.0
 
+# How many processor minutes the gate may take there from nothing.
+BUDGET_MINUTES = 140
+
 # What the gate says of an edit that is refused.
 REFUSED = re.compile(r"must-fail (\w+)/(\S+?)(?:\.edit)?: refused, as it must be(?:: )?(.*)")
 
@@ -49,36 +52,21 @@ def crate_table(rows: dict[str, Row], wall: float) -> list[str]:
     return lines
 
 
-def read_budget(path: str) -> Row:
-    """Returns the seconds that each crate may take on the machine of the budget."""
-    with open(path, encoding="utf-8") as file:
-        rows = [line.split() for line in file if line.strip() and not line.startswith("#")]
-    return {crate: float(seconds) for crate, seconds in rows}
-
-
-def budget_table(rows: dict[str, Row], budget: Row) -> list[str]:
+def budget_table(rows: dict[str, Row]) -> list[str]:
     """Returns how the run compares with the budget, scaled by the crate by which machines are compared."""
     measure = rows.get(MEASURE, {}).get("code", 0.0)
     if not measure:
         return [f"no comparison with the budget: {MEASURE} was not proved in this run"]
-    scale = MEASURE_SECONDS / measure
-    total, allowed = totals(rows), sum(budget.values())
-    kinds = ", ".join(f"{kind} {total[kind] * scale / 60:.1f}" for kind in KINDS)
-    all_seconds = sum(total.values()) * scale
-    verdict = "within the budget" if all_seconds <= allowed else "over the budget"
+    scale = MEASURE_SECONDS / measure / 60
+    total = totals(rows)
+    minutes = sum(total.values()) * scale
+    kinds = ", ".join(f"{kind} {total[kind] * scale:.1f}" for kind in KINDS)
     dearest = sorted(rows.items(), key=lambda item: -sum(item[1].values()))[:10]
-    lines = [
-        f"{MEASURE} took {measure:.0f} s of code, so all seconds count {scale:.2f} times:",
-        f"{all_seconds / 60:.1f} of {allowed / 60:.1f} minutes, {verdict} ({kinds})",
-        "the dearest: " + ", ".join(f"{crate} {sum(row.values()) * scale / 60:.1f}" for crate, row in dearest),
+    return [
+        f"{MEASURE} took {measure:.0f} s of code, so each second counts {scale * 60:.2f} times:",
+        f"{minutes:.1f} minutes where the budget has {BUDGET_MINUTES} ({kinds})",
+        "the dearest crates, in minutes: " + ", ".join(f"{crate} {sum(row.values()) * scale:.1f}" for crate, row in dearest),
     ]
-    for crate, row in sorted(rows.items()):
-        taken, share = sum(row.values()) * scale, budget.get(crate)
-        if share is None:
-            lines.append(f"{crate} has no share of the budget")
-        elif taken > share:
-            lines.append(f"{crate} took {taken:.0f} s of its {share:.0f}")
-    return lines
 
 
 def edit_names(crate: str) -> list[str]:

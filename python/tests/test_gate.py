@@ -1,0 +1,42 @@
+"""What scripts/watch makes of the processes and of the lines of a run of the gate."""
+import os
+import sys
+import unittest
+
+sys.path.insert(0, os.path.join(os.path.dirname(__file__), "..", "..", "tools", "gate"))
+import report  # noqa: E402
+from sampling import Task, task_of  # noqa: E402
+
+
+class Tasks(unittest.TestCase):
+    def test_a_process_works_at_code_tests_ground_or_an_edit(self) -> None:
+        words = ["rattle", "build", "--crate-name", "fm_msg"]
+        kept = [*words, "--incremental"]
+        self.assertEqual(task_of(words, "/tmp/fm_msg"), Task("fm_msg", "code"))
+        self.assertEqual(task_of([*words, "--test"], "/tmp/fm_msg"), Task("fm_msg", "tests"))
+        self.assertEqual(task_of([*kept, "/tmp/rt-edits-1/seed"], "/tmp/rt-edit-2"), Task("fm_msg", "ground"))
+        self.assertEqual(task_of([*kept, "/tmp/rt-edits-1/3"], "/tmp/rt-edit-2"), Task("fm_msg", "edits", 3))
+        self.assertIsNone(task_of(["rattle", "check"], "/tmp/fm_msg"))
+
+
+class Report(unittest.TestCase):
+    SECONDS = {Task("fm_msg", "code"): 52.0, Task("fm_crew", "code"): 200.0, Task("fm_crew", "edits", 0): 52.0}
+
+    def test_a_slower_machine_is_scaled(self) -> None:
+        lines = report.budget_table(report.by_crate(self.SECONDS))
+        self.assertEqual(lines[0], "fm_msg took 52 s of code, so each second counts 0.50 times:")
+        self.assertEqual(lines[1], "2.5 minutes where the budget has 140 (code 2.1, tests 0.0, ground 0.0, edits 0.4)")
+        self.assertEqual(lines[2], "the dearest crates, in minutes: fm_crew 2.1, fm_msg 0.4")
+
+    def test_without_its_measure_a_run_is_not_compared(self) -> None:
+        lines = report.budget_table(report.by_crate({Task("fm_crew", "code"): 1.0}))
+        self.assertEqual(lines, ["no comparison with the budget: fm_msg was not proved in this run"])
+
+    def test_the_goal_of_an_edit_is_what_the_checker_says_first(self) -> None:
+        printed = ["rt: noise", "must-fail fm_crew/no_lead.edit: refused, as it must be: src/limits.rt:7:1: error",
+                   "must-fail fm_crew/never_done.edit: NOT REFUSED: the crate is still proved"]
+        self.assertEqual(report.goals(printed), {("fm_crew", "no_lead"): "src/limits.rt:7:1: error"})
+
+
+if __name__ == "__main__":
+    unittest.main()
