@@ -4,17 +4,15 @@ ghost use Rattle.fm_top.specs.declared.read_fault.ReadFault.TheVariants.{Failed,
 
 use fm_edge::Failed as SourceFailed;
 use std::alloc::AllocError;
-use thiserror::Error;
 
-/// Why `read_input` gives no input.
-#[derive(Clone, Copy, Debug, PartialEq, Eq, Error)]
+/// Why `read_input` gives no input. Nobody is shown it: each task says what it means to it.
+#[derive(Clone, Copy, Debug)]
 pub enum ReadFault {
-    #[error("a read failed")]
+    /// A read failed.
     Failed,
     /// The source has more bytes than there may be.
-    #[error("the input is too long")]
     TooLong,
-    #[error("out of memory")]
+    /// Want of memory.
     Memory,
 }
 
