@@ -163,8 +163,8 @@ fn damage(
     (from, to, end): (usize, usize, usize),
 ) -> Result<Vec<u8>, AllocError> {
     let mut all = bytes.to_vec(alloc)?;
-    for (place, byte) in changes {
-        if let Some(old) = all.get_mut(*place) {
+    for (index, byte) in changes {
+        if let Some(old) = all.get_mut(*index) {
             *old = *byte;
         }
     }
@@ -197,14 +197,59 @@ fn damaged_bytes_are_refused(rt: HostRuntime) -> Result<(), Fail> {
 /// The greatest length of a file that is listed, in bytes.
 const LONGEST_FILE: usize = 33_554_432;
 
-// One byte more is refused before any of it is judged.
+/// The greatest length of a record that is audited, in bytes.
+const LONGEST_RECORD: usize = 67_108_864;
+
+/// Words, what the input begins with, how many bytes it has, all others 0, and what is said of it.
+type Long = (&'static str, &'static [u8], usize, &'static str);
+
+const LONG: &[Long] = &[
+    (
+        LIST,
+        b"",
+        LONGEST_FILE,
+        "formula: file refused: byte 0 fault 22\n",
+    ),
+    (
+        LIST,
+        b"",
+        LONGEST_FILE + 1,
+        "formula: file refused: byte 0 fault 35\n",
+    ),
+    (
+        AUDIT,
+        RECORD,
+        LONGEST_RECORD,
+        "formula: record refused: 22 fault 43\n",
+    ),
+    (
+        AUDIT,
+        RECORD,
+        LONGEST_RECORD + 1,
+        "formula: record refused: 0 fault 46\n",
+    ),
+];
+
+fn check_long<R: Threads + Wait + Sync + Abort>(
+    rt: &R,
+    alloc: Global,
+    (words, front, length, said): &Long,
+) -> Result<(), AllocError> {
+    let mut input = front.to_vec(alloc)?;
+    input.resize(*length, 0)?;
+    let ran = run_on(rt, alloc, words, &input, SOUND)?;
+    check_left(rt, &ran, (3, said.as_bytes(), b""), said);
+    Ok(())
+}
+
+// What is longer than its limit is refused before any of it is judged, and what just keeps it is
+// judged: behind the steps of the record no step begins.
 #[test]
-fn a_file_of_a_byte_too_many_is_refused(rt: HostRuntime) -> Result<(), Fail> {
+fn inputs_of_a_byte_too_many_are_refused(rt: HostRuntime) -> Result<(), Fail> {
     let alloc = rt.alloc();
-    let zeros = vec![in alloc; 0; LONGEST_FILE + 1]?;
-    let ran = run_on(&rt, alloc, LIST, &zeros, SOUND)?;
-    let said: &[u8] = b"formula: file refused: byte 0 fault 35\n";
-    check_left(&rt, &ran, (3, said, b""), "a byte too many");
+    for row in LONG {
+        check_long(&rt, alloc, row)?;
+    }
     Ok(())
 }
 
