@@ -11,7 +11,7 @@ from .places import AT
 from .ranges import known_name, no_ticks, out_of_range, unknown_name
 from .spot import Spot
 from .statement import FORMS, at_statement
-from .tokens import END, INDEX, NAME, PITCH, REGISTER, kind_of
+from .tokens import END, INDEX, NAME, NUMBER, PITCH, REGISTER, kind_of
 
 __all__ = ["Told", "told"]
 
@@ -36,12 +36,11 @@ def told(data: bytes, line: int, column: int, number: int) -> Optional[Told]:
         found = _BY_NUMBER[number](spot)
         return Told(*found, place) if found else None
     if number == 1:
-        general = "" if spot.where == "statement" else _form(spot)
-        return Told(_heading_of_byte(spot), _word_in_parts(spot) or at_byte(spot) or general or _ANY_BYTE, place)
+        return Told(_heading_of_byte(spot), _word_in_parts(spot) or at_byte(spot) or _form(spot) or _ANY_BYTE, place)
     if number == 2:
         return Told(_heading_of_number(spot), at_number(spot) or "", place)
     rule = at_statement if spot.where == "statement" else AT[spot.where]
-    cure = _doubled(spot) or _word_in_parts(spot) or rule(spot)
+    cure = _doubled(spot) or _word_in_parts(spot) or rule(spot) or _unopened(spot)
     return Told(_heading(spot), cure or _form(spot), spot.last.end if spot.is_over_line else place)
 
 
@@ -52,9 +51,20 @@ _BY_NUMBER = {5: known_name, 6: unknown_name, 7: out_of_range, 8: no_ticks}
 def _doubled(spot: Spot) -> Optional[str]:
     """What to do where a word of the language, a comma or a bracket stands twice."""
     here = spot.here
-    if here.text == spot.last.text and (here.kind in KEYWORDS or here.text in (",", "[")) and not spot.is_over_line:
+    is_written = here.kind == PITCH or here.kind == NUMBER and spot.next().text != "/"
+    if here.text == spot.last.text and (here.kind in KEYWORDS or here.text in (",", "[") or is_written) and (
+            not spot.is_over_line):
         return f"one `{here.text}` is enough: take this one away"
     return None
+
+
+def _unopened(spot: Spot) -> Optional[str]:
+    """What to do about a bracket that closes none."""
+    opens = {")": "(", "]": "["}.get(spot.here.text)
+    texts = [each.text for each in spot.statement]
+    if opens is None or texts.count(opens) > texts.count(spot.here.text):
+        return None
+    return f"there is no open `{opens}` for this `{spot.here.text}`: take it away"
 
 
 def _word_in_parts(spot: Spot) -> Optional[str]:
@@ -120,7 +130,7 @@ def _heading_of_number(spot: Spot) -> str:
 
 def _form(spot: Spot) -> str:
     """What a statement begins with, or the form of the present one."""
-    if spot.where == "statement" and spot.here.is_word:
+    if spot.where == "statement":
         return "a statement begins with a word as `note`, `rest`, `repeat` or `do`, and other text stands behind `#`"
     form = FORMS.get(spot.head)
     return f"`{spot.head}` is written so: `{form}`" if form else ""

@@ -33,6 +33,8 @@ def at_block(spot: Spot) -> Optional[str]:
             return found
     if head == "repeat" and here.kind in ("+", "-", "*", "/", "%"):
         return _count(spot, spot.last.start)
+    if head == "repeat" and here.text in spot.phrases:
+        return f"what it holds stands between `{{` and `}}`: write `{shown} {{ do {here.text}; }}`"
     if head == "repeat" and (here.text in ("times", "x") or here.text == "*"):
         return f"the block stands directly behind the count: take `{here.text}` away"
     if re.match(r"\.[0-9]|,[0-9]+\s*\{", spot.rest):
@@ -49,7 +51,11 @@ def at_block(spot: Spot) -> Optional[str]:
         return _phrase_block(spot, shown)
     if head == "branch" or spot.last.text == "branch":
         if here.kind == NUMBER or here.kind == NAME:
-            return "a branch has no name or number: take it away"
+            if spot.next().text == "{":
+                return "a branch has no name or number: take it away"
+            return "a branch has its block alone: write `branch { .. }`, and what it waits as a `rest` in it"
+    if here.text == "(" and is_statement(spot.next()):
+        return f"the block stands between `{{` and `}}`: write `{shown} {{ .. }}`"
     if head in ("volume", "gate", "channel") and spot.last.kind == NUMBER and here.kind in ("+", "*", "/", "-", "("):
         if head == "volume" and here.kind == "-":
             return by_index("crescendo")
@@ -171,6 +177,8 @@ def at_new_name(spot: Spot) -> Optional[str]:
     if here.kind in (PITCH, REGISTER, INDEX):
         kind = {PITCH: "a pitch", REGISTER: "a register", INDEX: "the index of a loop"}[here.kind]
         return f"`{here.text}` is {kind}, and names nothing: choose another name, as `part_{here.text}`"
+    if here.text in ("flat", "slope", "pause", "breath") and head == "shape" and spot.next().text != "=":
+        return spot.write("a name and a `=` stand before the parts of a shape", spot.place, spot.place, " rit = ")
     if here.is_word and here.kind != NAME:
         return f"`{here.text}` is a word of the language, and names nothing: choose another name, as `my_{here.text}`"
     if here.kind == NUMBER:

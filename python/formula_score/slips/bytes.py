@@ -9,7 +9,7 @@ from ..index import musical
 from ..midi import DYNAMICS
 from ..nodes import KEYWORDS
 from .common import FUNCTIONS
-from .foreign import length_at, pitch_at
+from .foreign import length_at, pitch_at, sum_at
 from .near import near
 from .pitches import is_chord_name
 from .places import AT
@@ -84,6 +84,8 @@ def _capital(spot: Spot) -> Optional[str]:
         return by_index("coda")
     if spot.where == "statement" and re.match(rf"[{_FIELDS}]:", spot.rest):
         return _field(word[0], spot.rest)
+    if spot.where == "formula" and not near(lower, ["formula"]) and "formula" in spot.rest:
+        return "the head stands first, and other text behind `#`: write `#` before it"
     if spot.where == "formula" and re.match(rf"[{_FIELDS}]:", spot.rest):
         return "this is a text in ABC, and no score: abc2midi makes a MIDI file of it"
     meant = pitch_at(spot.text) if pitches or spot.where == "value" else None
@@ -109,6 +111,9 @@ def _capital(spot: Spot) -> Optional[str]:
     nearest = near(lower, [*STATEMENTS, "shape", "phrase", *spot.names]) if spot.where == "statement" else []
     if nearest:
         return f"did you mean `{nearest[0]}`, in small letters?"
+    if spot.where == "statement":
+        return ("a statement begins with a word in small letters, as `note`, `rest`, `repeat` or `do`, and other text "
+                "stands behind `#`")
     return f"words have small letters alone: write `{lower}`, or put what is no music behind `#`"
 
 
@@ -160,7 +165,11 @@ def _mark_of_statement(spot: Spot, first: str) -> Optional[str]:
         return by_index("voice")
     if first == "<":
         meant = pitch_at(spot.text[1:].lstrip())
-        return ("a chord has no brackets, and begins with `note`: write `note c4, e4, g4 1/4;`" if meant else None)
+        if meant:
+            return "a chord has no brackets, and begins with `note`: write `note c4, e4, g4 1/4;`"
+    if re.match(r"[<>]\s*[a-z]", spot.rest):
+        return (f"`{first}` has no meaning here: each pitch has its octave, as `c5` above `c4`, and a chord commas, "
+                "`note c4, e4, g4 1/4;`")
     if first in "\"“”„'‘’«»":
         return "other text stands behind `#`: write `#` before it, in place of quotes"
     if first == ":" and spot.rest.startswith(":|"):
@@ -192,6 +201,9 @@ def _mark(spot: Spot, first: str) -> Optional[str]:
         told = AT[spot.where](spot) if spot.where == "end" and spot.head in ("note", "rest") else None
         if told and "in place of" in told:
             return told
+        if spot.where == "statement":
+            silence = "skip;" if spot.is_inside("rhythm") else "rest 1/4;"
+            return f"silence is `{silence}`, and a tie is one note with both lengths in one, as `note c4 5/8;`"
         return by_index("tie")
     if first in "“”„‘’«»" or first in "\"'" and spot.where not in _QUOTED:
         return "no word has quotes, and other text stands behind `#`: take them away"
@@ -206,11 +218,14 @@ def at_number(spot: Spot) -> Optional[str]:
     """What to do about a number that a letter follows, or one of ten digits and more."""
     found = re.match(r"([0-9]+)([a-z_][a-z0-9_]*)?", spot.rest)
     digits, word = (found[1], found[2] or "") if found else ("", "")
+    hexadecimal = re.match(r"0x([0-9a-f]{1,6})(?![a-z0-9_])", spot.rest)
+    if hexadecimal:
+        return f"numbers are decimal: write `{int(hexadecimal[1], 16)}`"
     if not word:
         return f"a number has at most nine digits, and this one {len(digits)}: write a smaller one"
     if spot.where in ("length", "denominator"):
         start = spot.place if spot.where == "length" else spot.statement[-2].start
-        meant = length_at(spot.source[start:])
+        meant = sum_at(spot.source[start:]) or length_at(spot.source[start:])
         if meant:
             return spot.write(meant.why, start, start + len(meant.wrote), meant.write)
     if spot.where in ("value", "operator") and kind_of(word) in (REGISTER, INDEX, *FUNCTIONS):
@@ -225,8 +240,14 @@ def at_number(spot: Spot) -> Optional[str]:
         return at_statement(spot) or f"no word begins with a digit: write a letter before `{digits}`"
     if spot.where in ("new name", "name"):
         return f"a name begins with a letter: choose another name, as `part_{digits}{word}`"
+    turned = re.match(r"([0-9])([a-g][sb]?)(?![a-z0-9_])", spot.rest)
+    if spot.where == "pitch" and turned:
+        return spot.write("a pitch is a letter and then the octave", spot.place, spot.place + len(turned[0]),
+                          turned[2] + turned[1])
     if spot.where == "pitch":
         return "a pitch is a letter and then the octave, as `c4`: write `note c4 1/4;`"
+    if word in STATEMENTS and spot.head in ("note", "rest"):
+        return f"each statement ends with `;`: write `{digits}; {word}`"
     if word in KEYWORDS:
         return f"a blank stands between a number and a word: write `{digits} {word}`"
     if spot.where in ("length", "denominator") and word in ("ms", "s", "sec", "seconds"):

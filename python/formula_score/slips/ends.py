@@ -37,7 +37,7 @@ def at_end(spot: Spot) -> Optional[str]:
     if here.kind == PITCH or here.kind == NAME and pitch_at(spot.text) and head in ("note", "play"):
         return spot.write("each note is a statement of its own", spot.last.end, spot.place, f"; {head} ",
                           spot.statement[0].start) if head == "note" else None
-    if here.text == ":":
+    if here.text == ":" or here.text == "." and is_statement(spot.next()):
         return spot.write("a statement ends with `;`", spot.last.end, spot.place + 1, ";")
     if here.text == "," and is_statement(spot.next()):
         return "each statement ends with `;`: write `;` in place of the `,`"
@@ -50,6 +50,7 @@ def at_end(spot: Spot) -> Optional[str]:
 
 
 _ROUND = ("volume", "gate", "channel")
+_LOUDNESS = ("amp", "amplitude", "gain", "loudness", "v", "vel", "velocity")
 
 
 def _block_round(spot: Spot) -> Optional[str]:
@@ -84,7 +85,10 @@ def _end_of_sound(spot: Spot) -> Optional[str]:
         return None
     if here.kind in ("loud", "volume") and spot.next().kind in (";", "}", END):
         return by_index("dynamics")
-    if here.text in ("+", "&", "and", "then", "|", ">", "-") and is_statement(spot.next()):
+    if here.text in ("<", ">"):
+        return (f"`{here.text}` has no meaning here: a dotted rhythm is its lengths, `note c4 3/8; note d4 1/8;`, and an "
+                "accent or a crescendo a list, `loud [100, 64] { .. }`")
+    if here.text in ("+", "&", "and", "then", "|", "-") and is_statement(spot.next()):
         return f"each statement ends with `;`: {ended(spot)}, and take the `{here.text}` away"
     if re.match(r"x ?[0-9]+(?![a-z0-9_])|(?:twice|times)\b", spot.rest):
         count = re.match(r"x ?([0-9]+)", spot.rest)
@@ -96,10 +100,17 @@ def _end_of_sound(spot: Spot) -> Optional[str]:
     mark = None if is_statement(here) else mark_behind(spot)
     if mark:
         return mark
+    if here.kind == "/" and spot.next().kind == NUMBER and spot.statement[-2].kind == "ticks":
+        ticks = spot.statement[-2]
+        return spot.write("a part of a whole note has no `ticks`", ticks.start, spot.last.start, "")
     if here.kind in ("+", "*", "/", "%") or here.kind == "-" and spot.next().kind == NUMBER:
         return "a length is one number of parts, as `3/8`, or computed as `ticks (E) max N`"
     if here.kind == ",":
         after = spot.next()
+        if after.kind == NAME and not pitch_at(spot.source[after.start:]):
+            if after.text in _LOUDNESS:
+                return f"the velocity is that of a block: write `volume 80 {{ {statement_text(spot)} }}`"
+            return f"a {head} has one length, and nothing behind it but `;`"
         if after.kind in (PITCH, NAME) and head == "note":
             found = pitch_at(spot.source[after.start:])
             pitch = found.write if found and found.write else after.text
@@ -129,7 +140,10 @@ def _end_of_play(spot: Spot) -> Optional[str]:
         return spot.write("`play` takes its length from the `rhythm` round it, and `note` has its own",
                           spot.statement[0].start, spot.statement[0].end, "note")
     if here.kind == PITCH or here.kind == NAME and pitch_at(spot.text):
-        return insert(spot, "commas stand between the pitches of a chord, and each note is a statement of its own", ",")
+        meant = pitch_at(spot.text)
+        other = meant.write if meant and meant.write else here.text
+        return (f"a chord has commas, `play {spot.last.text}, {other};`, and of notes one after another each is a "
+                f"statement: `play {spot.last.text}; play {other};`")
     if here.kind == "+":
         return chord_plus(spot)
     return None
@@ -155,6 +169,8 @@ def _end_of_do(spot: Spot) -> Optional[str]:
         return f"a phrase has no arguments, and a register hands a value over: write `set r0 = ..; do {name};`"
     if here.text in (",", "+", "and") or here.kind == NAME and here.text in spot.phrases:
         other = here.text if here.text in spot.phrases else spot.next().text
+        if name not in spot.phrases and here.text in spot.phrases:
+            return f"no phrase has the name `{name}`, and `do` plays one as it stands: write `do {here.text};`"
         if here.text == "+" and spot.next().kind == NUMBER:
             return by_index("transpose")
         if other in spot.phrases or spot.next().kind == NAME:

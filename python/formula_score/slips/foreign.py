@@ -66,6 +66,8 @@ def pitch_at(text: str, with_comma: bool = False) -> Optional[Foreign]:
     if not found:
         return None
     letter, mark, digits, marks = found.group(1), found.group(2) or "", found.group(3), found.group(4)
+    if mark == "x" and not digits and not marks:
+        return None
     wrote = found.group()
     if marks and marks.startswith(",") and not with_comma:
         marks, wrote = "", wrote[:-len(marks)]
@@ -147,8 +149,9 @@ def length_at(text: str) -> Optional[Foreign]:
         return _foreign(found[0], Fraction(int(found[1]), int(found[2])), "a length is written with `/`")
     found = re.match(r"[0-9]*\.[0-9]+", text)
     if found:
-        return _foreign(found[0], Fraction(found[0]),
-                        "numbers have no decimal point, and a length is a part of a whole note")
+        beats = _written(Fraction(found[0]) / 4)
+        return _foreign(found[0], Fraction(found[0]), "numbers have no decimal point, and a length is a part of a "
+                        "whole note" + (f" (of a quarter it is `{beats}`)" if beats else ""))
     found = re.match(rf"({whole}) ?[:\\] ?({whole})(?![a-z0-9])", text)
     if found and int(found[2]):
         return _foreign(found[0], Fraction(int(found[1]), int(found[2])), "a length is written with `/`")

@@ -72,6 +72,8 @@ def length_in_parentheses(spot: Spot) -> str:
         meant = length_at(found[1])
         return spot.write("a written length has no parentheses", spot.place, spot.place + len(found[0]),
                           meant.write if meant else found[1])
+    if re.match(r"\(\s*[^(),;{}]*,", spot.rest):
+        return "a pitch has its length behind it, and a rhythm is its notes and rests: write `note c4 1/4; rest 1/4;`"
     added = sum_at(re.sub(r"^\(\s*", "", spot.rest))
     close = spot.rest.find(")")
     if added and close > 0 and len(added.wrote) <= close:
@@ -142,6 +144,9 @@ def _behind_pitch(spot: Spot) -> Optional[str]:
             return "a computed pitch is `key` and parentheses: write `note key (60 - 2) 1/4;`"
     if here.text == "'" or here.text == "’":
         return "the octave is a digit, and `c4` is middle C: take the `'` away"
+    if here.text == "." and re.match(r"\. +[0-9]", spot.rest):
+        return (f"a pitch has no dot: staccato is `gate 50 {{ {sounding(spot)} }}`, and a dotted quarter has the "
+                "length `3/8`")
     if here.text == "." and not re.match(r"\.(?: ;|[0-9])", spot.rest):
         return by_index("triplet")
     if here.kind == "*" or here.text == "x" and spot.next().kind == NUMBER:
@@ -217,7 +222,7 @@ def at_slash(spot: Spot) -> Optional[str]:
     """Behind the first number of a length."""
     here = spot.here
     start = spot.last.start
-    if here.kind == NUMBER and not spot.is_over_line:
+    if here.kind == NUMBER:
         return spot.write("a length has a `/` between its two numbers", spot.last.end, spot.place, "/")
     if here.kind == "ticks":
         return write_length(spot, start, spot.source[start:here.end], f"ticks {spot.last.text}",
@@ -264,6 +269,8 @@ def at_denominator(spot: Spot) -> Optional[str]:
     if here.kind in (";", "}", ",", "]", "by", END):
         joined = re.fullmatch(r"([1-9])(2|4|8|16|32|64)", spot.statement[-2].text)
         write = f"{joined[1]}/{joined[2]}" if joined else f"{spot.statement[-2].text}/4"
+        if joined is None:
+            return f"a number is missing behind the `/`, as in `{write}`"
         return write_length(spot, start, spot.source[start:spot.last.end], write, "a number is missing behind the `/`")
     if here.kind in ("(", REGISTER, INDEX, *FUNCTIONS):
         return "a computed length is written as ticks: write `ticks (E) max N`"

@@ -246,8 +246,14 @@ def at_amount(spot: Spot) -> Optional[str]:
         if found:
             return found
     form = "note key 60 1/4;" if spot.where == "key" else FORMS.get(head, "")
+    if here.kind == ";" and head == "control":
+        return spot.write("a `control` has a controller and a value", spot.last.end, spot.last.end, " 100")
     if here.kind in (";", "}", END):
         return f"a number is missing: write `{form}`"
+    inner = re.match(r"[\[{]\s*([^\[\]{};]*?)\s*[\]})](?! *[-+*/%)])", spot.rest)
+    if inner and not inner[1].isdigit() and spot.mended(spot.place, spot.place + len(inner[0]), f"({inner[1]})"):
+        return spot.write("what is computed stands in parentheses", spot.place, spot.place + len(inner[0]),
+                          f"({inner[1]})")
     if here.kind == "[" or here.kind == "{":
         return f"one number stands there, without brackets: write `{form}`"
     return None

@@ -11,15 +11,17 @@ from .lengths import at_denominator, at_length, at_max, at_most, at_slash, at_ti
 from .near import near
 from .pitches import at_amount, at_controller, at_key, at_pitch
 from .shapes import at_by, at_part, at_stretch, at_to
-from .spot import Spot
+from .spot import Spot, is_statement
 from .statement import FORMS
-from .tokens import END, OTHER
+from .tokens import END, NUMBER, OTHER
 from .values import at_equals, at_function, at_operator, at_register, at_value
 
 
 def at_seed(spot: Spot) -> Optional[str]:
     """Behind `seed` or `division`."""
     word = spot.statement[0].text if spot.statement else "seed"
+    if (spot.here.kind == "=" or spot.here.text == ":") and spot.next().kind == NUMBER:
+        return f"the number stands directly behind `{word}`: write `{word} {spot.next().text};`"
     return f"a written number stands behind `{word}`: write `{FORMS.get(word, 'seed 42;')}`"
 
 
@@ -30,6 +32,8 @@ def at_head(spot: Spot) -> Optional[str]:
     if spot.where == "formula" and later and not near(here.text, ["formula"]):
         if re.match(r"//|/\*|--|%|[\"'“„«]|[A-Za-z ]+:", spot.text):
             return "a comment begins with `#`, and other text stands in one: write `#` before it"
+        if not is_statement(here):
+            return "the head stands first: take away what stands before it, or write `#` before that"
         return f"the head stands first: move `formula {later[1]};` before {spot.shown(here)}"
     if spot.where == "version":
         return "the version stands behind `formula`: write `formula 1;`"

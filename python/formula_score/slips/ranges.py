@@ -56,7 +56,10 @@ def out_of_range(spot: Spot) -> Optional[tuple[str, str]]:
     """Heading and cure of a number out of its range."""
     here = spot.here
     if spot.where == "pitch" and here.kind in (PITCH, "key"):
-        return _TOO_MANY_PITCHES
+        if sum(each.text == "," for each in spot.statement) >= 16:
+            return _TOO_MANY_PITCHES
+        return (f"`{here.text}` is out of its range", "named pitches go from `cb0`, key 11, to `g9`, key 127, the "
+                "greatest: write one of them")
     if spot.where in ("key", "amount") and spot.last.kind == PITCH:
         return None
     sign = "-" if here.text == "-" else ""
@@ -119,8 +122,8 @@ def no_ticks(spot: Spot) -> Optional[tuple[str, str]]:
     whole = whole_note(spot)
     ticks = Fraction(int(over), int(under)) * whole
     return (f"`{over}/{under}` is {float(ticks):.2f} ticks, and no whole number of them",
-            f"a length is a whole number of ticks, of which a whole note has {whole:,}: write `{over}/"
-            f"{_divisor(int(over), int(under), whole)}`, or `ticks {round(ticks)}`")
+            f"a length is a whole number of ticks, of which a whole note has {whole:,}: write `ticks {round(ticks)}`, "
+            f"or `{over}/{_divisor(int(over), int(under), whole)}`")
 
 
 def _divisor(over: int, under: int, whole: int) -> int:

@@ -114,5 +114,8 @@ def at_to(spot: Spot) -> Optional[str]:
     if here.kind == "," and spot.next().kind == "to":
         return spot.write("no comma stands before `to`", spot.place, spot.place + 1, "")
     if here.kind in (";", ",", "}", "{", END) or spot.is_over_line:
-        return insert(spot, "a `slope` goes from one stretch to another, and `flat` has one", " to 1500")
+        why = "a `slope` goes from one stretch to another, and `flat` has one"
+        if spot.last.text == "1000":
+            return insert(spot, why, " to 1500")
+        return spot.write(why, spot.last.start, spot.last.start, "1000 to ")
     return "the stretches of a `slope` are two numbers of thousandths: write `slope 1/1 by 1000 to 1500`"

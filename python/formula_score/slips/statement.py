@@ -15,7 +15,7 @@ from .tokens import END, INDEX, NAME, NUMBER, OTHER, PITCH, REGISTER, kind_of, t
 
 #: Words of other languages, and the word here that does it.
 _ELSEWHERE = {
-    "loop": "repeat", "for": "repeat", "while": "repeat", "times": "repeat", "rep": "repeat", "again": "repeat",
+    "loop": "repeat", "forever": "repeat", "for": "repeat", "while": "repeat", "times": "repeat", "rep": "repeat", "again": "repeat",
     "wait": "rest", "sleep": "rest", "silence": "rest", "pau": "rest", "r": "rest", "tacet": "rest", "s": "rest",
     "call": "do", "goto": "do", "gosub": "do", "use": "do", "run": "do",
     "def": "phrase", "define": "phrase", "function": "phrase", "func": "phrase", "macro": "phrase", "pattern": "phrase",
@@ -28,8 +28,11 @@ _ELSEWHERE = {
     "resolution": "division", "curve": "shape", "envelope": "shape", "when": "if", "unless": "if",
     "elif": "else", "elseif": "else", "elsif": "else", "otherwise": "else", "tone": "note", "pitch": "note",
     "n": "note", "noteon": "note", "note_on": "note", "random_seed": "seed", "randomize": "seed", "srand": "seed",
-    "use_random_seed": "seed", "articulation": "artic", "dynamics_list": "loud", "quantize": "gate",
+    "use_random_seed": "seed", "pitchbend": "bend", "pitch_bend": "bend",
+    "pitchwheel": "bend", "pitch_wheel": "bend", "articulation": "artic", "dynamics_list": "loud", "quantize": "gate",
 }
+#: Those of them that define something by another name.
+_DEFINE = ("def", "define", "function", "func", "macro", "sub", "proc", "procedure", "live_loop")
 #: What each word's statement looks like.
 FORMS = {
     "note": "note c4, e4, g4 1/4;", "play": "play c4;", "rest": "rest 1/4;", "skip": "skip;",
@@ -105,13 +108,15 @@ def at_statement(spot: Spot) -> Optional[str]:
         return f"`{word}` is a shape: write `warp {word} {{ .. }}`"
     if word in ("division", "formula"):
         return _head_word(word, spot)
+    if after.kind == "=" and spot.next(2).kind in ("flat", "slope", "pause", "breath"):
+        return f"parts with a name are a `shape`: write `shape {word} =` in place of `{word} =`"
     joined = re.match(r"([a-z]+?)([0-9]+|[a-g][sb]?[0-9])$", word)
     if joined and joined[1] in STATEMENTS:
         at = spot.place + len(joined[1])
         text = spot.mended(at, at, " ", spot.place)
         return f"a blank stands behind `{joined[1]}`: write `{text or f'{joined[1]} {joined[2]}'}`"
     if after.text == ":" and after.start == here.end and word in ("piano", "violin", "guitar", "flute", "trumpet"):
-        return by_index("voice")
+        return instrument(word)
     if after.text in spot.phrases and word not in _ELSEWHERE and spot.next(2).kind in (";", "}", END):
         return f"a phrase is played by `do`: write `do {after.text};`"
     if word in DYNAMICS and (after.text == "{" or is_statement(after)):
@@ -125,7 +130,7 @@ def at_statement(spot: Spot) -> Optional[str]:
     rest = re.match(r"r([0-9]+)(?![a-z0-9_])", spot.rest)
     if rest:
         return _rest(spot, rest[1])
-    number = spot.after[1].text if after.kind == NUMBER else spot.next(2).text if spot.next(2).kind == NUMBER else ""
+    number = _number_of(spot)
     line = musical(word)
     named = re.match(r"[a-z_]+[\s=:\"'(]+([a-z][a-z _]*[a-z])", spot.rest)
     if line and line.words == "instrument" and named:
@@ -136,8 +141,14 @@ def at_statement(spot: Spot) -> Optional[str]:
     if line and line.words == "tempo" and second:
         return by_index("accelerando")
     found = by_index(word, number)
+    if found and found.startswith("a tempo is") and spot.reading.blocks:
+        shape, warp = re.findall(r"(shape [^;]*;) (warp [a-z0-9_]+)", found)[0]
+        return (f"a tempo is a `warp`, by 120,000 divided by the tempo: write `{shape}` before "
+                f"`{spot.reading.blocks[0].word}`, and `{warp} {{ .. }}` here")
     if found:
         return found
+    if word == "end" and spot.reading.blocks:
+        return "a block ends with `}`: write `}` in place of `end`"
     if len(word) > 3 and any(word == each or re.search(rf"\b{word}\b", each) for each in INSTRUMENTS):
         return instrument(word)
     behind_if = spot.last.text == "}" and spot.reading.closed.word == "if"
@@ -150,6 +161,14 @@ def at_statement(spot: Spot) -> Optional[str]:
         return "did you mean `division`?"
     return did_you_mean(spot, [*STATEMENTS, *spot.names, *((*OUTSIDE, "seed") if not spot.reading.blocks else ()),
                                *(("else",) if spot.last.text == "}" else ())]) or letters(spot)
+
+
+def _number_of(spot: Spot) -> str:
+    """The number that the statement is about: the one behind its `=`, or the only one; '' for none."""
+    text = spot.source[spot.place:spot.end_of_statement(spot.place)]
+    set_to = re.search(r"=\s*([0-9]+)(?![0-9/.])", text)
+    numbers = re.findall(r"(?<![a-z0-9_./])[0-9]+(?![0-9/.])", text)
+    return set_to[1] if set_to else numbers[0] if len(numbers) == 1 else ""
 
 
 def letters(spot: Spot) -> Optional[str]:
@@ -187,13 +206,16 @@ def _symbol(spot: Spot) -> Optional[str]:
     if text == ";":
         if last == "}":
             return "a block has no `;` behind it: take it away"
+        behind = re.match(r"; *([a-z][a-z0-9_]*)[^;\n]*(?:\n|\Z)", spot.rest)
+        if "\n" in spot.source[spot.last.end:spot.place] and behind and kind_of(behind[1]) not in STATEMENTS:
+            return "a comment begins with `#`: write `#` in place of the `;`"
         return ("one `;` is enough: take this one away" if last == ";" else
                 "no statement stands before this `;`: take it away")
     if text == "}":
         return "there is no open `{` for this `}`: take it away"
     if text == "{":
         if last == "{":
-            return "one `{` is enough: take this one and its `}` away"
+            return f"one `{{` is enough: take this one{'' if lacks_brace(spot) else ' and its `}`'} away"
         if spot.next().text == "{":
             return by_index("voice")
         return "a block belongs to a word, as in `repeat 2 { .. }`: write that word, or take this `{` and its `}` away"
@@ -278,8 +300,11 @@ def _rest(spot: Spot, digits: str) -> str:
     return "a rest is written `rest 1/4;`"
 
 
-def _pitch(spot: Spot) -> str:
-    """A note without its word, its pitch perhaps as others write it."""
+def _pitch(spot: Spot) -> Optional[str]:
+    """A note without its word, its pitch perhaps as others write it; None where what follows is of no note."""
+    after = spot.next()
+    if after.kind == OTHER and after.start > spot.here.end and after.text not in "~'\"<>^.|":
+        return None
     found = pitch_at(spot.text)
     pitch = found.write if found and found.write else spot.here.text
     why = "a note begins with `note`"
@@ -354,7 +379,10 @@ def _elsewhere(spot: Spot, word: str) -> Optional[str]:
     if word == "division":
         return _head_word(word, spot)
     if word == "repeat":
-        number = next((each.text for each in spot.after[1:4] if each.kind == NUMBER), "4")
+        head = re.match(r"[^{};\n]*", spot.rest)
+        counts = [int(each) for each in re.findall(r"(?<![a-z0-9_.])[0-9]{1,6}(?![a-z0-9_])|(?<=\.\.)[0-9]{1,6}",
+                                                   head[0] if head else "")]
+        number = max(counts, default=4)
         return f"a loop is a `repeat`: write `repeat {number} {{ .. }}`"
     if word == "rest":
         behind = re.sub(r"^[\s(]+", "", spot.rest[len(written):])
@@ -367,7 +395,8 @@ def _elsewhere(spot: Spot, word: str) -> Optional[str]:
         length = re.match(r"[0-9]+ ?/ ?[0-9]+|ticks [0-9]+", behind)
         return f"silence is a `rest`: write `rest {length[0] if length else found.write if found else '1/4'};`"
     if word == "phrase":
-        name = spot.next().text if spot.next().kind == NAME else "verse"
+        own = written if spot.next().kind in ("=", "{") and written not in _DEFINE else "verse"
+        name = spot.next().text if spot.next().kind == NAME else own
         return f"music with a name is a `phrase`: write `phrase {name} {{ .. }}`, and play it by `do {name};`"
     if word == "do":
         name = spot.next().text if spot.next().text in spot.phrases else "verse"
@@ -381,5 +410,7 @@ def _elsewhere(spot: Spot, word: str) -> Optional[str]:
         return "an `if` has its other case behind `else`: write `else { .. }`"
     if word == "else" and spot.last.text == "}":
         return "a third case is an `if` in the block: write `else { if r1 { .. } }`"
+    if word == "note" and spot.next().kind == NUMBER and 0 <= int(spot.next().text[:6]) <= 127:
+        return f"`{written}` is `note` here, with a length: write `note key {spot.next().text} 1/4;`"
     text = spot.mended(spot.place, spot.here.end, word, spot.place)
     return f"`{written}` is `{word}` here: write `{text or FORMS[word]}`"

@@ -16,6 +16,8 @@ from .tokens import END, INDEX, NAME, NUMBER, PITCH, REGISTER
 
 _COMPARES = {"<": "less(a, b)", ">": "less(b, a)", "<=": "1 - less(b, a)", ">=": "1 - less(a, b)", "==": "same(a, b)",
              "!=": "1 - same(a, b)", "<>": "1 - same(a, b)", "=": "same(a, b)"}
+_DECIMAL = "values are whole numbers, without a decimal point"
+_RANGE = "a value is one number, and `60 + pick(13)` draws one from 60 to 72"
 
 
 def at_register(spot: Spot) -> Optional[str]:
@@ -50,6 +52,8 @@ def at_equals(spot: Spot) -> Optional[str]:
         if here.kind in (NAME, "-") and re.match(r"[-a-z0-9_ ]{1,30}=", spot.rest):
             name = re.sub(r"[^a-z0-9_]+", "_", spot.source[spot.last.start:].split("=")[0].strip())
             return f"a name is one word, of letters, digits and `_`: write `shape {name} = ..`"
+        if spot.next().kind in ("flat", "slope", "pause", "breath"):
+            return spot.write("a `=` stands before the parts of a shape", spot.place, spot.place + len(here.text), "=")
         if here.text == "{":
             return ("a shape has no block, and its parts stand behind a `=`: write `shape rit = slope 1/1 by 1000 to "
                     "1500;`")
@@ -117,7 +121,7 @@ def at_operator(spot: Spot) -> Optional[str]:
         if here.kind in (";", "{", "}", "max", END) or is_statement(here):
             return f"write the `)` of the `(` at {where}"
         if here.text == ".":
-            return "values are whole numbers, without a decimal point"
+            return _DECIMAL if spot.next().text != "." else _RANGE
         if here.kind in (NUMBER, REGISTER, INDEX, "(", *FUNCTIONS):
             return (f"an operator is missing: write one of `+ - * / %` between `{spot.last.text}` and `{here.text}`, "
                     "or the `)`")
@@ -126,7 +130,7 @@ def at_operator(spot: Spot) -> Optional[str]:
     if here.text == "?":
         return "a value has no two cases: write `if E { set r0 = 5; } else { set r0 = 6; }`"
     if here.text == ".":
-        return "values are whole numbers, without a decimal point"
+        return _DECIMAL if spot.next().text != "." else _RANGE
     if here.kind == NAME and _logic(here.text, spot):
         return _logic(here.text, spot)
     if here.kind in ("less", "same") and spot.last.text != ")":
@@ -159,7 +163,7 @@ def _logic(word: str, spot: Spot) -> Optional[str]:
         "mod": "the remainder is `%`: write `%` for `mod`",
         "div": "a quotient is `/`, rounded down: write `/` for `div`",
         "then": "the block stands directly behind the condition: write `{` in place of `then`",
-        "^": "there is no power: write `r0 * r0`",
+        "^": "there is no power: write the product, as `2 * 2 * 2`",
     }.get(word)
 
 
@@ -210,7 +214,7 @@ def at_value(spot: Spot) -> Optional[str]:
         if last.text == "=" or here.kind == "=":
             return _compare(spot)
         if last.text == "*" and here.text == "*":
-            return "there is no power: write `r0 * r0`"
+            return "there is no power: write the product, as `2 * 2 * 2`"
         return "one operator stands between two values: take one away"
     if here.kind == "=" and last.kind == "=":
         return spot.write("a register gets its value by one `=`", spot.place, spot.place + 1, "")
@@ -218,6 +222,9 @@ def at_value(spot: Spot) -> Optional[str]:
         return _logic("!", spot)
     if here.kind in (")",):
         return "a value is missing before the `)`"
+    if here.kind == "{" and last.text == "%" and spot.before[-2].kind == NUMBER and spot.head == "if":
+        share = spot.before[-2].text
+        return f"a share of a hundred is drawn: write `if less(pick(100), {share}) {{ .. }}`"
     if here.kind in (";", "{", END, "}"):
         return f"a value is missing behind `{last.text}`: write a number, or an expression as `r0 + 2`"
     if here.kind == "+":
