@@ -23,6 +23,9 @@ from .explain import (
 from .values import truth, whole
 from .words import RANGES
 
+#: PREFIX/lib/formula, where the library is installed with the command.
+_HOME = os.path.dirname(os.path.dirname(os.path.dirname(os.path.abspath(__file__))))
+
 Path = Union[str, "os.PathLike[str]"]
 
 
@@ -70,8 +73,22 @@ class Large(NamedTuple):
 
 
 def find_program(program: Optional[str] = None) -> Optional[str]:
-    """The program that is named here, in FORMULA, or `formula` in PATH; None where there is none."""
-    return program or os.environ.get("FORMULA") or shutil.which("formula")
+    """The program that is named here or in FORMULA, that beside which this library is installed, or `formula` in PATH;
+    None where there is none."""
+    named = program or os.environ.get("FORMULA")
+    if named:
+        return named
+    beside = os.path.join(_HOME, "formula")
+    return beside if os.path.basename(_HOME) == "formula" and os.access(beside, os.X_OK) else _in_path()
+
+
+def _in_path() -> Optional[str]:
+    """`formula` in PATH; where that is the command as it is installed, the program itself, which explains nothing."""
+    found = shutil.which("formula")
+    if found is None:
+        return None
+    inner = os.path.join(os.path.dirname(os.path.dirname(os.path.realpath(found))), "lib", "formula", "formula")
+    return inner if os.access(inner, os.X_OK) else found
 
 
 def play(text: Union[str, bytes], path: Path, program: Optional[str] = None, *, workers: Optional[int] = None,

@@ -69,9 +69,11 @@ class Package(unittest.TestCase):
         mypy = shutil.which("mypy")
         if mypy is None:
             self.skipTest("NOT TRIED: there is no mypy")
-        done = subprocess.run([mypy, f"--cache-dir={os.devnull}"], cwd=TOP / "python", stdout=subprocess.PIPE,
-                              stderr=subprocess.STDOUT, text=True, check=False)
-        self.assertEqual(done.returncode, 0, done.stdout)
+        whole = [mypy, f"--cache-dir={os.devnull}"]
+        for script in ("", "../scripts/install"):
+            done = subprocess.run([*whole, *script.split()], cwd=TOP / "python", stdout=subprocess.PIPE, stderr=subprocess.STDOUT,
+                                  env={**os.environ, "MYPYPATH": "../tools/package"}, text=True, check=False)
+            self.assertEqual(done.returncode, 0, done.stdout)
 
     def test_each_name_is_there(self) -> None:
         for name in [*formula_score.__all__, "LengthLike", "PitchLike", "Part", "Seq"]:

@@ -48,6 +48,7 @@ class Scripts(unittest.TestCase):
         (self.top / "scripts").mkdir()
         for name in ("formula", "batch"):
             shutil.copy(TOP / "scripts" / name, self.top / "scripts")
+        shutil.copytree(TOP / "tools" / "command", self.top / "tools" / "command")
         self.script = str(self.top / "scripts" / "formula")
 
     def test_a_script_that_formula_names_is_no_program(self) -> None:

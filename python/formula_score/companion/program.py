@@ -19,8 +19,8 @@ OK, FOUND, MISUSED = 0, 1, 2
 
 ABOUT = """\
 A companion of formula, the music performance compiler. It is outside the proof: what it counts, cuts, filters and
-draws is tested only. What it tells of ticks are answers of the proved program, which FORMULA names, else `formula`
-in PATH, else the one that scripts/formula builds."""
+draws is tested only. What it tells of ticks are answers of the proved program. FORMULA names it; else it is the one
+that is installed beside this companion, else `formula` in PATH, else the one that scripts/formula builds."""
 
 STATUSES = """\
 status: 0 all is well; 1 something was found, or refused; 2 the words are no use of the verb, or a file cannot be

@@ -1,0 +1,72 @@
+"""What `scripts/install` puts below a folder, and takes away again."""
+
+from __future__ import annotations
+
+import importlib
+import os
+import pathlib
+import subprocess
+import sys
+import tempfile
+import unittest
+from typing import Any
+
+from .program import PROGRAM, TOP, needs_program
+
+sys.path.insert(0, str(TOP / "tools" / "package"))
+#: A module of tools/package, which is no part of the library.
+proved: Any = importlib.import_module("proved")
+
+WANTED = (
+    "bin/formula", "bin/formula-score", "lib/formula/formula", "lib/formula/proved.txt", "lib/formula/runs.sh",
+    "lib/formula/python/formula_score/__init__.py", "share/man/man1/formula.1", "share/man/man1/formula-score.1",
+    "share/bash-completion/completions/formula", "share/vim/vimfiles/syntax/formula.vim",
+    "share/vim/vimfiles/compiler/formula.vim", "share/formula/editors/vscode/package.json",
+    "share/formula/editors/vscode/tasks.json", "share/doc/rosetrowel/README.md", "share/doc/rosetrowel/COPYING",
+    "share/doc/rosetrowel/docs/LANGUAGE.md", "share/doc/rosetrowel/examples/scores/canon.score",
+)
+
+
+def install(*words: str) -> "subprocess.CompletedProcess[bytes]":
+    """A run of the script."""
+    return subprocess.run([sys.executable, TOP / "scripts" / "install", *words], capture_output=True, check=False,
+                          env={**os.environ, "FORMULA": str(PROGRAM)})
+
+
+class Install(unittest.TestCase):
+    @needs_program
+    def test_all_is_there_and_goes_again(self) -> None:
+        with tempfile.TemporaryDirectory() as folder:
+            prefix = pathlib.Path(folder, "prefix")
+            (prefix / "bin").mkdir(parents=True)
+            (prefix / "bin" / "other").touch()
+            self.assertEqual(install(str(prefix)).returncode, 0)
+            self.assertEqual([name for name in WANTED if not (prefix / name).is_file()], [])
+            program = subprocess.run([sys.executable, "-I", "-B", "-c", "import sys; sys.path.insert(0, sys.argv[1])\n"
+                                      "import formula_score; print(formula_score.find_program())",
+                                      prefix / "lib" / "formula" / "python"], env={"PATH": "/none"}, check=True,
+                                     stdout=subprocess.PIPE, text=True).stdout
+            self.assertEqual(program, f"{prefix}/lib/formula/formula\n")
+            # one that another program named is not called proved
+            self.assertIn("commit   not known", (prefix / "lib/formula/proved.txt").read_text())
+            self.assertEqual(install("--remove", str(prefix)).returncode, 0)
+            self.assertEqual([path for path in prefix.rglob("*") if path.is_file()], [prefix / "bin" / "other"])
+
+    def test_a_bad_use(self) -> None:
+        for words in ((), ("",), ("--help",), ("a", "b"), ("--remove",)):
+            done = install(*words)
+            self.assertEqual((done.returncode, done.stdout), (1, b""), words)
+
+    def test_sums_are_those_of_the_page(self) -> None:
+        with tempfile.TemporaryDirectory() as folder:
+            top = pathlib.Path(folder)
+            (top / "src" / "a").mkdir(parents=True)
+            (top / "src" / "b.rt").write_text("one\n")
+            (top / "src" / "a" / "c.rt").write_text("two\n")
+            shell = "find src -type f | LC_ALL=C sort | xargs sha256sum | sha256sum"
+            said = subprocess.run(["sh", "-c", shell], cwd=top, stdout=subprocess.PIPE, text=True, check=True).stdout
+            self.assertEqual(proved.sum_of_folder(top, top / "src"), said.split()[0])
+
+
+if __name__ == "__main__":
+    unittest.main()

@@ -1,0 +1,60 @@
+"""What stands below a prefix when the command is installed: each file with its bytes and its mode."""
+
+from __future__ import annotations
+
+import pathlib
+from typing import Iterator, NamedTuple, Optional, Sequence
+
+from proved import STRANGE, files_below, page
+
+#: Folders below the prefix that hold nothing else.
+OWN = "lib/formula", "share/doc/rosetrowel", "share/formula"
+PROGRAM, PAGE, LIBRARY = "lib/formula/formula", "lib/formula/proved.txt", "lib/formula/python/formula_score"
+PAGES = "README.md", "CHANGELOG.md", "COPYING"
+LEFT_OUT = {"__pycache__", ".mypy_cache"}
+
+
+class File(NamedTuple):
+    """A file below the prefix."""
+
+    content: bytes
+    mode: int
+
+
+def contents(top: pathlib.Path, program: bytes, gate: Optional[Sequence[str]] = None,
+             is_strange: bool = False) -> dict[str, File]:
+    """Each file that is installed, by its name below the prefix; a strange program is not one of this checkout."""
+    files = {
+        PROGRAM: File(program, 0o755),
+        PAGE: File((STRANGE if is_strange else page(top, program, gate)).encode(), 0o644),
+        "bin/formula": File((top / "tools/command/formula").read_bytes(), 0o755),
+        "bin/formula-score": File((top / "tools/command/formula-score").read_bytes(), 0o755),
+    }
+    files.update((name, File(path.read_bytes(), 0o644)) for name, path in _pages_and_code(top))
+    return dict(sorted(files.items()))
+
+
+def _pages_and_code(top: pathlib.Path) -> Iterator[tuple[str, pathlib.Path]]:
+    yield "lib/formula/runs.sh", top / "tools/command/runs.sh"
+    yield from _below(top / "python/formula_score", LIBRARY)
+    for name in ("formula.1", "formula-score.1"):
+        yield f"share/man/man1/{name}", top / "docs" / name
+    yield "share/bash-completion/completions/formula", top / "editors/bash/formula"
+    yield from _below(top / "editors/vim", "share/vim/vimfiles")
+    yield from _below(top / "editors/vscode", "share/formula/editors/vscode")
+    yield "share/doc/rosetrowel/editors/README.md", top / "editors/README.md"
+    for name in PAGES:
+        yield f"share/doc/rosetrowel/{name}", top / name
+    for name, path in _below(top / "docs", "share/doc/rosetrowel/docs"):
+        if path.suffix != ".1":
+            yield name, path
+    for name in ("README.md", "COOKBOOK.md"):
+        yield f"share/doc/rosetrowel/python/{name}", top / "python" / name
+    yield from _below(top / "examples", "share/doc/rosetrowel/examples")
+
+
+def _below(folder: pathlib.Path, target: str) -> Iterator[tuple[str, pathlib.Path]]:
+    for path in files_below(folder):
+        inside = path.relative_to(folder)
+        if not LEFT_OUT & {*inside.parts} and path.suffix != ".mid":
+            yield f"{target}/{inside.as_posix()}", path
