@@ -8,6 +8,7 @@ import shutil
 import signal
 import subprocess
 import tempfile
+import time
 import unittest
 import unittest.mock
 
@@ -61,6 +62,24 @@ class Scripts(unittest.TestCase):
     def test_a_program_that_runs_the_script_ends(self) -> None:
         wrapper = written(self.top / "wrapper", f"#!/bin/sh\nexec '{self.script}' \"$@\"\n")
         self.assertEqual(said([self.script, "in", "out"], wrapper), "FORMULA is not set\n")
+
+    def test_a_build_that_is_stopped_leaves_the_old_program(self) -> None:
+        started = self.top / "started"
+        written(self.top / "scripts" / "build", f"#!/bin/sh\necho $$ >'{started}'\nexec sleep 60\n")
+        (self.top / "crates.txt").touch()
+        os.utime(self.built, (0, 0))
+        for number, status in ((signal.SIGTERM, 143), (signal.SIGHUP, 143)):
+            with subprocess.Popen([self.script, "in", "out"], stdin=subprocess.DEVNULL, stdout=subprocess.DEVNULL,
+                                  stderr=subprocess.DEVNULL, env={"PATH": os.environ["PATH"]}) as run:
+                while not (started.exists() and started.read_text()):
+                    time.sleep(0.01)
+                run.send_signal(number)
+                self.assertEqual(run.wait(LONGEST), status)
+            build = int(started.read_text())
+            self.assertRaises(ProcessLookupError, os.kill, build, 0)
+            self.assertEqual((pathlib.Path(self.built).read_text(), os.listdir(os.path.dirname(self.built))),
+                             (STAND_IN, ["fm_main"]))
+            started.unlink()
 
     def test_the_library_hands_it_to_no_program(self) -> None:
         kept = self.top / "kept"
