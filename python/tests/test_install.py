@@ -1,4 +1,4 @@
-"""What `scripts/install` puts below a folder, and takes away again."""
+"""What `scripts/install` puts below a folder, takes away again, and what a package says of it."""
 
 from __future__ import annotations
 
@@ -14,8 +14,9 @@ from typing import Any
 from .program import PROGRAM, TOP, needs_program
 
 sys.path.insert(0, str(TOP / "tools" / "package"))
-#: A module of tools/package, which is no part of the library.
+#: Modules of tools/package, which are no part of the library.
 proved: Any = importlib.import_module("proved")
+debian: Any = importlib.import_module("debian")
 
 WANTED = (
     "bin/formula", "bin/formula-score", "lib/formula/formula", "lib/formula/proved.txt", "lib/formula/runs.sh",
@@ -25,6 +26,7 @@ WANTED = (
     "share/formula/editors/vscode/tasks.json", "share/doc/rosetrowel/README.md", "share/doc/rosetrowel/COPYING",
     "share/doc/rosetrowel/docs/LANGUAGE.md", "share/doc/rosetrowel/examples/scores/canon.score",
 )
+LINKED = "arrayvec", "atomic_table", "circular_buffer", "clap", "itoa", "strsim", "thiserror"
 
 
 def install(*words: str) -> "subprocess.CompletedProcess[bytes]":
@@ -66,6 +68,16 @@ class Install(unittest.TestCase):
             shell = "find src -type f | LC_ALL=C sort | xargs sha256sum | sha256sum"
             said = subprocess.run(["sh", "-c", shell], cwd=top, stdout=subprocess.PIPE, text=True, check=True).stdout
             self.assertEqual(proved.sum_of_folder(top, top / "src"), said.split()[0])
+
+    def test_the_copyright_names_each_crate(self) -> None:
+        rows = debian.terms((TOP / "docs" / "formula.1").read_text())
+        self.assertEqual(tuple(sorted(row.crate for row in rows)), LINKED)
+        told = {row.crate: row.told for row in rows}
+        self.assertEqual(told["thiserror"], told["itoa"])
+        said = debian.copyright_of(TOP).decode()
+        self.assertIn((TOP / "COPYING").read_text().strip(), said)
+        for row in rows:
+            self.assertIn(f"---- {row.crate}: {row.told}\n", said)
 
 
 if __name__ == "__main__":

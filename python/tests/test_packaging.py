@@ -70,7 +70,7 @@ class Package(unittest.TestCase):
         if mypy is None:
             self.skipTest("NOT TRIED: there is no mypy")
         whole = [mypy, f"--cache-dir={os.devnull}"]
-        for script in ("", "../scripts/install"):
+        for script in ("", "../scripts/package", "../scripts/install"):
             done = subprocess.run([*whole, *script.split()], cwd=TOP / "python", stdout=subprocess.PIPE, stderr=subprocess.STDOUT,
                                   env={**os.environ, "MYPYPATH": "../tools/package"}, text=True, check=False)
             self.assertEqual(done.returncode, 0, done.stdout)
