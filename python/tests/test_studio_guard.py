@@ -133,7 +133,7 @@ class Paths(StudioTest):
             self.assertEqual(self.studio.put(name, "x", "0" * 64).status, 403)
 
     def test_parts_of_the_editor_and_the_page_are_named_in_a_list(self) -> None:
-        for path in ("/editor/../../../etc/passwd", "/editor/%2e%2e/%2e%2e/package.json", "/editor/mode/python/python.js",
+        for path in ("/editor/../../../etc/passwd", "/editor/%2e%2e/%2e%2e/package.json", "/editor.py", "/editor.js/x",
                      "/page/..%2fserver.py", "/page/server.py", "/page/..", "/examples/scores/..%2f..%2fREADME.md",
                      "/examples/..%2f../passwd"):
             self.assertIn(self.studio.get(path).status, (403, 404), path)

@@ -47,6 +47,7 @@ VERBS: dict[str, Verb] = {
     "roll": Verb("roll", "draw a score or a MIDI file as a piano roll, once or whenever the score is saved"),
     "listen": Verb("listen", "play a score, or some bars of it, through fluidsynth or timidity"),
     "studio": Verb("studio", "show and play a score in the browser while it is written"),
+    "lsp": Verb("lsp", "serve an editor that speaks LSP: what is refused, completion, names, an outline"),
     "lint": Verb("lint", "say what is accepted in a score, and hardly meant"),
     "export": Verb("exporting", "write a score for notation programs, with a tempo map, a meter and names"),
     "import": Verb("importing", "write a score from a MIDI file, play it, and compare each event"),

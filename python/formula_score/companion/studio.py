@@ -44,7 +44,7 @@ def run(options: argparse.Namespace) -> int:
     needs("aiohttp", "python3-aiohttp", words)
     from ..studio import server  # it needs aiohttp
 
-    if not (server.EDITOR / server.EDITOR_PARTS[0]).exists():
+    if not (server.EDITOR / f"{server.EDITOR_PARTS[0]}.js").exists():
         raise Failed(1, "the editor CodeMirror is missing: apt-get install libjs-codemirror")
     folder, opened = _folder(options.path, options.read_only)
     listener = _listener(options.port)

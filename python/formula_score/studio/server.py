@@ -27,12 +27,11 @@ from .sound import Sound, Unheard
 PAGE = pathlib.Path(__file__).parent / "page"
 #: Where Debian's libjs-codemirror puts the editor.
 EDITOR = pathlib.Path("/usr/share/javascript/codemirror")
-#: The parts of the editor that the page takes.
+#: The parts of the editor that the page takes, in the order in which they need one another.
 EDITOR_PARTS = (
-    "lib/codemirror.js", "lib/codemirror.css", "addon/fold/foldcode.js", "addon/fold/foldgutter.js",
-    "addon/fold/foldgutter.css", "addon/fold/brace-fold.js", "addon/edit/matchbrackets.js",
-    "addon/edit/closebrackets.js", "addon/hint/show-hint.js", "addon/hint/show-hint.css", "addon/dialog/dialog.js",
-    "addon/dialog/dialog.css", "addon/search/searchcursor.js", "addon/search/search.js", "addon/comment/comment.js",
+    "lib/codemirror", "addon/fold/foldcode", "addon/fold/foldgutter", "addon/fold/brace-fold",
+    "addon/edit/matchbrackets", "addon/edit/closebrackets", "addon/hint/show-hint", "addon/dialog/dialog",
+    "addon/search/searchcursor", "addon/search/search", "addon/comment/comment",
 )
 _KINDS = {".html": "text/html", ".js": "text/javascript", ".css": "text/css", ".json": "application/json"}
 #: The longest message of a page, in bytes: a text twice as long as the longest file, as JSON writes it.
@@ -71,12 +70,11 @@ class Studio:
         return web.Response(body=path.read_bytes(), content_type=_KINDS[path.suffix], charset="utf-8")
 
     async def editor(self, request: web.Request) -> web.StreamResponse:
-        """A part of CodeMirror."""
-        name = request.match_info["name"]
-        if name not in EDITOR_PARTS:
-            raise web.HTTPNotFound(text="there is no such part")
-        path = EDITOR / name
-        return web.Response(body=path.read_bytes(), content_type=_KINDS[path.suffix], charset="utf-8")
+        """CodeMirror as one script, or one sheet of styles."""
+        ending = request.match_info["ending"]
+        parts = [EDITOR / f"{name}.{ending}" for name in EDITOR_PARTS]
+        body = b"\n".join(path.read_bytes() for path in parts if path.is_file())
+        return web.Response(body=body, content_type=_KINDS[f".{ending}"], charset="utf-8")
 
     async def about(self, _: web.Request) -> web.StreamResponse:
         """What the page has to know before it opens a text."""
@@ -177,7 +175,7 @@ class Studio:
         top = f"/{self.guard.token}"
         made.add_routes([
             web.get(f"{top}/", self.page), web.get(f"{top}/about", self.about), web.get(f"{top}/socket", self.live),
-            web.get(f"{top}/page/{{name}}", self.page), web.get(f"{top}/editor/{{name:.+}}", self.editor),
+            web.get(f"{top}/page/{{name}}", self.page), web.get(f"{top}/editor.{{ending:js|css}}", self.editor),
             web.get(f"{top}/files/{{name:.+}}", self.read), web.put(f"{top}/files/{{name:.+}}", self.save),
             web.get(f"{top}/examples/{{folder}}/{{name}}", self.example),
             web.post(f"{top}/sound", self.listen),

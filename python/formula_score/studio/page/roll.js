@@ -168,7 +168,7 @@ export class Roll {
         pen.fillStyle = inks.strong;
         pen.fillRect(x, isLabelled ? 0 : TOP, 1, height);
       }
-      if (isLabelled) {
+      if (isLabelled && bar <= this.bars.last) {
         pen.fillStyle = inks.ink;
         pen.fillText(String(bar), x + 2, TOP / 2);
         free = x + pen.measureText(String(bar)).width;
@@ -185,8 +185,6 @@ export class Roll {
     pen.beginPath();
     pen.rect(LEFT, TOP, this.pictures.width, this.pictures.height);
     pen.clip();
-    pen.strokeStyle = inks.ink;
-    pen.lineWidth = 0.5;
     const isNear = (until - axis.begin) / Math.max(1, notes.length - first) * axis.scale > 0.5;
     for (let at = first; at < notes.length && ticks[notes[at]] <= until; at++) {
       if (ends[at] < axis.begin) continue;
@@ -196,8 +194,8 @@ export class Roll {
       covered[key] = x + width;
       pen.globalAlpha = this.told.isFaint(event) ? 0.2 : 1;
       pen.fillStyle = this.palette.paint(pen, this.number(event));
-      pen.fillRect(x, this.y(key) + 1, width, this.row - 1.5);
-      if (isNear && width > 3) pen.strokeRect(x, this.y(key) + 1, width, this.row - 1.5);
+      // a gap tells notes of one key apart
+      pen.fillRect(x, this.y(key) + 1, isNear && width > 3 ? width - 1 : width, this.row - 2);
     }
     pen.globalAlpha = 1;
     this.drawMarks(pen, piece);

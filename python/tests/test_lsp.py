@@ -1,0 +1,181 @@
+"""The language server, spoken to as editors do; and by Neovim."""
+
+from __future__ import annotations
+
+import json
+import os
+import pathlib
+import shutil
+import subprocess
+import sys
+import tempfile
+import unittest
+from typing import Any, Optional
+
+from .program import PROGRAM, TOP, needs_program
+
+URI = "file:///tune.score"
+TEXT = """formula 1; # 𝄞
+phrase tune { note c4 1/4; }
+phrase other { do tune; }
+do tune; do other;
+"""
+#: What Neovim's client is asked to do: it opens a score, waits for a refusal, cures it, renames, and tells what it has.
+NEOVIM = """
+local said = {}
+local score, server, out = unpack(ARGUMENTS)
+vim.cmd('edit ' .. score)
+local buffer = vim.api.nvim_get_current_buf()
+local client = vim.lsp.start_client({ name = 'formula', cmd = server, root_dir = vim.fn.getcwd() })
+vim.lsp.buf_attach_client(buffer, client)
+local function waited(what) vim.wait(60000, what, 50) end
+waited(function() return #vim.diagnostic.get(buffer) > 0 end)
+local found = vim.diagnostic.get(buffer)[1]
+table.insert(said, found and (found.lnum .. ':' .. found.col .. ' ' .. found.message) or 'no diagnostic')
+vim.api.nvim_buf_set_lines(buffer, 1, 2, false, { 'phrase tune { note c4 1/4; }' })
+waited(function() return #vim.diagnostic.get(buffer) == 0 end)
+table.insert(said, #vim.diagnostic.get(buffer) .. ' left')
+vim.api.nvim_win_set_cursor(0, { 4, 4 })
+vim.lsp.buf.rename('song')
+waited(function() return vim.api.nvim_buf_get_lines(buffer, 1, 2, false)[1]:find('song') end)
+vim.list_extend(said, vim.api.nvim_buf_get_lines(buffer, 1, 3, false))
+vim.fn.writefile(said, out)
+vim.cmd('qa!')
+"""
+
+
+def words_of_server() -> list[str]:
+    return [sys.executable, str(TOP / "scripts" / "score"), "lsp"]
+
+
+class Spoken(unittest.TestCase):
+    def setUp(self) -> None:
+        self.server = subprocess.Popen(words_of_server(), env={**os.environ, "FORMULA": PROGRAM or "/nothing"},
+                                       stdin=subprocess.PIPE, stdout=subprocess.PIPE, stderr=subprocess.PIPE)
+        self.addCleanup(self.stop)
+        self.number = 0
+        self.published: list[Any] = []
+        try:
+            self.able = self.ask("initialize", {"processId": None, "rootUri": None, "capabilities": {}})["capabilities"]
+        except (EOFError, BrokenPipeError):
+            said = self.server.stderr.read().decode() if self.server.stderr else ""
+            self.skipTest(f"NOT TRIED: {said.strip()}")
+        self.tell("initialized", {})
+
+    def stop(self) -> None:
+        self.server.kill()
+        self.server.communicate()
+
+    def send(self, **message: Any) -> None:
+        data = json.dumps({"jsonrpc": "2.0", **message}).encode()
+        assert self.server.stdin is not None
+        self.server.stdin.write(b"Content-Length: %d\r\n\r\n%s" % (len(data), data))
+        self.server.stdin.flush()
+
+    def next(self) -> Any:
+        assert self.server.stdout is not None
+        length = 0
+        while line := self.server.stdout.readline().strip():
+            name, _, value = line.partition(b":")
+            length = int(value) if name == b"Content-Length" else length
+        if not length:
+            raise EOFError
+        return json.loads(self.server.stdout.read(length))
+
+    def tell(self, method: str, params: Any) -> None:
+        self.send(method=method, params=params)
+
+    def ask(self, method: str, params: Any) -> Any:
+        self.number += 1
+        self.send(id=self.number, method=method, params=params)
+        while (said := self.next()).get("id") != self.number:
+            self.published.append(said)
+        return said["result"] if "result" in said else said["error"]["message"]
+
+    def open(self, text: str, version: int = 1) -> None:
+        self.tell("textDocument/didOpen", {"textDocument": {"uri": URI, "languageId": "formula", "version": version,
+                                                            "text": text}})
+
+    def at(self, method: str, line: int, character: int, **more: Any) -> Any:
+        return self.ask(f"textDocument/{method}", {"textDocument": {"uri": URI}, "position": {
+            "line": line, "character": character}, **more})
+
+    def diagnostics(self, version: int) -> list[Any]:
+        """Those that are published of a version."""
+        while True:
+            said = self.published.pop(0) if self.published else self.next()
+            if said.get("method") == "textDocument/publishDiagnostics" and said["params"].get("version") == version:
+                found: list[Any] = said["params"]["diagnostics"]
+                return found
+
+    @needs_program
+    def test_each_change_is_judged(self) -> None:
+        self.open(TEXT)
+        self.assertEqual(self.diagnostics(1), [])
+        for version in range(2, 8):
+            text = TEXT.replace("note c4 1/4;", "note c4 1/4" if version == 7 else f"note c4 1/{2 ** version};")
+            self.tell("textDocument/didChange", {"textDocument": {"uri": URI, "version": version},
+                                                 "contentChanges": [{"text": text}]})
+        found, = self.diagnostics(7)
+        self.assertEqual(found["range"], {"start": {"line": 1, "character": 26}, "end": {"line": 1, "character": 27}})
+        self.assertEqual(found["message"], "here a `;` is expected, and there is `}` (fault 3)\neach statement ends with "
+                                           "`;`: write `note c4 1/4;`")
+
+    def test_words_names_and_the_outline_are_told(self) -> None:
+        self.open(TEXT)
+        self.assertIn("starts up to 16 pitches", self.at("hover", 1, 15)["contents"]["value"])
+        self.assertIn("phrase tune { note c4 1/4; }", self.at("hover", 3, 4)["contents"]["value"])
+        self.assertIsNone(self.at("hover", 0, 14))
+        self.assertEqual(self.at("definition", 3, 4)["range"]["start"], {"line": 1, "character": 7})
+        uses = self.at("references", 1, 8, context={"includeDeclaration": True})
+        self.assertEqual([(each["range"]["start"]["line"], each["range"]["start"]["character"]) for each in uses],
+                         [(1, 7), (2, 18), (3, 3)])
+        symbols = self.ask("textDocument/documentSymbol", {"textDocument": {"uri": URI}})
+        self.assertEqual([each["name"] for each in symbols], ["tune", "other"])
+
+    def test_what_may_be_written_is_offered(self) -> None:
+        self.open(TEXT + "do t")
+        offered = self.at("completion", 4, 4)["items"]
+        self.assertEqual([(each["label"], each["textEdit"]["range"]["start"]["character"]) for each in offered],
+                         [("tune", 3)])
+
+    def test_a_name_is_renamed_everywhere_or_not_at_all(self) -> None:
+        self.open(TEXT)
+        changed = self.at("rename", 3, 4, newName="song")["changes"][URI]
+        self.assertEqual(len(changed), 3)
+        self.assertEqual(self.at("rename", 3, 4, newName="c4"), "`c4` is a pitch, and no name")
+        self.assertEqual(self.at("rename", 3, 4, newName="other"), "another phrase or shape is called `other`")
+        self.assertIsNone(self.at("prepareRename", 0, 2))
+
+    def test_it_ends_as_the_editor_wants(self) -> None:
+        self.assertIsNone(self.ask("shutdown", None))
+        self.tell("exit", None)
+        self.assertEqual(self.server.wait(20), 0)
+
+
+class Neovim(unittest.TestCase):
+    @needs_program
+    def test_its_client_shows_a_refusal_and_renames(self) -> None:
+        neovim: Optional[str] = shutil.which("nvim")
+        if neovim is None:
+            self.skipTest("NOT TRIED: neovim is not installed")
+        check = subprocess.run(words_of_server(), input=b"", stdout=subprocess.PIPE, stderr=subprocess.PIPE, check=False)
+        if b"apt-get" in check.stderr:
+            self.skipTest(f"NOT TRIED: {check.stderr.decode().strip()}")
+        with tempfile.TemporaryDirectory() as name:
+            folder = pathlib.Path(name)
+            (folder / "tune.score").write_text(TEXT.replace("note c4 1/4;", "note c4 1/4"))
+            given = ", ".join(f"'{each}'" for each in words_of_server())
+            (folder / "init.lua").write_text(
+                f"local ARGUMENTS = {{ '{folder}/tune.score', {{ {given} }}, '{folder}/said' }}\n{NEOVIM}")
+            subprocess.run([neovim, "--headless", "-u", "NONE", "-i", "NONE", "-c", f"luafile {folder}/init.lua"],
+                           cwd=folder, env={**os.environ, "FORMULA": PROGRAM or ""}, timeout=150, check=False,
+                           stdin=subprocess.DEVNULL, stdout=subprocess.DEVNULL, stderr=subprocess.DEVNULL)
+            said = (folder / "said").read_text().splitlines()
+        self.assertTrue(said[0].startswith("1:26 here a `;` is expected"), said)
+        self.assertIn("0 left", said)
+        self.assertEqual(said[-2:], ["phrase song { note c4 1/4; }", "phrase other { do song; }"])
+
+
+if __name__ == "__main__":
+    unittest.main()
