@@ -37,11 +37,12 @@ class Answered(NamedTuple):
 class Running:
     """A studio that runs, with a program. `words` stand behind the verb."""
 
-    def __init__(self, *words: object, program: Optional[str] = PROGRAM):
+    def __init__(self, *words: object, program: Optional[str] = PROGRAM, opens: bool = False):
         if program is None:  # the command would build one
             raise unittest.SkipTest("NOT TRIED: there is no program, and FORMULA names none")
         self.process = subprocess.Popen(
-            [sys.executable, str(TOP / "scripts" / "score"), "studio", "--no-open", *map(str, words)],
+            [sys.executable, str(TOP / "scripts" / "score"), "studio", *([] if opens else ["--no-open"]),
+             *map(str, words)],
             env={**os.environ, "FORMULA": program}, stdin=subprocess.DEVNULL, stdout=subprocess.PIPE,
             stderr=subprocess.PIPE, text=True, start_new_session=True)
         assert self.process.stdout is not None and self.process.stderr is not None

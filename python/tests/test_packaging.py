@@ -57,7 +57,8 @@ class Package(unittest.TestCase):
         self.assertEqual((about["Version"], said), (formula_score.__version__, f"{formula_score.__version__}\n"))
         self.assertEqual(about["License"], "No licence has been granted yet")
         self.assertIn("Topic :: Multimedia :: Sound/Audio :: MIDI", about.get_all("Classifier", []))
-        self.assertIn("formula_score/py.typed", names)
+        for name in ("py.typed", "studio/page/index.html", "studio/page/main.js", "studio/page/formula.tmLanguage.json"):
+            self.assertIn(f"formula_score/{name}", names)
         self.assertTrue(str(about.get_payload()).lstrip().startswith("# formula_score"))
 
     def test_what_a_build_leaves_is_no_part_of_the_repository(self) -> None:

@@ -6,8 +6,10 @@ import json
 import os
 import socket
 import stat
+import time
 import unittest
 from typing import Any
+from unittest import mock
 
 from .studio import Running, StudioTest
 
@@ -53,6 +55,13 @@ class Guarded(StudioTest):
             self.refused("another page asks", method="PUT", path="/files/tune.score", body=b"{}", Origin=origin)
         for site in ("cross-site", "same-site"):
             self.refused("another site asks", Origin=None, Sec_Fetch_Site=site)
+
+    def test_the_page_alone_is_gone_to_from_elsewhere(self) -> None:
+        gone: dict[str, Any] = {"Origin": None, "Sec_Fetch_Site": "cross-site", "Sec_Fetch_Mode": "navigate"}
+        self.assertEqual(self.studio.ask("GET", "/", **gone).status, 200)
+        self.refused("another site asks", path="/about", **gone)
+        self.refused("another site asks", path="/", **{**gone, "Sec_Fetch_Mode": "no-cors"})
+        self.refused("the token is missing", path="/", token="x", **{**gone, "Sec_Fetch_Site": "none"})
 
     def test_what_changes_something_has_to_tell_its_page(self) -> None:
         for method, path in (("PUT", "/files/tune.score"), ("POST", "/export/midi"), ("POST", "/sound"),
@@ -202,6 +211,24 @@ class OneScore(StudioTest):
             self.assertIn(b"alone", alone.get(f"/files/{name}").body)
             self.assertEqual(alone.put(name, "x", None).status, 403)
         self.assertEqual(alone.put("tune.score", "x", alone.get("/files/tune.score").json["version"]).status, 200)
+
+
+class Opened(StudioTest):
+    def test_the_address_is_no_word_of_the_browsers_command(self) -> None:
+        opener, said = self.home / "bin" / "xdg-open", self.home / "said"
+        opener.parent.mkdir()
+        opener.write_text(f'#!/bin/sh\n{{ echo "$*"; stat -c %a "$1"; cat "$1"; }} >"{said}.new"; mv "{said}.new" "{said}"\n')
+        opener.chmod(0o755)
+        with mock.patch.dict(os.environ, {"PATH": f"{opener.parent}:{os.environ['PATH']}"}):
+            other = Running(self.folder, opens=True)
+        self.addCleanup(other.close)
+        until = time.monotonic() + 20
+        while not said.exists() and time.monotonic() < until:
+            time.sleep(0.05)
+        words, mode, page = said.read_text().split("\n", 2)
+        self.assertNotIn(other.token, words)
+        self.assertEqual(mode, "600")
+        self.assertIn(f"url={other.address}", page)
 
 
 class Exports(StudioTest):

@@ -49,12 +49,12 @@ def run(options: argparse.Namespace) -> int:
     folder, opened = _folder(options.path, options.read_only)
     listener = _listener(options.port)
 
-    def tell(address: str) -> None:
+    def tell(address: str, home: str) -> None:
         print(f"the studio is at {address}\nend it with Ctrl-C", flush=True)
         opener = None if options.no_open else shutil.which("xdg-open")
         if opener:
-            subprocess.Popen([opener, address], stdin=subprocess.DEVNULL, stdout=subprocess.DEVNULL,
-                             stderr=subprocess.DEVNULL, start_new_session=True)
+            subprocess.Popen([opener, _page_that_leads(address, home)], stdin=subprocess.DEVNULL,
+                             stdout=subprocess.DEVNULL, stderr=subprocess.DEVNULL, start_new_session=True)
 
     try:
         asyncio.run(server.serve(server.Settings(program(), folder, opened, listener), tell))
@@ -76,6 +76,15 @@ def _folder(path: str, read_only: bool) -> tuple[Folder, str]:
     if not os.path.isdir(home or "."):
         raise Failed(2, f"there is no folder {home!r}")
     return Folder(home or ".", name, read_only), name
+
+
+def _page_that_leads(address: str, home: str) -> str:
+    """The name of a file that leads a browser on. The words of a process can be read by every user of this computer, so
+    the address with its secret is none of them."""
+    path = os.path.join(home, "studio.html")
+    with open(os.open(path, os.O_WRONLY | os.O_CREAT | os.O_EXCL, 0o600), "w", encoding="ascii") as file:
+        file.write(f'<!doctype html><title>Studio</title><meta http-equiv="refresh" content="0; url={address}">\n')
+    return path
 
 
 def _listener(port: int) -> socket.socket:

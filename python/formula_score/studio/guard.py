@@ -18,6 +18,7 @@ class Asked(NamedTuple):
     hosts: Sequence[str]
     origins: Sequence[str]
     sites: Sequence[str]
+    modes: Sequence[str]
     upgrades: bool
 
 
@@ -64,7 +65,9 @@ class Guard:
             return "another page asks"
         if not asked.origins and (asked.method not in READING or asked.upgrades):
             return "the page that asks is not told"
-        if any(site not in ("same-origin", "none") for site in asked.sites):
+        # the page alone may be gone to from elsewhere: from the file that hands its address to the browser
+        is_gone_to = list(asked.modes) == ["navigate"] and asked.path == f"/{self.token}/"
+        if not is_gone_to and any(site not in ("same-origin", "none") for site in asked.sites):
             return "another site asks"
         if not self._has_token(asked):
             return "the token is missing: take the address from the terminal"

@@ -9,9 +9,10 @@ import asyncio
 import contextlib
 import json
 import pathlib
+import signal
 import socket
 import tempfile
-from typing import Any, Awaitable, Callable, NamedTuple, Optional
+from typing import Any, Awaitable, Callable, NamedTuple
 
 from aiohttp import WSMsgType, web
 
@@ -192,7 +193,7 @@ class Studio:
         headers = request.headers
         why = self.guard.refuses(Asked(
             request.method, request.path, headers.getall("Host", []), headers.getall("Origin", []),
-            headers.getall("Sec-Fetch-Site", []), "Upgrade" in headers))
+            headers.getall("Sec-Fetch-Site", []), headers.getall("Sec-Fetch-Mode", []), "Upgrade" in headers))
         if why is not None:
             return web.Response(status=403, text=f"studio: {why}\n")
         try:
@@ -217,18 +218,20 @@ async def _aside(work: Callable[..., Any], *words: Any) -> Any:
     return await asyncio.get_event_loop().run_in_executor(None, work, *words)
 
 
-async def serve(settings: Settings, tell: Callable[[str], None],
-                stop: Optional[asyncio.Event] = None) -> None:
-    """Serves until it is stopped; `tell` is called with the address."""
+async def serve(settings: Settings, tell: Callable[[str, str], None]) -> None:
+    """Serves until it is ended; `tell` is called with the address, and with a folder that nobody else may look into."""
+    stop = asyncio.Event()
+    for number in (signal.SIGTERM, signal.SIGHUP):
+        asyncio.get_running_loop().add_signal_handler(number, stop.set)
     with tempfile.TemporaryDirectory(prefix="formula-studio-") as home:
         studio = Studio(settings, home)
         runner = web.AppRunner(studio.application(), access_log=None, handle_signals=False)
         await runner.setup()
         try:
             await web.SockSite(runner, settings.listener).start()
-            tell(studio.guard.address)
+            tell(studio.guard.address, home)
             await studio.workers.warm()
-            await (stop or asyncio.Event()).wait()
+            await stop.wait()
         finally:
             studio.workers.close()
             with contextlib.suppress(Exception):

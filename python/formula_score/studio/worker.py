@@ -30,6 +30,10 @@ from .frames import Frame, packed, read
 from .picture import Picture, meter_of
 
 
+#: The longest file whose score is read, in bytes: about half a million events, which take a gigabyte here.
+MOST_BYTES = 2_000_000
+
+
 class Worker:
     """What is known of the text that was read last, and what can be asked of it."""
 
@@ -55,6 +59,8 @@ class Worker:
     def _known(self, head: dict[str, Any], text: bytes) -> Picture:
         version = hashlib.sha256(text).hexdigest()
         if self.picture is None or self.version != version:
+            if os.path.getsize(head["file"]) > MOST_BYTES:
+                raise Failed(1, "the piece is too long to be looked at: it is shown without processes, places and bars")
             self.picture = None
             self.picture, self.version = Picture(text, head["file"]), version
         return self.picture

@@ -15,7 +15,7 @@ interface Editor {
   clearGutter(gutter: string): void; operation(work: () => void): void; showHint(options?: object): void;
   scrollIntoView(place: Place, margin?: number): void; getInputField(): HTMLElement; setOption(name: string, value: unknown): void;
   setSelection(from: Place, to: Place): void; lineCount(): number; getWrapperElement(): HTMLElement;
-  foldCode(place: Place, options?: object): void; isFolded(place: Place): boolean;
+  replaceRange(text: string, from: Place, to?: Place): void; foldCode(place: Place, options?: object): void; isFolded(place: Place): boolean;
 }
 declare const CodeMirror: {
   (place: HTMLElement, options: object): Editor;

@@ -31,10 +31,17 @@ export class Lanes {
   /** @param {Process[]} processes */
   show(processes) {
     this.processes = processes;
+    if (!processes.length) {
+      this.chosen = -1;
+      this.home.setAttribute("aria-label", "Processes: not known");
+      this.draw();
+      return;
+    }
     // one that lasts is more to see than one that stands before all
     const longest = processes.reduce((best, each, at) =>
       each.end - each.begin > processes[best].end - processes[best].begin ? at : best, 0);
-    this.choose(this.chosen >= 0 && this.chosen < processes.length ? this.chosen : longest);
+    const kept = processes[this.chosen];
+    this.choose(kept && kept.end > kept.begin ? this.chosen : longest);
     this.draw();
   }
 

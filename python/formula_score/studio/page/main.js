@@ -13,7 +13,7 @@ import { Sound } from "./sound.js";
 import { Tempo } from "./tempo.js";
 
 /** Files up to so many bytes are read at once, longer ones aside. */
-const SHORT = 200_000;
+const SHORT = 2_000_000;
 /** How long the page waits for the next keystroke, in ms: hardly, but for texts that take long. */
 const PAUSE = 10, LONG_PAUSE = 250;
 
@@ -50,7 +50,7 @@ const isHeard = (/** @type {number} */ event) =>
 sound.isHeard = isHeard;
 /** @type {Roll} */
 const roll = new Roll(rollHome, axis, palette, {
-  pointed: (note) => { if (roll.chosen < 0) facts(note); },
+  pointed: (note) => facts(note < 0 ? roll.chosen : note),
   chosen: (note) => facts(note),
   selected: (from, to) => { fromBar.value = String(from); toBar.value = String(to); selected(); },
   seek: (tick) => { if (roll.piece) sound.seek(seconds(roll.piece, tick)).then(follow); },
@@ -89,7 +89,7 @@ function send() { session.play(writing.text, meter.value, upbeat.value); }
  * @param {import("./session.js").Head} head @param {ArrayBuffer} body */
 function take(head, body) {
   if (head.number !== session.number) return;  // a newer text is on its way
-  if (head.failed) return tell(head.failed);
+  if (head.failed) return takeFailure(head);
   if (head.kind === "file") takeFile(head, body);
   if (head.kind === "refusal") {
     writing.refuse(head.refusal);
@@ -98,6 +98,17 @@ function take(head, body) {
   }
   if (head.kind === "picture") takePicture(head, body);
   if (head.kind === "bars") takeBars(head);
+}
+
+/** Shows the file alone, where the companion has nothing to say of it.
+ * @param {import("./session.js").Head} head */
+function takeFailure(head) {
+  tell(head.failed || "");
+  if (head.kind === "picture") lanes.show([]);
+  if (head.kind === "bars") {
+    roll.bars = null;
+    selected();
+  }
 }
 
 /** @param {import("./session.js").Head} head @param {ArrayBuffer} body */
@@ -119,6 +130,7 @@ function showPiece(piece, file) {
   places = null;
   roll.processes = null;
   roll.show(piece);
+  facts(-1);
   sound.show(piece, file);
   mixer.show(piece.channels.map((channel) => `channel ${channel}`));
   rollHome.setAttribute("aria-label", roll.words);
@@ -164,9 +176,14 @@ function measured() {
 
 // ---- the note and the process that are chosen
 
+let factsOf = -1, placesOf = places;
+
 /** Tells what is known of a note: at once what the file says, then what the score says.
  * @param {number} note */
 async function facts(note) {
+  if (note === factsOf && places === placesOf) return;
+  factsOf = note;
+  placesOf = places;
   const home = byId("facts", HTMLElement);
   if (note < 0 || !roll.piece) return home.replaceChildren();
   const event = roll.piece.notes[note], { ticks, messages, ends } = roll.piece;

@@ -47,7 +47,7 @@ export class Sound {
 
   /** The second of the piece that is heard now. */
   get now() {
-    if (!this.isPlaying || !this.context) return this.second;
+    if (!this.isPlaying || !this.context || this.begun === Infinity) return this.second;
     let at = this.from + Math.max(0, this.heard() - this.begun);
     if (this.loop && this.from < this.loop.to && at >= this.loop.to) {
       at = this.loop.from + (at - this.loop.to) % (this.loop.to - this.loop.from);
@@ -72,10 +72,12 @@ export class Sound {
   async play() {
     if (!this.piece) return;
     this.context = this.context || new AudioContext({ latencyHint: "interactive" });
-    await this.context.resume();
     this.isPlaying = true;
     this.isWaiting = true;
+    this.from = this.second;
+    this.begun = Infinity;  // it does not sound yet
     this.changed();
+    await this.context.resume();
     if (this.second >= this.end) this.second = 0;
     if (this.loop && (this.second < this.loop.from || this.second >= this.loop.to)) this.second = this.loop.from;
     await this.sound(this.second);
