@@ -1,13 +1,16 @@
 """Writes the definitions of a reading list as a crate of their own, which the checker takes, and takes them out one by one.
 
-    alone.py FUNCTION CLAUSE FOLDER [--each [FIRST [LAST]]]
+    alone.py FUNCTION CLAUSE FOLDER [--each [FIRST [LAST]] | --some N [SEED]]
 
 The crate has nothing but what scripts/statement prints, with the `use` lines that this needs. With --each every
-definition is left out once, and the check has to refuse what is left: so the list has nothing that is not needed. Those
-that the clause itself names are not left out, since the crate does not hold the clause."""
+definition is left out once, and the check has to refuse what is left: so the list has nothing that is not needed. With
+--some N that is tried with N of them, drawn at random. Those that the clause itself names are not left out, since the crate
+does not hold the clause. A check takes some ten seconds of processor, so all of them take more than an hour. The last line
+tells how many were left out, of how many, and how many of these the rest does not need."""
 from __future__ import annotations
 
 import os
+import random
 import re
 import shutil
 import subprocess
@@ -194,6 +197,12 @@ def check(folder: str) -> tuple[bool, str]:
     return done.returncode == 0, done.stdout
 
 
+def drawn(items: list[Needed], count: int, seed: int = 0) -> list[Needed]:
+    """So many of them, in their order."""
+    chosen = set(random.Random(seed).sample(range(len(items)), min(count, len(items))))
+    return [it for k, it in enumerate(items) if k in chosen]
+
+
 def main() -> int:
     if len(sys.argv) < 4:
         print(__doc__)
@@ -207,17 +216,20 @@ def main() -> int:
     if not proved:
         print(said[-3000:])
         return 1
-    if "--each" not in sys.argv:
+    way = next((word for word in ("--each", "--some") if word in sys.argv), None)
+    if way is None:
         return 0
-    bounds = [int(it) for it in sys.argv[sys.argv.index("--each") + 1:]]
+    numbers = [int(it) for it in sys.argv[sys.argv.index(way) + 1:]]
     named = {name for it in statement.needed for name in it.names}
+    all_of_them = [it for it in statement.needed if it.target in named]
+    chosen = all_of_them[slice(*numbers) if numbers else slice(None)] if way == "--each" else drawn(all_of_them, *numbers)
     kept = 0
-    for it in [it for it in statement.needed if it.target in named][slice(*bounds)]:
+    for it in chosen:
         Alone(repository, statement, it.target).write(folder)
         proved, said = check(folder)
         kept += proved
         print(f"{'NOT NEEDED' if proved else 'needed'} {it.path}:{it.first} {it.target.name}", flush=True)
-    print(f"{kept} are not needed")
+    print(f"{len(chosen)} of {len(all_of_them)} left out in turn, {kept} are not needed")
     return kept != 0
 
 

@@ -4,9 +4,10 @@ It is no part of what is believed. A form that it finds counts where the tokens 
 spell it with, and a text for which it finds none has to trip by the definitions."""
 from __future__ import annotations
 
+from collections.abc import Sequence
 from typing import Any
 
-from running import NIL, Made, Record, listed
+from running import NIL, Made, Record
 
 
 class NoForm(Exception):
@@ -22,7 +23,7 @@ SCALINGS = {"*": "times", "/": "over", "%": "modulo"}
 ADDINGS = {"+": "plus", "-": "minus"}
 
 
-def in_turn(kind: str, items: list[tuple[Any, ...]], end: str) -> Made:
+def in_turn(kind: str, items: Sequence[tuple[Any, ...]], end: str) -> Made:
     """`kind x (kind y end)`."""
     made = Made(end)
     for item in reversed(items):
@@ -243,16 +244,10 @@ STATEMENTS = {
 }
 
 
-def form_of(tokens: Any) -> Record | None:
+def form_of(tokens: Any) -> Any:
+    """The form that tokens spell, or None where none is found."""
     try:
         return Forms(tokens).score()
     except NoForm:
         return None
 
-
-def bytes_of(text: Any) -> bytes:
-    return bytes(text)
-
-
-def text_of(text: bytes) -> Any:
-    return listed(text) if text else NIL

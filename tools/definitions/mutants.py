@@ -1,36 +1,19 @@
-"""Changes definitions by rule, and tells which changes the rows find.
-
-    mutants.py [FUNCTION] [CLAUSE] [--only WORD] [--alive] [--json FILE]
-
-Each definition that a clause needs and that computes is changed in one place at a time: a number is one more or one less,
-two arms or the bodies of two clauses are exchanged, `<` stands for `≤`, an onset for an ending, an argument or an operand
-for another of its type, a field for another of its record, a summand is left out, the greatest stands for the least, what
-is taken for what is dropped. The rows that use the definition are then run; a change is found where one of them does not
-come out true. The table has a line for each file: definitions, changes, how many a row finds that names the definition, how
-many only one that does not, and how many none. With --alive each of the latter is told."""
+"""The changes of a definition by rule, one place at a time: a number is one more or one less, two arms or the bodies of two
+clauses are exchanged, `<` stands for `≤`, an onset for an ending, an argument or an operand for another of its type, a field
+for another of its record, a summand is left out, the greatest stands for the least, what is taken for what is dropped."""
 from __future__ import annotations
 
-import argparse
-import json
-import os
 import re
-import signal
-import sys
-import time
 from collections import Counter, defaultdict
 from collections.abc import Callable, Iterator
 from dataclasses import dataclass, replace
-from types import CodeType, FrameType
+from functools import partial
 from typing import Any
 
-sys.dont_write_bytecode = True
-import running  # noqa: E402
-from notation import Item, NotRead, Word, signature_of  # noqa: E402
-from repository import Repository, Target, row_files  # noqa: E402
-from rows import TOP, Rows  # noqa: E402
-from statement import named_in_row, statement_of  # noqa: E402
-from terms import Clause, Pattern, Term  # noqa: E402
-from translate import Body, Translator, global_name, says_only  # noqa: E402
+from notation import Item, NotRead, Word, signature_of
+from repository import Repository, Target
+from terms import Clause, Pattern, Term
+from translate import Translator, says_only
 
 # What stands for what.
 OTHER = {
@@ -220,7 +203,8 @@ class Changes:
 def argument_types(words: list[Word]) -> list[str]:
     """The types before the arrows of a type, `(x y : A)` as one for each name."""
     found: list[str] = []
-    depth, part = 0, []
+    part: list[Word] = []
+    depth = 0
     for word in [*words, Word("→", 0, 0)]:
         depth += (word.text in "({") - (word.text in ")}") if len(word.text) == 1 else 0
         if word.text == "→" and depth == 0:
@@ -285,27 +269,39 @@ def record_fields(item: Item) -> list[tuple[str, str]]:
     return fields
 
 
+def with_part(term: Term, k: int, made: Term) -> Term:
+    return replace(term, parts=(*term.parts[:k], made, *term.parts[k + 1:]))
+
+
+def with_field(term: Term, k: int, made: Term) -> Term:
+    parts: Any = term.parts
+    return replace(term, parts=(parts[0], (*parts[1][:k], (parts[1][k][0], made), *parts[1][k + 1:])))
+
+
+def with_case(term: Term, k: int, made: Term) -> Term:
+    parts: Any = term.parts
+    return replace(term, parts=(parts[0], (*parts[1][:k], replace(parts[1][k], body=made), *parts[1][k + 1:])))
+
+
 def parts_of_term(term: Term) -> Iterator[tuple[Callable[[Term], Term], Term]]:
     """Each part of a term, with what puts another in its place."""
     parts: Any = term.parts
     if term.kind in ("operator", "choice", "tuple", "field"):
         for k, part in enumerate(parts):
-            yield (lambda made, k=k: replace(term, parts=(*parts[:k], made, *parts[k + 1:]))), part
+            yield partial(with_part, term, k), part
     elif term.kind == "function":
         yield (lambda made: replace(term, parts=(parts[0], made))), parts[1]
     elif term.kind == "let":
         yield (lambda made: replace(term, parts=(parts[0], made, parts[2]))), parts[1]
         yield (lambda made: replace(term, parts=(parts[0], parts[1], made))), parts[2]
     elif term.kind == "record":
-        for k, (label, value) in enumerate(parts[1]):
-            yield (lambda made, k=k, label=label: replace(
-                term, parts=(parts[0], (*parts[1][:k], (label, made), *parts[1][k + 1:])))), value
+        for k, (_, value) in enumerate(parts[1]):
+            yield partial(with_field, term, k), value
     elif term.kind == "elim":
         if parts[0]:
             yield (lambda made: replace(term, parts=(made, parts[1]))), parts[0]
         for k, case in enumerate(parts[1]):
-            yield (lambda made, k=k, case=case: replace(
-                term, parts=(parts[0], (*parts[1][:k], replace(case, body=made), *parts[1][k + 1:])))), case.body
+            yield partial(with_case, term, k), case.body
 
 
 def bound(patterns: tuple[Pattern, ...]) -> list[str]:
@@ -349,173 +345,3 @@ def mutants_of(translator: Translator, target: Target) -> list[Mutant]:
                 and text_of(clause.body) != text_of(clauses[k + 1].body):
             found.append(Mutant(target, place, f"the bodies of clauses {k + 1} and {k + 2} exchanged", tuple(exchanged(clauses, k))))
     return found
-
-
-# ---- runs
-
-class TooLong(Exception):
-    """A row took far longer than it does."""
-
-
-def too_long(signum: int, frame: FrameType | None) -> None:
-    raise TooLong
-
-
-@dataclass
-class Row:
-    place: str
-    code: CodeType
-    names: set[Target]
-    uses: set[str]
-    seconds: float = 0.0
-
-
-class Trial:
-    """The rows, and the module of the definitions that they run on."""
-
-    def __init__(self, repository: Repository):
-        read = Rows(repository)
-        for path in row_files(TOP):
-            read.read(path)
-        self.translator = read.translator
-        self.space = run_module(self.translator)
-        self.rows: list[Row] = []
-        named = names_of_rows(repository)
-        for place, test in read.tests:
-            self.rows.append(Row(place, compile(test, place, "eval"), named.get(place, set()), set()))
-        self.by_name: dict[str, list[Row]] = defaultdict(list)
-        for row in self.rows:
-            self.look_at(row)
-            for name in row.uses:
-                self.by_name[name].append(row)
-        for rows in self.by_name.values():
-            rows.sort(key=lambda row: row.seconds)
-
-    def look_at(self, row: Row) -> None:
-        """Which definitions a row uses, and how long it takes."""
-        running.forget()
-        begin = time.process_time()
-        assert eval(row.code, self.space) is True, row.place
-        row.seconds = time.process_time() - begin
-        running.forget()
-        uses: set[str] = set()
-
-        def called(frame: FrameType, event: str, argument: Any) -> None:
-            if event == "call" and frame.f_code.co_filename == "<definitions>":
-                uses.add(frame.f_code.co_name)
-        sys.setprofile(called)
-        try:
-            eval(row.code, self.space)
-        finally:
-            sys.setprofile(None)
-        row.uses = uses
-
-    def python_of(self, mutant: Mutant) -> str:
-        file, item = self.translator.found(mutant.target)
-        return Body(self.translator, file, item, mutant.target, list(mutant.clauses)).text()
-
-    def found_by(self, mutant: Mutant) -> Row | None:
-        """The first row that finds the change, one that names the definition before others."""
-        name = global_name(mutant.target)
-        rows = sorted(self.by_name.get(name, []), key=lambda row: (mutant.target not in row.names, row.seconds))
-        old, kept = self.space[name], len(running.KEPT)
-        exec(compile(self.python_of(mutant), "<definitions>", "exec"), self.space)
-        try:
-            return next((row for row in rows if not self.is_so(row)), None)
-        finally:
-            self.space[name] = old
-            del running.KEPT[kept:]
-            running.forget()
-
-    def is_so(self, row: Row) -> bool:
-        running.forget()
-        signal.setitimer(signal.ITIMER_VIRTUAL, 1 + 20 * row.seconds)
-        try:
-            return eval(row.code, self.space) is True
-        except Exception:  # noqa: BLE001, what does not compute is no row
-            return False
-        finally:
-            signal.setitimer(signal.ITIMER_VIRTUAL, 0)
-
-
-def run_module(translator: Translator) -> dict[str, Any]:
-    from translate import run
-    return run(translator.module())
-
-
-def names_of_rows(repository: Repository) -> dict[str, set[Target]]:
-    """The definitions that each row names."""
-    found: dict[str, set[Target]] = {}
-    for file in list(repository.files.values()):
-        if not file.path.endswith(("Rows.antt", "/Examples.antt")):
-            continue
-        for item in file.items:
-            if item.kind == "definition" and item.clauses:
-                try:
-                    found[f"{file.path}:{item.start}"] = set(named_in_row(repository, file, item))
-                except NotRead:
-                    continue
-    return found
-
-
-def main() -> int:
-    parser = argparse.ArgumentParser(description=__doc__, formatter_class=argparse.RawDescriptionHelpFormatter)
-    parser.add_argument("function", nargs="?", default="formula")
-    parser.add_argument("clause", nargs="?", default="done")
-    parser.add_argument("--only", default="", help="only definitions of the files with this pattern in their path")
-    parser.add_argument("--alive", action="store_true", help="tells each change that no row finds")
-    parser.add_argument("--json", help="writes what was found")
-    asked = parser.parse_args()
-    sys.setrecursionlimit(60_000)
-    signal.signal(signal.SIGVTALRM, too_long)
-    repository = Repository(TOP)
-    statement = statement_of(repository, asked.function, asked.clause)
-    trial = Trial(repository)
-    print(f"{len(trial.rows)} rows", flush=True)
-    table: dict[str, Counter[str]] = defaultdict(Counter)
-    told: list[dict[str, str]] = []
-    for needed in statement.needed:
-        target = needed.target
-        if target.kind != "definition" or not re.search(asked.only, needed.path):
-            continue
-        try:
-            trial.translator.definition(target)
-            mutants = mutants_of(trial.translator, target)
-        except NotRead as it:
-            table[needed.path]["not read"] += 1
-            print(f"not read: {it}")
-            continue
-        if not mutants:
-            continue
-        name = global_name(target)
-        if name not in trial.space:
-            trial.space.update({key: value for key, value in run_module(trial.translator).items() if key not in trial.space})
-        counts = table[needed.path]
-        counts["definitions"] += 1
-        for mutant in mutants:
-            try:
-                row = trial.found_by(mutant)
-            except NotRead as it:
-                counts["not made"] += 1
-                print(f"not made: {it}")
-                continue
-            counts["mutants"] += 1
-            kind = "alive" if row is None else "named" if target in row.names else "other"
-            counts[kind] += 1
-            told.append({"path": needed.path, "definition": target.name, "module": target.module, "place": mutant.place,
-                         "change": mutant.change, "found": row.place if row else ""})
-            if row is None and asked.alive:
-                print(f"alive: {mutant.place} {target.name}: {mutant.change}", flush=True)
-    total: Counter[str] = Counter()
-    for path, counts in sorted(table.items()):
-        total.update(counts)
-        print(f"{path}: {', '.join(f'{counts[kind]} {kind}' for kind in ('definitions', 'mutants', 'named', 'other', 'alive'))}")
-    print(f"all: {', '.join(f'{total[kind]} {kind}' for kind in ('definitions', 'mutants', 'named', 'other', 'alive', 'not made'))}")
-    if asked.json:
-        with open(asked.json, "w", encoding="utf-8") as file:
-            json.dump(told, file, ensure_ascii=False, indent=0)
-    return 0
-
-
-if __name__ == "__main__":
-    sys.exit(main())

@@ -40,6 +40,19 @@ def counts(statement: Statement) -> list[tuple[str, int]]:
     ]
 
 
+def modules_named(statement: Statement) -> list[str]:
+    """The modules of definitions in the order of the list: the first one of a crate with the crate's name, the next ones
+    alone."""
+    found, crate = [], ""
+    for _, files in statement.chapters:
+        for path, _ in files:
+            if "/specs/" in path:
+                _, name, _, module = path.removesuffix(".antt").split("/", 3)
+                found.append(module if name == crate else f"{name}/specs/{module}")
+                crate = name
+    return found
+
+
 def heads(it: Needed, shown: tuple[int, ...]) -> tuple[str, tuple[int, ...]]:
     """The heads of the sections round a definition that were not printed yet, and the sections round it."""
     new = tuple(block.start for block in it.blocks)

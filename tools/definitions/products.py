@@ -5,6 +5,9 @@ What a definition does not compute is a witness that is found here and judged by
 that tokens spell, and the first position of a level that lies at a tick or later."""
 from __future__ import annotations
 
+import importlib.machinery
+import importlib.util
+import os
 from dataclasses import dataclass
 from typing import Any
 
@@ -71,8 +74,20 @@ ASKED = {
     "summary_line": "fm_gen.specs.SummaryLine.summary_line",
     "score_summary": "fm_top.specs.Products.score_summary",
 }
+TOP = os.path.dirname(os.path.dirname(os.path.dirname(os.path.abspath(__file__))))
 MAX_TICK = 1 << 40
 MAX_TEXT = 1 << 20
+
+
+def fuzz() -> Any:
+    """scripts/fuzz as a module, for its texts."""
+    loader = importlib.machinery.SourceFileLoader("fuzz", os.path.join(TOP, "scripts", "fuzz"))
+    spec = importlib.util.spec_from_loader("fuzz", loader)
+    if spec is None:
+        raise ImportError("scripts/fuzz")
+    module = importlib.util.module_from_spec(spec)
+    loader.exec_module(module)
+    return module
 
 
 @dataclass(frozen=True)
@@ -140,7 +155,7 @@ class Definitions:
         found = self.first_found(self.score_faults(score))
         return score if found.tag == "None" else self.fault_at(found.args[0])
 
-    def fault_at(self, fault: Record) -> Fault:
+    def fault_at(self, fault: Any) -> Fault:
         return Fault(fault.spot.line, fault.spot.column, fault.number)
 
     def played(self, score: Record) -> Played:

@@ -4,6 +4,7 @@ from __future__ import annotations
 import glob
 import os
 import re
+import shutil
 from dataclasses import dataclass, field
 from functools import cached_property
 
@@ -53,9 +54,19 @@ class Needed:
     blocks: list[Block] = field(default_factory=list)
 
 
+def kit_of(*names: str) -> dict[str, str]:
+    """The folders of these crates of the toolchain, where it is there with its sources."""
+    libraries = os.path.dirname(os.path.dirname(os.path.realpath(shutil.which("rt") or "/")))
+    folders = {name: f"{libraries}/rattle/{name}" for name in names}
+    return {name: folder for name, folder in folders.items() if os.path.isdir(f"{folder}/specs")}
+
+
 class Repository:
-    def __init__(self, top: str):
+    """The crates of the repository, and those of the toolchain that are followed too: a folder for each."""
+
+    def __init__(self, top: str, followed: dict[str, str] | None = None):
         self.top = top
+        self.followed = followed or {}
         self.files: dict[str, File] = {}
         self.codes: dict[str, dict[str, CodeItem]] = {}
         self.code_of: dict[str, CodeFile] = {}
@@ -63,7 +74,10 @@ class Repository:
 
     @cached_property
     def crates(self) -> set[str]:
-        return set(os.listdir(f"{self.top}/crates"))
+        return {*os.listdir(f"{self.top}/crates"), *self.followed}
+
+    def folder(self, crate: str) -> str:
+        return self.followed.get(crate, f"{self.top}/crates/{crate}")
 
     # ---- files
 
@@ -75,7 +89,7 @@ class Repository:
         """The file of a module of the repository's definitions or proofs, or None where there is none."""
         if module not in self.files:
             parts = module.split(".")
-            base = f"{self.top}/crates/{parts[1]}/{'/'.join(parts[2:])}"
+            base = f"{self.folder(parts[1])}/{'/'.join(parts[2:])}"
             path = next((it for it in (f"{base}.antt", f"{base}/Lib.antt") if os.path.isfile(it)), None)
             if path is None:
                 return None
@@ -93,7 +107,7 @@ class Repository:
         """The types, constants and traits of a crate."""
         if crate not in self.codes:
             items: dict[str, CodeItem] = {}
-            for path in code_files(f"{self.top}/crates/{crate}"):
+            for path in code_files(self.folder(crate)):
                 file = self.code_of[path] = CodeFile(path)
                 items.update(file.items())
             self.codes[crate] = items
@@ -191,7 +205,11 @@ class Repository:
         if target.kind == "code":
             return target.name != parts[-1] or self.code(target.module)[target.name].kind == "struct"
         inner = self.files[target.module]
-        return any(parts[-1] in item.constructors for item in inner.items if item.name == target.name) or "◌" in target.name
+        items = [item for item in inner.items if item.name == target.name]
+        if target.module == file.module and len(parts) == 1 and items[0].start > word.line:
+            # a constructor is one behind its type alone
+            return False
+        return any(parts[-1] in item.constructors for item in items) or "◌" in target.name
 
     # ---- what a definition needs
 

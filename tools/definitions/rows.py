@@ -10,12 +10,13 @@ import os
 import sys
 import threading
 from collections import Counter
+from typing import Any
 
 sys.dont_write_bytecode = True
-from notation import File, Item, NotRead, is_row, signature_of  # noqa: E402
-from repository import Repository, Target, row_files  # noqa: E402
-from terms import Parser  # noqa: E402
-from translate import Body, Translator, run  # noqa: E402
+from notation import File, Item, NotRead, Word, groups_of, is_row, signature_of  # noqa: E402
+from repository import Repository, Target, kit_of, row_files  # noqa: E402
+from terms import Parser, Term  # noqa: E402
+from translate import Body, Translator, local, run  # noqa: E402
 
 TOP = os.path.dirname(os.path.dirname(os.path.dirname(os.path.abspath(__file__))))
 
@@ -30,10 +31,11 @@ class Rows:
         module = "Rattle." + os.path.relpath(path, f"{self.repository.top}/crates").removesuffix(".antt").replace("/", ".")
         file = self.repository.known_file(module)
         for item in file.items:
-            if item.kind == "definition" and is_row(item):
+            if item.kind == "definition" and (is_row(item) or gives_record(item)):
                 place = f"{file.path}:{item.start}"
                 try:
-                    self.tests.append((place, self.test(file, item)))
+                    test = self.test(file, item) if is_row(item) else self.record_test(file, item)
+                    self.tests.append((place, test))
                 except NotRead as it:
                     self.left_out.append((place, str(it).removeprefix(f"{file.path}:")))
 
@@ -51,6 +53,67 @@ class Rows:
         for name in self.repository.definition(Target("definition", file.module, item.name)).names:
             self.translator.definition(name)
         return made
+
+
+    def record_test(self, file: File, item: Item) -> str:
+        """A row that gives a record: what stands in it, and that each part which says something comes out true."""
+        behind, unfolded, _ = signature_of(item)
+        own = Target("definition", file.module, item.name)
+        said = Parser(file.path, item.words[behind + 1:unfolded], lambda word: self.repository.is_constructor(file, word)).term()
+        arguments: list[Term] = []
+        while said.kind == "apply":
+            parts: Any = said.parts
+            said, arguments = parts[0], [parts[1], *arguments]
+        target = self.repository.resolve(file, tuple(said.word.parts), said.word.line)
+        if target is None or target.kind != "definition":
+            raise NotRead(f"{file.path}:{item.start}: a row of another form")
+        there, kind = self.translator.found(target)
+        body: Any = self.translator.clauses(file, item)[0].body.parts
+        given = dict(body[1])
+        mine, theirs = Body(self.translator, file, item, own), Body(self.translator, there, kind, target)
+        parameters, fields = record_parts(kind)
+        made, bound = [], {name: local(name) for name in parameters}
+        for label, words in fields:
+            value = given[label]
+            if value.kind == "proof" or value.word.text in ("refl", "tt"):
+                says = Parser(there.path, words, lambda word: self.repository.is_constructor(there, word)).term()
+                made.append(theirs.term(says, bound))
+            else:
+                made.append(f"[({local(label)} := {mine.term(value, {})})]")
+                bound[label] = local(label)
+        for name in [*self.repository.definition(own).names, *self.repository.definition(target).names]:
+            self.translator.definition(name)
+        names = ", ".join(map(local, parameters))
+        return f"bool((lambda {names}: {' and '.join(made)})({', '.join(mine.term(it, {}) for it in arguments)}))"
+
+
+def gives_record(item: Item) -> bool:
+    """Whether it is a record of which a part is closed by computing."""
+    if len(item.clauses) != 1:
+        return False
+    words = [word.text for word in item.clauses[0]]
+    return words[1:3] == ["=", "record"] and any(words[k:k + 2] == ["=", "refl"] for k in range(3, len(words)))
+
+
+def record_parts(item: Item) -> tuple[list[str], list[tuple[str, list[Word]]]]:
+    """The parameters of a record's type, and its fields with the words of their types."""
+    where = next(k for k, word in enumerate(item.words) if word.text == "where")
+    parameters: list[str] = []
+    at = 0
+    while at < where:
+        if item.words[at].text == "(":
+            colon = next(k for k in range(at, where) if item.words[k].text == ":")
+            parameters += [word.text for word in item.words[at + 1:colon]]
+            depth, at = 1, colon
+            while depth:
+                at += 1
+                depth += (item.words[at].text == "(") - (item.words[at].text == ")")
+        at += 1
+    fields: list[tuple[str, list[Word]]] = []
+    for words in groups_of(item.words[where + 1:]):
+        named = [word for word in words if word.text != "pub"]
+        fields.append((named[0].text, named[2:]))
+    return parameters, fields
 
 
 def judge(rows: Rows) -> int:
@@ -71,7 +134,7 @@ def judge(rows: Rows) -> int:
 
 
 def main() -> int:
-    rows = Rows(Repository(TOP))
+    rows = Rows(Repository(TOP, kit_of("clap")))
     for path in row_files(TOP):
         rows.read(path)
     if "--module" in sys.argv:

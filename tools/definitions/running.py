@@ -228,6 +228,12 @@ def unwrap_or(value: Made, default: Any) -> Any:
     return default if value.tag == "None" else value.args[0]
 
 
+def digit_value(byte: int) -> int:
+    """What a digit or a letter counts, 36 for any other byte."""
+    sign = chr(byte)
+    return int(sign, 36) if sign.isascii() and sign.isalnum() else 36
+
+
 def without_plus(text: Any) -> Any:
     return text.tail if text is not NIL and text.head == 43 else text
 
@@ -235,7 +241,7 @@ def without_plus(text: Any) -> Any:
 def digits_value(base: int, text: Any) -> int:
     value = 0
     for byte in text:
-        value = value * base + int(chr(byte), 36)
+        value = value * base + digit_value(byte)
     return value
 
 
@@ -331,6 +337,15 @@ LIBRARY: dict[str, tuple[int, Callable[..., Any]]] = {
     "vec_items": (1, lambda v: v.items),
     "fold": (3, lambda f, b, xs: _fold(f, b, xs)),
     "string_bytes": (1, lambda s: s),
+    "digit_value": (1, digit_value),
+    "to_ascii_lowercase": (1, lambda byte: byte + 32 if 65 <= byte <= 90 else byte),
+    # no option of the command is a number with a sign
+    "signed_digits_value": (2, lambda base, text: no_clause("signed_digits_value")),
+    "without_leading_sign": (1, lambda text: no_clause("without_leading_sign")),
+    "chars": (1, lambda text: listed(map(ord, bytes(text).decode()))),
+    "encode_utf8": (1, lambda char: listed(chr(char).encode())),
+    # no option of the command is a number with a fraction
+    "is_float_text": (1, lambda text: no_clause("is_float_text")),
 }
 
 

@@ -105,24 +105,32 @@ class Translator:
 
     def definition(self, target: Target) -> str:
         """The Python of one definition, and of those that it needs, made once each."""
-        waiting = [target]
+        waiting, seen, refusals = [target], {target}, []
         while waiting:
             one = waiting.pop()
             if one in self.refused:
-                raise self.refused[one]
-            if one in self.made or one.kind != "definition":
-                continue
-            file, item = self.found(one)
-            self.made[one] = ""
-            if item.kind != "definition" or is_row(item) or says_only(item) and one not in self.wanted:
-                continue
-            try:
-                self.made[one] = Body(self, file, item, one).text()
-            except NotRead as it:
-                self.refused[one] = it
-                raise
-            waiting += self.repository.definition(one).names
+                refusals.append(self.refused[one])
+            elif one.kind == "definition" and self.make(one):
+                names = [it for it in self.repository.definition(one).names if it.kind == "definition" and it not in seen]
+                seen.update(names)
+                waiting += names
+        if refusals:
+            raise refusals[0]
         return global_name(target)
+
+    def make(self, target: Target) -> bool:
+        """Makes one definition, and tells whether it computes."""
+        if target not in self.made:
+            file, item = self.found(target)
+            self.made[target] = ""
+            if item.kind != "definition" or is_row(item) or says_only(item) and target not in self.wanted:
+                return False
+            try:
+                self.made[target] = Body(self, file, item, target).text()
+            except NotRead as it:
+                self.refused[target] = it
+                raise
+        return bool(self.made[target])
 
     def plain(self, name: str) -> str:
         """A constructor without parts: one value, made once."""
