@@ -28,7 +28,9 @@ NAMED = "import formula_score.companion.outs as o; o._file_without_a_name = lamb
 FAILS = "import os\ndef {0}(*_, was=os.{0}, **__):\n if {1}: raise OSError(122, 'Disk quota exceeded')\n return was(*_, **__)\nos.{0} = {0}; "
 NOBODY = 65534
 #: What means standard output; `link` is one.
-NAMES = ("-", "/dev/stdout", "/dev/fd/1", "/proc/self/fd/1", "link")
+NAMES = ("/dev/stdout", "/dev/fd/1", "/proc/self/fd/1", "link")
+#: How it leads to a file that is there, and what of that file stays.
+WAYS = ((">", b""), (">>", b"before"), ("| cat >", b""), ("| cat >>", b"before"))
 
 
 class Answer:
@@ -236,13 +238,13 @@ class Play(unittest.TestCase):
         for words in (["note"], ["other", "--parts"], ["other", "--from", "480"], ["none", "--generate", "0"],
                       [midi, "--list"], [record, "--audit"]):
             wanted = self.made(*words)
-            for name in NAMES if words == ["note"] else NAMES[:1]:
-                for way, before in ((">", b""), (">>", b"before"), ("| cat >", b""), ("| cat >>", b"before")):
-                    self.out.write_bytes(b"before")
-                    answer = self.shell(f"PLAY {words[0]} {name} {' '.join(words[1:])} {way} {self.out}; "
-                                        "exit ${PIPESTATUS[0]}")
-                    self.ends(answer, 0, b"", "^processes .*\n$" if "--generate" in words else "^$")
-                    self.holds(before + wanted, f"{words} {name} {way}")
+            cases = [("-", way) for way in (WAYS if words == ["note"] else WAYS[1:3])]
+            cases += [(name, WAYS[0]) for name in NAMES if words == ["note"]]
+            for name, (way, before) in cases:
+                self.out.write_bytes(b"before")
+                answer = self.shell(f"PLAY {words[0]} {name} {' '.join(words[1:])} {way} {self.out}; exit ${{PIPESTATUS[0]}}")
+                self.ends(answer, 0, b"", "^processes .*\n$" if "--generate" in words else "^$")
+                self.holds(before + wanted, f"{words} {name} {way}")
 
     def test_what_is_said_does_not_stand_in_standard_output(self) -> None:
         self.ends(self.shell("PLAY refused - | cat; exit ${PIPESTATUS[0]}"), 3, b"",
