@@ -147,7 +147,9 @@ class Batch(Folder):
         program = written(self.top / "program", f"""#!/bin/sh
 for last; do :; done
 : >"{self.top}/now/$$"
-sleep 0.2
+waited=0
+while [ "$(ls "{self.top}/now" | wc -l)" -lt 3 ] && [ "$waited" -lt 40 ]; do sleep 0.05; waited=$((waited + 1)); done
+sleep 0.1
 ls "{self.top}/now" | wc -l >>"{self.top}/counts"
 rm "{self.top}/now/$$"
 : >"$last"

@@ -86,8 +86,8 @@ def _end_of_sound(spot: Spot) -> Optional[str]:
     if here.kind in ("loud", "volume") and spot.next().kind in (";", "}", END):
         return by_index("dynamics")
     if here.text in ("<", ">"):
-        return (f"`{here.text}` has no meaning here: a dotted rhythm is its lengths, `note c4 3/8; note d4 1/8;`, and an "
-                "accent or a crescendo a list, `loud [100, 64] { .. }`")
+        return (f"`{here.text}` has no meaning here: a dotted rhythm is its lengths, `note c4 3/8; note d4 1/8;`, and "
+                "an accent or a crescendo a list, `loud [100, 64] { .. }`")
     if here.text in ("+", "&", "and", "then", "|", "-") and is_statement(spot.next()):
         return f"each statement ends with `;`: {ended(spot)}, and take the `{here.text}` away"
     if re.match(r"x ?[0-9]+(?![a-z0-9_])|(?:twice|times)\b", spot.rest):

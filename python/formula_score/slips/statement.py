@@ -15,7 +15,8 @@ from .tokens import END, INDEX, NAME, NUMBER, OTHER, PITCH, REGISTER, kind_of, t
 
 #: Words of other languages, and the word here that does it.
 _ELSEWHERE = {
-    "loop": "repeat", "forever": "repeat", "for": "repeat", "while": "repeat", "times": "repeat", "rep": "repeat", "again": "repeat",
+    "loop": "repeat", "for": "repeat", "while": "repeat", "times": "repeat", "rep": "repeat", "again": "repeat",
+    "forever": "repeat",
     "wait": "rest", "sleep": "rest", "silence": "rest", "pau": "rest", "r": "rest", "tacet": "rest", "s": "rest",
     "call": "do", "goto": "do", "gosub": "do", "use": "do", "run": "do",
     "def": "phrase", "define": "phrase", "function": "phrase", "func": "phrase", "macro": "phrase", "pattern": "phrase",
