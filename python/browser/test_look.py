@@ -78,7 +78,7 @@ class Looked(PageTest):
         for node in nodes:
             properties = {each["name"]: each["value"].get("value") for each in node.get("properties", [])}
             role = node.get("role", {}).get("value")
-            if properties.get("focusable") and role not in ("RootWebArea", "generic", "option"):
+            if properties.get("focusable") and role not in ("RootWebArea", "generic", "option", "MenuListPopup"):
                 found.append((role, node.get("name", {}).get("value", "")))
         self.assertGreater(len(found), 20)
         self.assertEqual([each for each in found if not each[1].strip()], [])

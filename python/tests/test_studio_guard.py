@@ -60,8 +60,9 @@ class Guarded(StudioTest):
         gone: dict[str, Any] = {"Origin": None, "Sec_Fetch_Site": "cross-site", "Sec_Fetch_Mode": "navigate"}
         self.assertEqual(self.studio.ask("GET", "/", **gone).status, 200)
         self.refused("another site asks", path="/about", **gone)
-        self.refused("another site asks", path="/", **{**gone, "Sec_Fetch_Mode": "no-cors"})
-        self.refused("the token is missing", path="/", token="x", **{**gone, "Sec_Fetch_Site": "none"})
+        self.refused("the token is missing", path="/", token="x", Origin=None, Sec_Fetch_Site="none")
+        gone["Sec_Fetch_Mode"] = "no-cors"
+        self.refused("another site asks", path="/", **gone)
 
     def test_what_changes_something_has_to_tell_its_page(self) -> None:
         for method, path in (("PUT", "/files/tune.score"), ("POST", "/export/midi"), ("POST", "/sound"),

@@ -27,7 +27,10 @@ export class Writing {
         "Tab": false, "Shift-Tab": false,
       },
     });
-    this.editor.getInputField().setAttribute("aria-describedby", told.id);
+    const input = this.editor.getInputField();
+    for (const [name, value] of [["role", "textbox"], ["aria-multiline", "true"], ["aria-describedby", told.id]]) {
+      input.setAttribute(name, value);
+    }
   }
 
   get text() { return this.editor.getValue(); }

@@ -326,7 +326,7 @@ export class Roll {
     if (!this.piece) return "Piano roll, empty";
     const { notes, low, high, channels } = this.piece;
     const bars = this.bars ? `, bars ${this.bars.first} to ${this.bars.last}` : "";
-    return `Piano roll: ${notes.length} notes from ${nameOf(low)} to ${nameOf(high)}, channels ${channels.join(", ")}${bars}. `
+    return `Piano roll: ${notes.length} notes from ${nameOf(low)} to ${nameOf(high)}, channel${channels.length === 1 ? "" : "s"} ${channels.join(", ")}${bars}. `
       + "Arrow keys go from note to note, plus and minus zoom, Space plays, Enter goes to the text.";
   }
 }
