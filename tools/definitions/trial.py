@@ -340,6 +340,14 @@ def main() -> int:
     return 0
 
 
+def makes_other(trial: Trial, mutant: Mutant) -> bool:
+    """Whether a change makes other Python; a name that is no field of its own makes none."""
+    try:
+        return not trial.is_none(mutant)
+    except NotRead:
+        return False
+
+
 def mutants_of_needed(trial: Trial, target: Target) -> list[Mutant]:
     """The changes of a definition that make other Python; a definition that is not read has none, and is told."""
     try:
@@ -348,7 +356,7 @@ def mutants_of_needed(trial: Trial, target: Target) -> list[Mutant]:
         if mutants and global_name(target) not in trial.space:
             made = run(trial.translator.module())
             trial.space.update({key: value for key, value in made.items() if key not in trial.space})
-        return [it for it in mutants if not trial.is_none(it)]
+        return [it for it in mutants if makes_other(trial, it)]
     except NotRead as it:
         print(f"not read: {it}")
         return []
