@@ -5,6 +5,7 @@ from __future__ import annotations
 
 import os
 import pathlib
+import signal
 import subprocess
 import sys
 from concurrent.futures import ThreadPoolExecutor
@@ -12,16 +13,29 @@ from concurrent.futures import ThreadPoolExecutor
 HOME = pathlib.Path(__file__).resolve().parent
 #: Those that take longest begin first.
 LONG = ("test_packaging", "test_batch")
+#: How many seconds a module may take.
+LONGEST = 900
 
 
 def run(module: str) -> tuple[str, int, str]:
     """The name of a module of tests, the status of its run and what that says."""
-    done = subprocess.run([sys.executable, "-B", "-m", "unittest", f"tests.{module}"], cwd=HOME.parent,
-                          stdout=subprocess.PIPE, stderr=subprocess.STDOUT, text=True, errors="replace", check=False)
+    try:
+        done = subprocess.run([sys.executable, "-B", "-m", "unittest", f"tests.{module}"], cwd=HOME.parent, timeout=LONGEST,
+                              stdout=subprocess.PIPE, stderr=subprocess.STDOUT, text=True, errors="replace", check=False)
+    except subprocess.TimeoutExpired:
+        return module, 1, f"not done after {LONGEST} seconds"
     return module, done.returncode, done.stdout
 
 
+def heed_signals() -> None:
+    """Lets the tests be interrupted as in a terminal, where a shell started them in the background."""
+    for number in (signal.SIGINT, signal.SIGQUIT, signal.SIGHUP):
+        if signal.getsignal(number) == signal.SIG_IGN:
+            signal.signal(number, signal.SIG_DFL)
+
+
 def main() -> int:
+    heed_signals()
     modules = sorted((path.stem for path in HOME.glob("test_*.py")), key=lambda name: (name not in LONG, name))
     with ThreadPoolExecutor(len(os.sched_getaffinity(0))) as pool:
         failed = [(module, said) for module, status, said in pool.map(run, modules) if status]

@@ -125,15 +125,18 @@ class Roll(InAFolder, Picture):
         command = [sys.executable, "-B", TOP / "scripts" / "score", "roll", "--follow", path, page]
         with subprocess.Popen(command, stdout=subprocess.DEVNULL, stderr=subprocess.DEVNULL,
                               env={**os.environ, "FORMULA": PROGRAM}) as run:
-            self.waits(page, "<title>c4 channel 0 tick 0 to 432</title>", 'class="fresh"')
-            path.write_text("formula 1; note e4 1/4;")
-            self.waits(page, "<title>e4 channel 0 tick 0 to 432</title>", "played, to tick 480")
-            path.write_text("formula 1; note <4 1/4;")
-            self.waits(page, 'class="stale"', "<title>e4 channel", "1:17", "1 | formula 1; note &lt;4 1/4;")
-            path.write_text("formula 1; note g4 1/4;")
-            self.waits(page, "<title>g4 channel", 'class="fresh"')
-            run.send_signal(signal.SIGINT)
-            self.assertEqual(run.wait(10), 0)
+            try:
+                self.waits(page, "<title>c4 channel 0 tick 0 to 432</title>", 'class="fresh"')
+                path.write_text("formula 1; note e4 1/4;")
+                self.waits(page, "<title>e4 channel 0 tick 0 to 432</title>", "played, to tick 480")
+                path.write_text("formula 1; note <4 1/4;")
+                self.waits(page, 'class="stale"', "<title>e4 channel", "1:17", "1 | formula 1; note &lt;4 1/4;")
+                path.write_text("formula 1; note g4 1/4;")
+                self.waits(page, "<title>g4 channel", 'class="fresh"')
+                run.send_signal(signal.SIGINT)
+                self.assertEqual(run.wait(10), 0)
+            finally:
+                run.kill()
 
     def waits(self, page, *words):
         """The page has these words before long."""
