@@ -49,8 +49,7 @@ class Install(unittest.TestCase):
                                       prefix / "lib" / "formula" / "python"], env={"PATH": "/none"}, check=True,
                                      stdout=subprocess.PIPE, text=True).stdout
             self.assertEqual(program, f"{prefix}/lib/formula/formula\n")
-            # one that another program named is not called proved
-            # known where the program is the one that this checkout built
+            # the commit is known where the program is the one that this checkout built
             self.assertRegex((prefix / "lib/formula/proved.txt").read_text(), r"(?m)^commit   (not known|[0-9a-f]{40})")
             self.assertEqual(install("--remove", str(prefix)).returncode, 0)
             self.assertEqual([path for path in prefix.rglob("*") if path.is_file()], [prefix / "bin" / "other"])
