@@ -33,8 +33,8 @@ class Report(unittest.TestCase):
         self.assertEqual(lines, ["no comparison with the budget: fm_msg was not proved in this run"])
 
     def test_the_goal_of_an_edit_is_what_the_checker_says_first(self) -> None:
-        printed = ["rt: noise", "must-fail fm_crew/no_lead.edit: refused, as it must be: src/limits.rt:7:1: error",
-                   "must-fail fm_crew/never_done.edit: NOT REFUSED: the crate is still proved"]
+        printed = ["rt: noise", "rt: must-fail fm_crew/no_lead.edit: refused, as it must be: src/limits.rt:7:1: error",
+                   "rt: must-fail fm_crew/never_done.edit: NOT REFUSED: the crate is still proved"]
         self.assertEqual(report.goals(printed), {("fm_crew", "no_lead"): "src/limits.rt:7:1: error"})
 
 

@@ -13,7 +13,7 @@ MEASURE, MEASURE_SECONDS = "fm_msg", 26.0
 BUDGET_MINUTES = 140
 
 # What the gate says of an edit that is refused.
-REFUSED = re.compile(r"must-fail (\w+)/(\S+?)(?:\.edit)?: refused, as it must be(?:: )?(.*)")
+REFUSED = re.compile(r"(?:rt: )?must-fail (\w+)/(\S+?)(?:\.edit)?: refused, as it must be(?:: )?(.*)")
 
 Row = dict[str, float]
 
