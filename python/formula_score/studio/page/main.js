@@ -176,7 +176,9 @@ function measured() {
 
 // ---- the note and the process that are chosen
 
-let factsOf = -1, placesOf = places;
+let factsOf = -1;
+/** @type {{lines: Int32Array, characters: Int32Array, happenings: Int32Array} | null} */
+let placesOf = places;
 
 /** Tells what is known of a note: at once what the file says, then what the score says.
  * @param {number} note */
