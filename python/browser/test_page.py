@@ -49,7 +49,7 @@ class Typed(PageTest):
         self.put("formula 1;\nphrase tune {\n  note c4 1/4;\n}\ndo tune;\n")
         self.browser.execute_script("studio.writing.go(1, 3)")
         self.press("alt+f")
-        self.assertTrue(self.value("studio.writing.editor.isFolded({line: 1, ch: 0})"))
+        self.assertTrue(self.value("studio.writing.editor.isFolded({line: 2, ch: 1})"))
 
     def test_every_example_is_read_as_the_program_lists_it(self) -> None:
         folders = [TOP / "examples" / name for name in ("tutorial", "scores", "positions")]
