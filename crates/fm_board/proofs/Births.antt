@@ -9,7 +9,8 @@ use native.Mathlib.Decide.{ℕ_discrete}
 use prog.Atomic.{either}
 use Rattle.atomic_table.specs.Seated.{TableId}
 use Rattle.atomic_table.specs.Table.{Allows, rest, step}
-use Rattle.fm_line.specs.Line.{event_at, greatest, line, start, last_tick}
+use Rattle.fm_line.specs.Line.{event_at, greatest, line, start}
+use Rattle.fm_line.specs.declared.limits.TheConstants.{LAST_TICK}
 use Rattle.fm_line.specs.Piece.{Rises}
 use Rattle.fm_core.proofs.Elements.{take_none}
 use Rattle.fm_core.specs.Tags.{is_ended, is_unborn}
@@ -131,7 +132,7 @@ starts_at key a t slots id i p new tick number m x same ours is at there idle ma
     (new_is ∙ (λ k. spell Out (starts_there k) (number_is k))))
 
 -- a process starts no later than the last tick
-pub start_low : (a : About) (p : ℕ) → start (plan_lines a.plan) p ≤ last_tick
+pub start_low : (a : About) (p : ℕ) → start (plan_lines a.plan) p ≤ LAST_TICK
 start_low a p =
     let l = line (plan_lines a.plan) p in
     let valid = lines-valid a.plan a.fits in

@@ -5,7 +5,7 @@ use mathlib.Core.Option.{some, none}
 use lib.ListN.{get_elem?}
 use Rattle.atomic_table.specs.Table.{Allows, gives, step}
 use Rattle.fm_line.specs.declared.line.Line.{Line}
-use Rattle.fm_line.specs.Line.{last_tick}
+use Rattle.fm_line.specs.declared.limits.TheConstants.{LAST_TICK}
 use Rattle.fm_core.proofs.Booleans.{clash}
 use Rattle.fm_core.proofs.Given.{given_not_unborn}
 use Rattle.fm_core.proofs.GiveTests.{may_give}
@@ -149,7 +149,7 @@ module _ (a : About) (s : Table) (k : StandsForSome a s) (p id : ℕ) (m : Mind)
       left = length-set m.left p (steps_left a.plan t) ∙ w.left;
       known = length-set m.known p now ∙ w.known;
       over = length-set m.over p (is_ended tag) ∙ w.over;
-      low = set_or_same m.known p now 0 (λ j n. n ≤ last_tick) w.low
+      low = set_or_same m.known p now 0 (λ j n. n ≤ LAST_TICK) w.low
           (let late = end-late a.plan t may.strand.course in let top = ((valid_of a).lines.ends t.process).0 in
           omega (arith, late, top));
     };

@@ -18,7 +18,7 @@ use Rattle.fm_board.specs.Plays.{Tells}
 use Rattle.fm_board.specs.Seats.{SeatState}
 use Rattle.fm_board.proofs.Goings.{seen_fewer}
 use Rattle.fm_board.proofs.Spellings.{set_or_same}
-use Rattle.fm_line.specs.Line.{last_tick}
+use Rattle.fm_line.specs.declared.limits.TheConstants.{LAST_TICK}
 
 pub knows_none : (m : Mind) → Knows m m
 knows_none m = record { left = λ p. omega arith; known = λ p. omega arith; over = λ p e. e; wide = λ n w. w; made = refl }
@@ -71,7 +71,7 @@ spotted_knows m p t c r v xs tells = record {
     left = seen_wide m p t ∙ w.left;
     known = length-set m.known p c ∙ w.known;
     over = length-set m.over p (is_ended t) ∙ w.over;
-    low = set_or_same m.known p c 0 (λ j n. n ≤ last_tick) w.low tells.low;
+    low = set_or_same m.known p c 0 (λ j n. n ≤ LAST_TICK) w.low tells.low;
   };
   made = refl;
 }
@@ -89,7 +89,7 @@ hands_knows a old p s b new hands =
     (turned_knows old.mind _ (spotted_knows old.mind p s.tag s.clock _ _ _ hands.tells))
 
 -- a process that was not born, and is out now
-pub born_knows : (m : Mind) (p c r : ℕ) (v : View) (xs : Log) → c ≤ last_tick → Tells m p Unborn 0
+pub born_knows : (m : Mind) (p c r : ℕ) (v : View) (xs : Log) → c ≤ LAST_TICK → Tells m p Unborn 0
     → Knows m (turned (spotted m p Out c r v xs))
 born_knows m p c r v xs low tells = record {
   left = seen_fewer m p Out;
@@ -100,7 +100,7 @@ born_knows m p c r v xs low tells = record {
     left = seen_wide m p Out ∙ w.left;
     known = length-set m.known p c ∙ w.known;
     over = length-set m.over p false ∙ w.over;
-    low = set_or_same m.known p c 0 (λ j n. n ≤ last_tick) w.low low;
+    low = set_or_same m.known p c 0 (λ j n. n ≤ LAST_TICK) w.low low;
   };
   made = refl;
 }

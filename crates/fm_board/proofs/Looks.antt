@@ -5,7 +5,8 @@ use mathlib.Core.Option.{some}
 use lib.ListN.{get_elem?}
 use Rattle.std.proofs.lemmas.List.{set-get_or}
 use Rattle.atomic_table.specs.Table.{keeps, stepped}
-use Rattle.fm_line.specs.Line.{line, last_tick}
+use Rattle.fm_line.specs.Line.{line}
+use Rattle.fm_line.specs.declared.limits.TheConstants.{LAST_TICK}
 use Rattle.fm_core.proofs.Booleans.{and_true}
 use Rattle.fm_core.specs.Invariant.{ValidSetting}
 use Rattle.fm_core.specs.State.{State, cell}
@@ -50,10 +51,10 @@ module _ (a : About) (s : Table) (k : StandsForSome a s) where
   lined = k.sound.lined ∙ plan-lines-length a.plan
 
   -- a clock is at most the last tick
-  pub low : (p : ℕ) → p < length h.cells → (cell h p).clock ≤ last_tick
+  pub low : (p : ℕ) → p < length h.cells → (cell h p).clock ≤ LAST_TICK
   low p lt = by_case (yes_or_no (is_unborn (cell h p).tag))
     where
-      by_case : (is_unborn (cell h p).tag ≡ true) ⊎ (is_unborn (cell h p).tag ≡ false) → (cell h p).clock ≤ last_tick
+      by_case : (is_unborn (cell h p).tag ≡ true) ⊎ (is_unborn (cell h p).tag ≡ false) → (cell h p).clock ≤ LAST_TICK
       by_case (inl unborn) = let none_yet = (k.stands.words.shown p lt).unborn unborn in omega arith
       by_case (inr born) =
           let fits = k.sound.fits p lt in

@@ -33,7 +33,7 @@ use Rattle.fm_board.proofs.Looks.{lined, low, valid_of}
 use Rattle.fm_board.proofs.Runs.{begins_all, begins_more, extends_on, runs_on}
 use Rattle.fm_board.proofs.Spellings.{bounds_low}
 use Rattle.fm_board.proofs.Views as views
-use Rattle.fm_line.specs.Line.{last_tick}
+use Rattle.fm_line.specs.declared.limits.TheConstants.{LAST_TICK}
 
 module _ (a : About) (s : Table) (k : StandsForSome a s) (m : Mind) (at : get_elem? s.views 0 ≡ some m) where
   abbrev h : State
@@ -53,10 +53,10 @@ module _ (a : About) (s : Table) (k : StandsForSome a s) (m : Mind) (at : get_el
   abbrev d : Desk
   d = record (desk h 0) { sweep = [] }
 
-  clocks_low : (j : ℕ) → (cell h j).clock ≤ last_tick
+  clocks_low : (j : ℕ) → (cell h j).clock ≤ LAST_TICK
   clocks_low j = all_low h.cells j (low a s k)
     where
-      all_low : (cs : List Cell) (j : ℕ) → ((p : ℕ) → p < length cs → (cell_in cs p).clock ≤ last_tick) → (cell_in cs j).clock ≤ last_tick
+      all_low : (cs : List Cell) (j : ℕ) → ((p : ℕ) → p < length cs → (cell_in cs p).clock ≤ LAST_TICK) → (cell_in cs j).clock ≤ LAST_TICK
       all_low [] j each = omega arith
       all_low (x ∷ xs) zero each = each 0 (omega arith)
       all_low (x ∷ xs) (suc j) each = all_low xs j (λ p lt. each (suc p) (omega arith))

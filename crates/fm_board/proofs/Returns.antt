@@ -43,12 +43,12 @@ use Rattle.fm_board.proofs.ComingHome.{brought}
 use Rattle.fm_board.proofs.Gives.{gives_of}
 use Rattle.fm_board.proofs.Publishing.{publishes_of}
 use Rattle.fm_board.proofs.Steps.{Tidy, idle_tidy}
-use Rattle.fm_line.specs.Line.{last_tick}
+use Rattle.fm_line.specs.declared.limits.TheConstants.{LAST_TICK}
 
 -- ---- give
 
 -- the clock of a strand that is brought back is at most the last tick
-pub clock_low : (a : About) (v : View) (p n : ℕ) (s : Strand) (box : EventQueue) → MayComeBack a v p s box → n ≡ clock_of a.plan s → n ≤ last_tick
+pub clock_low : (a : About) (v : View) (p n : ℕ) (s : Strand) (box : EventQueue) → MayComeBack a v p s box → n ≡ clock_of a.plan s → n ≤ LAST_TICK
 clock_low a v p n s box may is =
     let late = end-late a.plan s may.strand.course in
     let top = ((lines-valid a.plan a.fits).ends s.process).0 in omega (arith, late, top, is)

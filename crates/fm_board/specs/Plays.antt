@@ -1,7 +1,8 @@
 -- What each step on a word tells the seat that makes it.
 use Rattle.std.specs.Prelude.{nat_eq, ◌≡◌, ◌≢◌, ℕ, ◌+◌, ◌<◌, ◌≤◌, List, [], ◌∷◌, length, true, false, Option, Some, None, slice_index_or}
 use Rattle.atomic_table.specs.Table.{Me, Step, rest}
-use Rattle.fm_line.specs.Line.{line, start, last_tick}
+use Rattle.fm_line.specs.Line.{line, start}
+use Rattle.fm_line.specs.declared.limits.TheConstants.{LAST_TICK}
 use Rattle.fm_core.specs.Floors.{floor_of}
 use Rattle.fm_core.specs.Sweep.{least}
 use Rattle.fm_core.specs.Tags.{is_ended, is_held, is_unborn}
@@ -40,7 +41,7 @@ pub record Tells (m : Mind) (p : ℕ) (t : Tag) (c : ℕ) : Type 0 where
   pub end : is_ended t ≡ true → c ≡ (line (lines_of m.view) p).end
   pub done : m.view.number ≡ 0 → m.view.published ≡ Done → is_ended t ≡ true
   pub unborn : is_unborn t ≡ true → steps_of m.view.plan p < slice_index_or m.left p 0
-  pub low : c ≤ last_tick
+  pub low : c ≤ LAST_TICK
   -- where there is no other seat, no process is in other hands
   pub alone : m.made ≡ 1 → m.view.number ≡ 0 → m.view.holds ≡ None → is_held t ≡ false
 

@@ -3,8 +3,7 @@ use Rattle.std.specs.Prelude.{◌≡◌, ℕ, ◌+◌, ◌^◌, ◌<◌, ◌≤�
 use mathlib.Core.Option.{some}
 use lib.ListN.{get_elem?}
 use Rattle.atomic_table.specs.Seated.{TableId}
-use Rattle.fm_line.specs.Piece.{sorted}
-use Rattle.fm_line.proofs.Sorting.{Ordered}
+use Rattle.fm_line.specs.Piece.{sorted, Ordered}
 use Rattle.fm_program.specs.Parts.{PlanParts}
 use Rattle.fm_core.specs.declared.sight.Sight.{Sight as Look}
 use Rattle.fm_strand.specs.declared.strand.Strand.{Strand}

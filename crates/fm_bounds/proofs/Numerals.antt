@@ -1,6 +1,6 @@
--- The limits of a score in numbers.
+-- Limits in numbers: those of this crate, and those of texts and values, which stand in crates below it.
 use Rattle.std.proofs.Common.{◌≡◌, ◌+◌, ◌^◌, refl}
-use Rattle.fm_bounds.specs.declared.excess.TheConstants.{MAX_EVENTS, MAX_OPERATIONS, MAX_STEPS}
+use Rattle.fm_bounds.specs.declared.excess.TheConstants.{MAX_OPERATIONS, MAX_STEPS}
 use Rattle.fm_bounds.specs.declared.sums.TheConstants.{CEILING}
 
 ceiling : CEILING ≡ 2 ^ 40 + 1
@@ -8,9 +8,6 @@ ceiling = refl
 
 most_operations : MAX_OPERATIONS ≡ 262144
 most_operations = refl
-
-most_events : MAX_EVENTS ≡ 4000000
-most_events = refl
 
 most_steps : MAX_STEPS ≡ 2 ^ 24
 most_steps = refl

@@ -6,7 +6,7 @@ use Rattle.std.proofs.lemmas.List.{drop_all}
 use Rattle.std.specs.Prelude.{◌||◌}
 use Rattle.fm_lex.specs.declared.spot.Spot.{Spot}
 use Rattle.fm_grammar.specs.Score as tree
-use Rattle.fm_line.specs.Line.{most_events}
+use Rattle.fm_line.specs.declared.limits.TheConstants.{MAX_EVENTS}
 use Rattle.fm_meaning.specs.Rules.{score_rules, most_operations, most_steps}
 use Rattle.fm_meaning.proofs.Versions.{few_processes, some_processes}
 use Rattle.fm_meaning.specs.Fault.{NumberedFault}
@@ -104,7 +104,7 @@ at_step score before t look steps i s within is r =
 pub record Ends (score : tree.Score) (whole : Sums) : Type 0 where
   pub processes : whole.processes ≤ (score_rules score).most_processes
   pub operations : whole.operations ≤ most_operations
-  pub events : whole.events ≤ most_events
+  pub events : whole.events ≤ MAX_EVENTS
   pub steps : whole.steps ≤ most_steps
   pub bounds : totals whole.processes whole.operations whole.length whole.events whole.steps ≡ score_bounds (resolved score)
 

@@ -1,7 +1,7 @@
 -- How far the walk over the statements of an outline has come.
 use Rattle.std.specs.Prelude.{◌≡◌, ℕ, ◌≤◌, Bool}
 use Rattle.fm_tick.specs.declared.tick.TheConstants.{MAX_TICK}
-use Rattle.fm_line.specs.Line.{most_events}
+use Rattle.fm_line.specs.declared.limits.TheConstants.{MAX_EVENTS}
 use Rattle.fm_grammar.specs.Score.{Score}
 use Rattle.fm_meaning.specs.Rules.{score_rules, most_operations, most_steps}
 use Rattle.fm_meaning.specs.Resolved.{Passage}
@@ -26,7 +26,7 @@ pub record AreWithin (most : ℕ) (a : Totals) : Type 0 where
   pub processes : a.processes ≤ most
   pub operations : a.operations ≤ most_operations
   pub length : a.length ≤ MAX_TICK
-  pub events : a.events ≤ most_events
+  pub events : a.events ≤ MAX_EVENTS
   pub steps : a.steps ≤ most_steps
 
 -- before these statements of a score nothing was too much, and so much was added

@@ -9,7 +9,7 @@ pub struct Bounds {
     pub operations: u32,
     /// In ticks, up to `MAX_TICK`.
     pub length: u64,
-    /// Up to `MAX_EVENTS`.
+    /// Up to `MAX_EVENTS` of `fm_line`.
     pub events: u32,
     /// Up to `MAX_STEPS`.
     pub steps: u32,

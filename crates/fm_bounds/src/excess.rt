@@ -10,13 +10,11 @@ ghost use Rattle.fm_fault.specs.Why.{fault_at};
 
 use crate::sums::Sums;
 use fm_fault::Why;
+use fm_line::MAX_EVENTS;
 use fm_tick::MAX_TICK;
 
 /// The most operations, once phrases and loops that fork are written out.
 pub const MAX_OPERATIONS: u32 = 262_144;
-
-/// The most events of all processes.
-pub const MAX_EVENTS: u32 = 4_000_000;
 
 /// The most steps of all processes.
 pub const MAX_STEPS: u32 = 16_777_216;

@@ -15,5 +15,5 @@ mod walk;
 mod weigh;
 
 pub use bounds::Bounds;
-pub use excess::{MAX_EVENTS, MAX_OPERATIONS, MAX_STEPS};
+pub use excess::{MAX_OPERATIONS, MAX_STEPS};
 pub use walk::find_bounds;

@@ -6,12 +6,12 @@ use Rattle.std.proofs.lemmas.List.{append_assoc}
 use Rattle.std.specs.Prelude.{not, ◌&&◌, nat_eq, nat_lt, if◌then◌else◌}
 use mathlib.Core.Logic.{dite}
 use native.Mathlib.Decide.{ℕ_discrete, dec_lt}
-use Rattle.fm_line.proofs.Members.{Each, each_in, in_each, each_from, each_at, in_left, in_right, in_either}
+use Rattle.fm_line.proofs.Members.{each_in, in_each, each_from, each_at, in_left, in_right, in_either}
 use Rattle.fm_line.proofs.Order.{not_both}
 use Rattle.fm_line.proofs.Rising.{prefix, rises_right, rises_apart}
-use Rattle.fm_line.proofs.Sorting.{sorted_in, in_sorted, Ordered, sorted_rises}
+use Rattle.fm_line.proofs.Sorting.{sorted_in, in_sorted, sorted_rises}
 use Rattle.fm_line.specs.Line.{line, event, event_at, upper}
-use Rattle.fm_line.specs.Piece.{Before, In, Rises, IsPrefix, IsPiece, sorted}
+use Rattle.fm_line.specs.Piece.{Before, In, Rises, IsPrefix, IsPiece, sorted, Ordered, Each}
 use Rattle.fm_core.proofs.Below.{none_any}
 use Rattle.fm_core.proofs.Booleans.{not_false, not_true, or_cases, both, not_below, if_true, clash}
 use Rattle.fm_core.proofs.Processes.{of_append, of_in, in_of, in_take, take_in, Up, up_from, up_apart, up_right, sorted_of}

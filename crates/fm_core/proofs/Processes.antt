@@ -2,11 +2,11 @@
 use Rattle.std.proofs.Common.{◌≡◌, ◌≢◌, ℕ, zero, suc, ◌+◌, ◌<◌, List, [], ◌∷◌, ◌++◌, length, get_or, take, Bool, true, false, refl, sym, ap, ◌∙◌, inl, inr, arith}
 use Rattle.std.proofs.lemmas.Bool.{eqb-true, eq-eqb}
 use Rattle.std.specs.Prelude.{nat_eq, if◌then◌else◌}
-use Rattle.fm_line.proofs.Members.{Each, each_in, in_each, in_right}
+use Rattle.fm_line.proofs.Members.{each_in, in_each, in_right}
 use Rattle.fm_line.proofs.Order.{not_before}
-use Rattle.fm_line.proofs.Sorting.{sorted_in, Ordered}
+use Rattle.fm_line.proofs.Sorting.{sorted_in}
 use Rattle.fm_line.specs.Line.{event_at}
-use Rattle.fm_line.specs.Piece.{Before, before, In, insert, sorted}
+use Rattle.fm_line.specs.Piece.{Before, before, In, insert, sorted, Ordered, Each}
 use Rattle.fm_core.proofs.Booleans.{if_true, if_false, clash}
 use Rattle.fm_core.specs.Invariant.{of_process}
 use Rattle.fm_msg.specs.Event.{TimedMessage}

@@ -33,7 +33,7 @@ use Rattle.fm_board.specs.declared.view.View.{View}
 use Rattle.fm_board.proofs.Goings.{seen_fewer}
 use Rattle.fm_crew.specs.Onward.{AreSeen, HoldsBack, IsFull, IsSeen}
 use Rattle.fm_crew.proofs.Startings.{seen_born}
-use Rattle.fm_line.specs.Line.{last_tick}
+use Rattle.fm_line.specs.declared.limits.TheConstants.{LAST_TICK}
 
 -- the greatest clock seen of a process's predecessors
 abbrev greatest_seen : View → ℕ → ℕ
@@ -70,7 +70,7 @@ swept_long xs (suc n) x (inr many) =
     let long = length-append xs (x ∷ []) in omega (arith, is, long, many)
 
 module _ (a : About) (m : Mind) (p : ℕ) (s : Seen) (r : ℕ) (xs : Log) (plan : m.view.plan ≡ a.plan) (full : IsFull m)
-    (there : p < processes m.view) (turn : (p ≡ 0) ⊎ (length m.view.sweep ≡ p)) (are : AreSeen m p) (low : s.clock ≤ last_tick) where
+    (there : p < processes m.view) (turn : (p ≡ 0) ⊎ (length m.view.sweep ≡ p)) (are : AreSeen m p) (low : s.clock ≤ LAST_TICK) where
   abbrev x : Look
   x = entered m.view p s.tag s.clock
 
@@ -145,8 +145,8 @@ module _ (a : About) (m : Mind) (p : ℕ) (s : Seen) (r : ℕ) (xs : Log) (plan 
           ap (λ (y : Look). y.clock) at.1
           ∙ ap (λ (b : Bool). if b then greatest_seen m.view p else s.clock) unborn in
           let none_yet : s.clock ≡ 0 = s.fits.unborn unborn in
-          let most : greatest_seen m.view p ≤ last_tick =
-          greatest_below (λ q. (sight m.view.sweep q).clock) (line (lines_of m.view) p).predecessors last_tick
+          let most : greatest_seen m.view p ≤ LAST_TICK =
+          greatest_below (λ q. (sight m.view.sweep q).clock) (line (lines_of m.view) p).predecessors LAST_TICK
           (λ i lt. (are (get_or (line (lines_of m.view) p).predecessors i 0) (before p i lt)).low) in
           record {
             ended = ended;
@@ -172,7 +172,7 @@ seen_more a old new p s plan found full there turn are =
 -- the process of the least pair holds the floor back
 pub held_back : (a : About) (m : Mind) (tick p : ℕ) → m.view.plan ≡ a.plan → length m.view.sweep ≡ processes m.view
     → AreSeen m (processes m.view) → due_of (least m.view.sweep) ≡ Pair tick p
-    → HoldsBack m tick p × (tick ≤ last_tick) × (floor_of (least m.view.sweep) ≡ At tick)
+    → HoldsBack m tick p × (tick ≤ LAST_TICK) × (floor_of (least m.view.sweep) ≡ At tick)
 held_back a m tick p plan long are is = go (least m.view.sweep) refl (least_of m.view.sweep) is
   where
     clash : Everything ≡ Pair tick p → ⊥
@@ -184,7 +184,7 @@ held_back a m tick p plan long are is = go (least m.view.sweep) refl (least_of m
     second_is : (x y : ℕ) → Pair x y ≡ Pair tick p → y ≡ p
     second_is x y e = cc
 
-    here : Lowest m.view.sweep tick p → HoldsBack m tick p × (tick ≤ last_tick)
+    here : Lowest m.view.sweep tick p → HoldsBack m tick p × (tick ≤ LAST_TICK)
     here low =
         let below = low.below in
         let seen = are p (omega (arith, below, long)) in
@@ -226,7 +226,7 @@ held_back a m tick p plan long are is = go (least m.view.sweep) refl (least_of m
                 absurd (later (sight m.view.sweep q).clock q (omega (arith, most, top, clock)) less (low.lower q near open_there))
 
     go : (o : Option (ℕ × ℕ)) → least m.view.sweep ≡ o → IsLeastOf m.view.sweep o → due_of o ≡ Pair tick p
-        → HoldsBack m tick p × (tick ≤ last_tick) × (floor_of (least m.view.sweep) ≡ At tick)
+        → HoldsBack m tick p × (tick ≤ LAST_TICK) × (floor_of (least m.view.sweep) ≡ At tick)
     go None e all none_is = absurd (clash none_is)
     go (Some pair) e low pair_is =
         let one : pair.0 ≡ tick = first_is pair.0 pair.1 pair_is in

@@ -16,7 +16,7 @@ use Rattle.fm_board.specs.View.{lines_of, processes}
 use Rattle.fm_board.specs.declared.view.Hold.{Hold}
 use Rattle.fm_board.specs.declared.view.Mind.{Mind}
 use Rattle.fm_crew.specs.declared.conductor.Conductor.{Conductor}
-use Rattle.fm_line.specs.Line.{last_tick}
+use Rattle.fm_line.specs.declared.limits.TheConstants.{LAST_TICK}
 
 -- a seat has a number of steps, a clock and a mark for each process
 abbrev pub IsFull : Mind → Type 0
@@ -102,7 +102,7 @@ IsLone m = m.made ≡ 1
 pub record IsSeen (m : Mind) (j : ℕ) : Type 0 where
   pub ended : slice_index_or m.over j false ≡ (sight m.view.sweep j).ended
   pub clock : slice_index_or m.known j 0 ≤ (sight m.view.sweep j).clock
-  pub low : (sight m.view.sweep j).clock ≤ last_tick
+  pub low : (sight m.view.sweep j).clock ≤ LAST_TICK
   pub ready : (slice_index_or m.left j 0 ≤ steps_of m.view.plan j)
       ⊎ ((sight m.view.sweep j).clock
       ≡ greatest (map (λ q. (sight m.view.sweep q).clock) (line (lines_of m.view) j).predecessors))
@@ -116,7 +116,7 @@ AreSeen m n = (j : ℕ) → j < n → IsSeen m j
 -- what may still come of a process, as a seat knows it: its steps, the ticks of its clock, and its end
 abbrev pub worth : Mind → ℕ → ℕ
 worth m p =
-    slice_index_or m.left p 0 + (last_tick - slice_index_or m.known p 0) + bit (not (slice_index_or m.over p false))
+    slice_index_or m.left p 0 + (LAST_TICK - slice_index_or m.known p 0) + bit (not (slice_index_or m.over p false))
 
 -- what may still come of all processes, and the events that are to be released
 abbrev pub to_come : Mind → ℕ

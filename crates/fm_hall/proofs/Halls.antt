@@ -3,9 +3,9 @@ use Rattle.std.proofs.Common.{◌≡◌, ◌⊎◌, inl, inr, ℕ, zero, suc, �
 use Rattle.std.specs.Prelude.{if◌then◌else◌, not, ◌&&◌, nat_eq}
 use Rattle.std.proofs.lemmas.Bool.{cases_order}
 use Rattle.fm_line.specs.declared.line.Line.{Line}
-use Rattle.fm_line.specs.Line.{line, sum_below, total, most_events}
-use Rattle.fm_line.specs.Piece.{piece}
-use Rattle.fm_line.proofs.Sorting.{Ordered}
+use Rattle.fm_line.specs.Line.{line, sum_below, total}
+use Rattle.fm_line.specs.declared.limits.TheConstants.{MAX_EVENTS}
+use Rattle.fm_line.specs.Piece.{piece, Ordered}
 use Rattle.fm_line.proofs.Pieces.{is_piece}
 use Rattle.fm_core.specs.Effects.{after}
 use Rattle.fm_core.specs.Giving.{MayGive}
@@ -135,7 +135,7 @@ module _ (g : Setting) (m : Stored) (hall : IsHall g m) where
         let taken = fits.taken in omega arith
 
     -- what is computed after a give is of the line
-    pub computed_le : (cell m.state p).computed + n ≤ most_events
+    pub computed_le : (cell m.state p).computed + n ≤ MAX_EVENTS
     computed_le =
         let fits = may.fits in
         let lined = hall.sound.lined in

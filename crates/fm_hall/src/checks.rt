@@ -1,19 +1,14 @@
 //! Whether lines are valid: the test for what `Hall::open` asks of them.
 ghost use Rattle.std.specs.Prelude.{◌≡◌, ◌<◌, ◌↔◌, ◌&&◌, length, nat_eq, nat_le, nat_lt, IsTrue};
 ghost use Rattle.std.specs.List.{list_all};
-ghost use Rattle.fm_line.specs.Line.{ValidLines, line, total, most_events};
+ghost use Rattle.fm_line.specs.Line.{ValidLines, line, total};
+ghost use Rattle.fm_line.specs.declared.limits.TheConstants.{MAX_EVENTS};
 ghost use Rattle.fm_line.specs.Validity.{all_once, each_below, has_number};
 ghost use Rattle.fm_line.specs.Validity.{line_valid, lines_valid, run_valid};
 
-use fm_line::{Line, validity_is_a_test};
+use fm_line::{LAST_TICK, Line, MAX_EVENTS, MAX_PROCESSES, validity_is_a_test};
 use fm_msg::Event;
 use fm_state::greatest_end;
-
-const MOST_LINES: usize = 16_384;
-
-const MOST_EVENTS: usize = 4_000_000;
-
-const LAST_TICK: u64 = 1_099_511_627_776;
 
 /// Whether lines are valid, as `Hall::open` asks: each process after the first waits for smaller
 /// ones, its events are numbered, and their times rise from its start to its end.
@@ -30,7 +25,7 @@ fn do_pass(lines: &[Line]) -> bool
     ensures { result ≡ lines_valid lines.now }
 {
     !lines.is_empty()
-        && lines.len() <= MOST_LINES
+        && lines.len() <= MAX_PROCESSES as usize
         && lines[0].predecessors.as_slice().is_empty()
         && all_fit(lines)
         && have_few_events(lines)
@@ -38,12 +33,12 @@ fn do_pass(lines: &[Line]) -> bool
 
 // Whether the lines have no more events together than they may.
 fn have_few_events(lines: &[Line]) -> bool
-    ensures { result ≡ nat_le (total lines.now) most_events }
+    ensures { result ≡ nat_le (total lines.now) MAX_EVENTS }
 {
     let mut count = 0;
     for i in 0..lines.len() {
         let more = events_of(lines, i).len();
-        let space = MOST_EVENTS - count;
+        let space = MAX_EVENTS as usize - count;
         if space < more {
             return false;
         }

@@ -1,6 +1,7 @@
 //! The scheduling core as a machine.
 ghost use Rattle.std.specs.Prelude.{◌≡◌, ◌*◌, ◌<◌, ◌≤◌, ◌↔◌, length, IfOk, IfSome, IsNone};
-ghost use Rattle.fm_line.specs.Line.{total, most_events};
+ghost use Rattle.fm_line.specs.Line.{total};
+ghost use Rattle.fm_line.specs.declared.limits.TheConstants.{MAX_EVENTS};
 ghost use Rattle.fm_line.specs.Piece.{IsPrefix, piece};
 ghost use Rattle.fm_core.specs.State.{desk, opening};
 ghost use Rattle.fm_core.specs.Steps.{reason};
@@ -128,7 +129,7 @@ impl Hall {
 
 // The number of all events.
 fn count_events(lines: &[Line]) -> usize
-    requires { total lines.now ≤ most_events }
+    requires { total lines.now ≤ MAX_EVENTS }
     ensures { result ≡ total lines.now }
 {
     let mut count = 0;

@@ -7,7 +7,7 @@ use Rattle.fm_lex.specs.declared.spot.Spot.{Spot}
 use Rattle.fm_tick.specs.declared.tick.TheConstants.{MAX_TICK}
 use Rattle.fm_warp.specs.declared.part.Part.{Part}
 use Rattle.fm_warp.specs.Deformation as warps
-use Rattle.fm_line.specs.Line.{most_events}
+use Rattle.fm_line.specs.declared.limits.TheConstants.{MAX_EVENTS}
 use Rattle.fm_grammar.specs.Standing.{block_tree, branches_tree}
 use Rattle.fm_meaning.specs.Bounds.{Totals, bounds_beside, bounds_in, fourth_walk, limit_faults, plus, score_bounds, score_totals, totals, warped_length}
 use Rattle.fm_meaning.specs.Resolve.{fork_of, passage_of, resolved}
@@ -148,7 +148,7 @@ record Within (rules : VersionRules) (t : Totals) : Type 0 where
   processes : t.processes ≤ rules.most_processes
   operations : t.operations ≤ most_operations
   length : t.length ≤ MAX_TICK
-  events : t.events ≤ most_events
+  events : t.events ≤ MAX_EVENTS
   steps : t.steps ≤ most_steps
 
 none_passed : (rules : VersionRules) (spot : Spot) (t : Totals) → Within rules t → limit_faults rules spot t ≡ []
@@ -157,7 +157,7 @@ none_passed rules spot t within =
       not_above t.processes rules.most_processes within.processes,
       not_above t.operations most_operations within.operations,
       not_above t.length MAX_TICK within.length,
-      not_above t.events most_events within.events,
+      not_above t.events MAX_EVENTS within.events,
       not_above t.steps most_steps within.steps,
     ) refl
 

@@ -1,5 +1,6 @@
 -- What a version of the language fixes, and the ranges of its numbers.
 use Rattle.std.specs.Prelude.{ℕ, ◌*◌, max, min, true, false, ◌==◌, if◌then◌else◌, Option, Some, None}
+use Rattle.fm_line.specs.declared.limits.TheConstants.{MAX_PROCESSES}
 use Rattle.fm_msg.specs.declared.profile.Profile.{Profile}
 use Rattle.fm_msg.specs.declared.profile.TheConstants.{DIVISION}
 use Rattle.fm_msg.specs.declared.running.TheConstants.{LEAST_DIVISION, MOST_DIVISION}
@@ -34,7 +35,7 @@ abbrev pub last_rules : ℕ → VersionRules
 last_rules division = record {
   profile = record { running = true; division = division };
   whole_note = 4 * division;
-  most_processes = 16384;
+  most_processes = MAX_PROCESSES;
 }
 
 -- the ticks of a quarter note in the last version: as the score states them, within their range

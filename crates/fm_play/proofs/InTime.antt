@@ -5,8 +5,8 @@ use Rattle.fm_msg.specs.Event.{TimedMessage}
 use Rattle.fm_msg.specs.declared.profile.Profile.{Profile}
 use Rattle.fm_line.specs.declared.line.Line.{Line}
 use Rattle.fm_line.specs.Line.{event_at, line, event, ValidLines}
-use Rattle.fm_line.specs.Piece.{Before, Above, Rises, piece}
-use Rattle.fm_line.proofs.Members.{Each, in_each}
+use Rattle.fm_line.specs.Piece.{Before, Above, Rises, piece, Each}
+use Rattle.fm_line.proofs.Members.{in_each}
 use Rattle.fm_line.proofs.Pieces.{is_piece, length-piece}
 use Rattle.fm_smf.specs.Track.{track_start, state_with, state_after, event_bytes, events_bytes, last_time, NeverFalls, track}
 use Rattle.fm_smf.specs.Writing.{Written}

@@ -7,7 +7,8 @@ use Rattle.fm_tick.specs.declared.tick.TheConstants.{MAX_TICK}
 use Rattle.fm_warp.specs.declared.side.Side.TheVariants.{Onset}
 use Rattle.fm_warp.specs.Deformation.{placed}
 use Rattle.fm_msg.specs.Event.{TimedMessage}
-use Rattle.fm_line.specs.Line.{last_tick, line, most_events, most_lines, start, total, ValidLines}
+use Rattle.fm_line.specs.Line.{line, start, total, ValidLines}
+use Rattle.fm_line.specs.declared.limits.TheConstants.{MAX_PROCESSES, MAX_EVENTS, LAST_TICK}
 use Rattle.fm_line.specs.Validity.{all_once, each_below, line_valid, run_valid}
 use Rattle.fm_line.proofs.OutRising.{come_out-valid}
 use Rattle.fm_line.proofs.NumberTests.{each_below_at, each_below_from}
@@ -35,7 +36,7 @@ on_tick-most [] x held = most_of x MAX_TICK held
 on_tick-most (l ∷ ls) x held =
     on_tick-most ls (placed Onset l.origin l.parts x) (both (nat_le x MAX_TICK) (levels_hold ls (placed Onset l.origin l.parts x)) held).1
 
-end-most : (p : PlanParts) (j : ℕ) → PartsFit p → j < length p.programs → (line (plan_lines p) j).end ≤ last_tick
+end-most : (p : PlanParts) (j : ℕ) → PartsFit p → j < length p.programs → (line (plan_lines p) j).end ≤ LAST_TICK
 end-most p j fits below =
     let w = (process_run p j).run.last in
     let end : (line (plan_lines p) j).end ≡ on_tick w.levels w.position = line-end p j fits below ∙ position-tick w in
@@ -93,14 +94,14 @@ lines-valid p fits =
     let ls = plan_lines p in
     let count = plan-lines-length p in
     let some : 0 < length ls = omega (arith, count, fits.some) in
-    let few : length ls ≤ most_lines = omega (arith, count, fits.few) in
+    let few : length ls ≤ MAX_PROCESSES = omega (arith, count, fits.few) in
     let root : length (line ls 0).predecessors ≡ 0 = ap length (plan-lines-waits p 0 ∙ (waits p 0 fits fits.some).first refl) in
     let each = each_below_from (length p.programs) (line_valid ls) (λ j below. line-valid p j fits below) in
     valid_from ls
     (and_from _ _
     (and_from _ _
     (and_from _ _
-    (and_from _ _ (lt-ltb 0 (length ls) some) (le-leb (length ls) most_lines few))
+    (and_from _ _ (lt-ltb 0 (length ls) some) (le-leb (length ls) MAX_PROCESSES few))
     (eq-eqb (length (line ls 0).predecessors) 0 root))
     (subst (λ (n : ℕ). each_below n (line_valid ls) ≡ true) (sym count) each))
-    (le-leb (total ls) most_events fits.events))
+    (le-leb (total ls) MAX_EVENTS fits.events))

@@ -6,7 +6,8 @@ use Rattle.std.proofs.lemmas.Bool.{cases_lt}
 use Rattle.fm_msg.specs.declared.msg.Msg.{Msg}
 use Rattle.fm_msg.specs.Message.{is_in_range}
 use Rattle.fm_line.specs.declared.line.Line.{Line}
-use Rattle.fm_line.specs.Line.{most_lines, most_events, last_tick, no_line, line, event, upper, greatest, start, total, ValidLines}
+use Rattle.fm_line.specs.Line.{no_line, line, event, upper, greatest, start, total, ValidLines}
+use Rattle.fm_line.specs.declared.limits.TheConstants.{MAX_PROCESSES, MAX_EVENTS, LAST_TICK}
 use Rattle.fm_line.specs.Marks.{Mark, process_events, process_sounds, process_end, process_line, lines_from, lines_of}
 use Rattle.fm_line.specs.Sounds.{come_out}
 use Rattle.fm_meaning.specs.Bounds.{Totals}
@@ -248,7 +249,7 @@ whole_last b births ms end w =
 
 -- the lines of a whole score that is not too great are valid
 pub whole_valid : (b : Totals) (births : List (List ℕ)) (ms : List Mark) (end : ℕ) → IsWhole b births ms end
-    → length births ≤ most_lines → end ≤ last_tick → b.events ≤ most_events → ValidLines (lines_of births ms)
+    → length births ≤ MAX_PROCESSES → end ≤ LAST_TICK → b.events ≤ MAX_EVENTS → ValidLines (lines_of births ms)
 whole_valid b births ms end w few soon many = record {
   some = omega (arith, lines_count births 0 ms, w.count);
   few = omega (arith, lines_count births 0 ms, few);

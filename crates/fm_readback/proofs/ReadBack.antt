@@ -4,7 +4,8 @@ use Rattle.std.proofs.Math.Nat.{mul-div-le}
 use Rattle.std.specs.Prelude.{IsTrue}
 use Rattle.fm_grammar.specs.Score.{Score}
 use Rattle.fm_line.specs.declared.line.Line.{Line}
-use Rattle.fm_line.specs.Line.{ValidLines, event, line, most_events, total}
+use Rattle.fm_line.specs.Line.{ValidLines, event, line, total}
+use Rattle.fm_line.specs.declared.limits.TheConstants.{MAX_EVENTS}
 use Rattle.fm_line.specs.Piece.{In, IsPiece, piece}
 use Rattle.fm_line.proofs.Pieces.{is_piece}
 use Rattle.fm_meaning.specs.Bounds.{score_bounds}
@@ -36,7 +37,7 @@ fillers_within ticks = omega (arith, mul-div-le (ticks - 1) MAX_QUANTITY)
 
 -- the file of few events in little time is small
 small : (profile : Profile) (es : List TimedMessage) (end : ℕ) → NeverFalls 0 es → last_time 0 es ≤ end
-    → length es ≤ most_events → end ≤ MAX_TICK → length (file profile es end) ≤ MAX_FILE
+    → length es ≤ MAX_EVENTS → end ≤ MAX_TICK → length (file profile es end) ≤ MAX_FILE
 small profile es end falls last few soon =
     omega (
       arith,

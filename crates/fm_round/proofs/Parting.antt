@@ -1,11 +1,11 @@
 -- Each list gives up a front: where all that is given up is before all that stays, it comes first in the order.
 use Rattle.std.proofs.Common.{◌≡◌, ◌⊎◌, ℕ, suc, ◌≤◌, List, [], ◌∷◌, ◌++◌, map, refl, inl, inr, ⊎_elim, arith}
 use Rattle.fm_msg.specs.Event.{TimedMessage}
-use Rattle.fm_line.specs.Piece.{Before, In, Rises, sorted}
+use Rattle.fm_line.specs.Piece.{Before, In, Rises, sorted, Ordered}
 use Rattle.fm_line.proofs.Members.{in_each, in_left, in_right, in_either}
 use Rattle.fm_line.proofs.Pieces.{ordered_append}
 use Rattle.fm_line.proofs.Rising.{above_in, in_above, rises_apart, rises_right}
-use Rattle.fm_line.proofs.Sorting.{Ordered, in_sorted, settled_is, sorted_in, sorted_rises}
+use Rattle.fm_line.proofs.Sorting.{in_sorted, settled_is, sorted_in, sorted_rises}
 use Rattle.fm_round.specs.Lefts.{IsOwn, OwnFrom, joined}
 
 -- a list in two parts

@@ -1,6 +1,6 @@
 -- The processes that may have something to do, one behind the other in a chain of their numbers.
 use Rattle.std.specs.Prelude.{◌≡◌, ℕ, ◌+◌, ◌<◌, ◌≤◌, List, [], length, slice_index_or, false}
-use Rattle.fm_round.specs.declared.limits.TheConstants.{MAX_PROCESSES}
+use Rattle.fm_line.specs.declared.limits.TheConstants.{MAX_PROCESSES}
 use Rattle.fm_round.specs.Lanes.{is_running, lane}
 use Rattle.fm_round.specs.declared.lane.Lane.{Lane}
 

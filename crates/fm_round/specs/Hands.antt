@@ -5,7 +5,7 @@ use denote.Param.Members.{Shared}
 use Rattle.fm_program.specs.Parts.{PlanParts}
 use Rattle.fm_round.specs.Chain.{AreChained}
 use Rattle.fm_round.specs.Lanes.{AllLanes, RunsAll}
-use Rattle.fm_round.specs.declared.limits.TheConstants.{MAX_PROCESSES}
+use Rattle.fm_line.specs.declared.limits.TheConstants.{MAX_PROCESSES}
 use Rattle.fm_round.specs.declared.lane.Lane.{Lane}
 
 -- processes that may run, and the chain of those that may have something to do

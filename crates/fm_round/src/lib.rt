@@ -21,5 +21,5 @@ mod watch;
 
 pub use fm_play::Played;
 pub use fm_strand::Plan;
-pub use limits::{MAX_PROCESSES, MAX_WORKERS};
+pub use limits::MAX_WORKERS;
 pub use rounds::Rounds;

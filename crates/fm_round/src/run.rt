@@ -6,8 +6,9 @@ ghost use Rattle.fm_round.specs.Hands.{MayRun};
 ghost use Rattle.fm_round.specs.Lanes.{AreLanes, NoneRuns, RunsAll, RunsEach, SomeRuns};
 
 use crate::lane::{Lane, is_live, run_lane};
-use crate::limits::{MAX_PROCESSES, MAX_WORKERS};
+use crate::limits::MAX_WORKERS;
 use fm_edge::{Gate, OpenGate};
+use fm_line::MAX_PROCESSES;
 use fm_strand::Plan;
 use std::thread::{Threads, join_mut};
 

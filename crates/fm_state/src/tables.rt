@@ -1,7 +1,6 @@
 //! The state of the core in vectors whose memory is taken once.
 ghost use Rattle.std.specs.Prelude.{◌≡◌, ◌+◌, ◌<◌, ◌≤◌, ◌++◌, [], length, map, IfOk, true, replicate, slice_set, vec_len, vec_capacity};
-ghost use Rattle.fm_line.specs.Piece.{sorted};
-ghost use Rattle.fm_line.proofs.Sorting.{Ordered};
+ghost use Rattle.fm_line.specs.Piece.{sorted, Ordered};
 ghost use Rattle.fm_core.specs.State.{cell, desk, visited, no_desk, opening};
 ghost use Rattle.fm_core.specs.Effects.{with_cell, with_desk, published};
 ghost use Rattle.fm_core.specs.Numbers.{any_below};

@@ -7,6 +7,7 @@ ghost use Rattle.fm_msg.specs.declared.running.TheConstants.{LEAST_DIVISION, MOS
 ghost use Rattle.fm_version.specs.View.{rules_view};
 
 use fm_grammar::{Number, Score};
+use fm_line::MAX_PROCESSES;
 use fm_msg::{DIVISION, LEAST_DIVISION, MOST_DIVISION, Profile};
 
 /// The first version of the language.
@@ -69,7 +70,7 @@ pub fn rules_of(score: &Score) -> Rules
     ensures whole { result.whole_note ≡ (score_rules (score_view score.now)).whole_note }
 {
     if score.version.value == LAST_VERSION {
-        rules_for(Profile::second(division_of(score.division)), 16_384)
+        rules_for(Profile::second(division_of(score.division)), MAX_PROCESSES)
     } else {
         rules_for(Profile::first(), 4_096)
     }

@@ -24,7 +24,8 @@ pub const DEFAULT_ROOM: u64 = 32;
 /// The greatest number of a large score that is played in place of a text.
 pub const MAX_GENERATE: u32 = 999_999_999;
 
-/// The greatest tick that an option names: 2^40, past which no score goes.
+/// The greatest tick that an option names: 2^40, past which no score goes. A number of this crate,
+/// which needs nothing else of one that has it.
 pub const MAX_TICK_ASKED: u64 = 1_099_511_627_776;
 
 /// The greatest number of a process that is asked for.

@@ -3,7 +3,8 @@ use Rattle.std.proofs.Common.{◌≡◌, ℕ, zero, suc, ◌≤◌, length, sym,
 use Rattle.std.proofs.lemmas.Bool.{lt-leb}
 use native.Mathlib.Decide.{ℕ_discrete}
 use mathlib.Core.Logic.{dite}
-use Rattle.fm_line.specs.Line.{line, sum_below, total, most_events}
+use Rattle.fm_line.specs.Line.{line, sum_below, total}
+use Rattle.fm_line.specs.declared.limits.TheConstants.{MAX_EVENTS}
 use Rattle.fm_hall.proofs.checks.have_few_events.Goals as goal
 
 -- a sum over fewer numbers is no greater
@@ -18,4 +19,4 @@ returns-then-space-more c =
     let more = ap length c.events_of-more.ensures in
     let so_far = c.loop-i.invariant.sum in
     let all = sum_rises (suc p) (length ls) (λ q. length (line ls q).events) (omega arith) in
-    sym (lt-leb (total ls) most_events (omega arith))
+    sym (lt-leb (total ls) MAX_EVENTS (omega arith))

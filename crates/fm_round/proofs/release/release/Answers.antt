@@ -1,6 +1,7 @@
 use Rattle.std.proofs.Common.{sym, ap, ◌∙◌, length, subst}
 use Rattle.fm_buffer.specs.Gather.{EventGather}
-use Rattle.fm_line.proofs.Sorting.{Ordered, length-sorted}
+use Rattle.fm_line.proofs.Sorting.{length-sorted}
+use Rattle.fm_line.specs.Piece.{Ordered}
 use Rattle.fm_round.proofs.Parting.{own_ordered}
 use Rattle.fm_round.proofs.release.release.Goals as goal
 
