@@ -13,7 +13,7 @@ use Rattle.fm_meaning.specs.Faults.{score_faults, first_found}
 use Rattle.fm_meaning.specs.Verdict.{grammar_fault, trips, finds, HasFault}
 use Rattle.fm_fault.specs.Why.{why_number, fault_at}
 use Rattle.fm_fault.specs.declared.why.Why.{Why}
-use Rattle.fm_bounds.specs.declared.bounds.Bounds.{Bounds}
+use Rattle.fm_check.specs.declared.totals.bounds.Bounds.{Bounds}
 use Rattle.fm_fault.specs.declared.fault.CheckFault.{CheckFault}
 use Rattle.fm_fault.specs.declared.fault.CheckFault.TheVariants.{Refused, Memory}
 use Rattle.fm_top.specs.Judging.{IsFirst}
