@@ -19,7 +19,7 @@ SUBJECTS = {
     "values and lists": ("fm_value", "fm_pattern"),
     "tokens": ("fm_lex",),
     "grammar": ("fm_grammar",),
-    "what a score means": ("fm_meaning", "fm_fault"),
+    "what a score means": ("fm_meaning", "fm_rules"),
     "the large scores": ("fm_gen",),
     "the outside": ("fm_edge",),
     "the file": ("fm_smf", "fm_pieces"),

@@ -8,7 +8,7 @@ use Rattle.fm_meaning.specs.Places as places
 use Rattle.fm_meaning.specs.Places.{depth_faults, passage_faults}
 use Rattle.fm_expansion.specs.Outline.{Tables, passage_in}
 use Rattle.fm_outline.specs.View.{Look}
-use Rattle.fm_fault.specs.Found.{IsFirst}
+use Rattle.fm_rules.specs.Found.{IsFirst}
 use Rattle.fm_check.specs.declared.places.depths.Depths.{Depths}
 use Rattle.fm_check.specs.declared.places.needs.Needs.{Needs}
 use Rattle.fm_check.specs.declared.places.found.Found.{Found}

@@ -11,6 +11,6 @@ mod places;
 mod totals;
 mod walks;
 
-pub use fm_fault::{CheckFault, Why};
+pub use fm_rules::{CheckFault, Why};
 pub use totals::bounds::Bounds;
 pub use walks::{Checked, check, check_outline};

@@ -5,7 +5,7 @@
 //! (`specs/Needs.antt`).
 
 ghost use Rattle.std.specs.Prelude.{◌≡◌, IfOk, map, vec_items};
-ghost use Rattle.fm_fault.specs.Found.{IsFirst};
+ghost use Rattle.fm_rules.specs.Found.{IsFirst};
 ghost use Rattle.fm_meaning.specs.Places.{third_walk};
 ghost use Rattle.fm_outline.specs.View.{tables_view, look_in, phrases_view};
 ghost use Rattle.fm_outline.specs.OfScore.{passage_of_outline};
@@ -20,8 +20,8 @@ mod statement;
 use crate::places::depths::nothing_open;
 use crate::places::needs::Needs;
 use crate::places::statement::look_through;
-use fm_fault::Fault;
 use fm_outline::{Outline, Step, Tables};
+use fm_rules::Fault;
 use std::alloc::{AllocError, Global};
 
 // What each phrase asks, found once.

@@ -14,8 +14,8 @@ ghost use Rattle.fm_meaning.specs.Bounds.{score_bounds, fourth_walk};
 ghost use Rattle.fm_meaning.specs.Faults.{first_found};
 ghost use Rattle.fm_outline.specs.View.{tables_view, look_in, phrases_view};
 ghost use Rattle.fm_outline.specs.OfScore.{passage_of_outline};
-ghost use Rattle.fm_fault.specs.Why.{fault_at};
-ghost use Rattle.fm_fault.specs.declared.why.Why.{Why};
+ghost use Rattle.fm_rules.specs.Why.{fault_at};
+ghost use Rattle.fm_rules.specs.declared.why.Why.{Why};
 ghost use Rattle.fm_check.specs.Saturation.{capped};
 ghost use Rattle.fm_check.specs.Weight.{KnowsWeights, weight_of};
 ghost use Rattle.fm_check.specs.Reached.{Reached, totals_of};
@@ -31,11 +31,10 @@ use crate::totals::excess::first_excess;
 use crate::totals::longest::longest_rhythm;
 use crate::totals::sums::Sums;
 use crate::totals::weigh::{weigh_step, weigh_steps};
-use fm_fault::CheckFault;
 use fm_grammar::Score;
 use fm_lex::Spot;
 use fm_outline::{Outline, Step, Tables};
-use fm_version::rules_of;
+use fm_rules::{CheckFault, rules_of};
 use std::alloc::{AllocError, Global};
 
 // What each phrase adds at most, found once.

@@ -1,7 +1,7 @@
 //! What is found of statements.
 
 ghost use Rattle.std.specs.Prelude.{◌≡◌, ◌++◌, [], List, None};
-ghost use Rattle.fm_fault.specs.Found.{IsFirst};
+ghost use Rattle.fm_rules.specs.Found.{IsFirst};
 ghost use Rattle.fm_meaning.specs.Fault.{NumberedFault};
 ghost use Rattle.fm_meaning.specs.Faults.{first_found};
 ghost use Rattle.fm_meaning.specs.Places.{depth_faults, Depths as PlainDepths};
@@ -11,8 +11,8 @@ ghost use Rattle.fm_check.specs.Needs.{missing};
 
 use crate::places::depths::{Depths, MAX_BLOCKS, MAX_FRAMES, MAX_WARPS};
 use crate::places::needs::{Needs, both, no_needs, outside};
-use fm_fault::{Fault, Why};
 use fm_lex::Spot;
+use fm_rules::{Fault, Why};
 
 /// What statements ask wherever they stand, and their first fault where they do.
 #[derive(Clone, Copy, Debug, PartialEq, Eq)]

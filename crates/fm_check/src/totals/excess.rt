@@ -6,10 +6,10 @@ ghost use Rattle.fm_meaning.specs.Rules.{VersionRules};
 ghost use Rattle.fm_meaning.specs.Faults.{first_found};
 ghost use Rattle.fm_meaning.specs.Bounds.{Totals, limit_faults};
 ghost use Rattle.fm_check.specs.Saturation.{saturated};
-ghost use Rattle.fm_fault.specs.Why.{fault_at};
+ghost use Rattle.fm_rules.specs.Why.{fault_at};
 
 use crate::totals::sums::Sums;
-use fm_fault::Why;
+use fm_rules::Why;
 use fm_tick::MAX_TICK;
 
 /// The most operations, once phrases and loops that fork are written out.

@@ -9,7 +9,7 @@ ghost use Rattle.fm_check.specs.Saturation.{capped};
 
 use crate::totals::sums::cap;
 use fm_grammar::{Entry, Item, Length, What};
-use fm_version::ticks_of;
+use fm_rules::ticks_of;
 
 // The greatest of these lengths, in ticks up to the ceiling.
 fn longest_length(whole: u32, lengths: &[Length]) -> u64

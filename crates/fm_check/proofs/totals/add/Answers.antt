@@ -4,8 +4,8 @@ use Rattle.fm_lex.specs.declared.spot.Spot.{Spot}
 use Rattle.fm_meaning.specs.Rules.{score_rules}
 use Rattle.fm_meaning.specs.Resolve.{resolved}
 use Rattle.fm_meaning.specs.Bounds.{score_totals, bounds_of, forks, limit_faults}
-use Rattle.fm_fault.specs.declared.why.Why.{Why}
-use Rattle.fm_fault.specs.Why.{fault_at}
+use Rattle.fm_rules.specs.declared.why.Why.{Why}
+use Rattle.fm_rules.specs.Why.{fault_at}
 use Rattle.fm_outline.proofs.RefusalLemmas.{no_first}
 use Rattle.fm_check.proofs.WalkLemmas.{after, play_reached, play_refused}
 use Rattle.fm_check.proofs.totals.add.Goals as goal

@@ -1,5 +1,5 @@
 use Rattle.std.proofs.Common.{◌∙◌, ap}
-use Rattle.fm_fault.specs.Found.{IsFirst}
+use Rattle.fm_rules.specs.Found.{IsFirst}
 use Rattle.fm_meaning.specs.Faults.{first_found}
 use Rattle.fm_meaning.specs.Places.{depth_faults}
 use Rattle.fm_check.specs.Needs.{missing, nothing}

@@ -1,7 +1,7 @@
 -- What each version fixes, in numbers.
 use Rattle.std.proofs.Common.{◌≡◌, true, false, refl}
 use Rattle.fm_meaning.specs.Rules.{first_version, last_version, first_rules, last_rules}
-use Rattle.fm_version.specs.declared.rules.TheConstants.{FIRST_VERSION, LAST_VERSION}
+use Rattle.fm_rules.specs.declared.rules.TheConstants.{FIRST_VERSION, LAST_VERSION}
 
 first : FIRST_VERSION ≡ first_version
 first = refl

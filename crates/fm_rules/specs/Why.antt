@@ -2,8 +2,8 @@
 use Rattle.std.specs.Prelude.{ℕ, List, codes}
 use Rattle.fm_lex.specs.declared.spot.Spot.{Spot}
 use Rattle.fm_meaning.specs.Fault.{NumberedFault, double_name, unknown_name, out_of_range, not_ticks, fork_in_choice, play_outside_rhythm, index_outside_loop, too_deep, too_many_processes, too_many_operations, too_long, too_many_events, too_many_steps}
-use Rattle.fm_fault.specs.declared.why.Why as reasons
-use Rattle.fm_fault.specs.declared.why.Why.TheVariants.{DoubleName, UnknownName, OutOfRange, NotTicks, ForkInChoice, PlayOutsideRhythm, IndexOutsideLoop, TooDeep, TooManyProcesses, TooManyOperations, TooLong, TooManyEvents, TooManySteps}
+use Rattle.fm_rules.specs.declared.why.Why as reasons
+use Rattle.fm_rules.specs.declared.why.Why.TheVariants.{DoubleName, UnknownName, OutOfRange, NotTicks, ForkInChoice, PlayOutsideRhythm, IndexOutsideLoop, TooDeep, TooManyProcesses, TooManyOperations, TooLong, TooManyEvents, TooManySteps}
 
 -- the number of a fault
 abbrev pub why_number : reasons.Why → ℕ

@@ -1,6 +1,6 @@
 -- The rules of a version as the meaning of a score has them.
 use Rattle.fm_meaning.specs.Rules.{VersionRules}
-use Rattle.fm_version.specs.declared.rules.Rules as code
+use Rattle.fm_rules.specs.declared.rules.Rules as code
 
 -- the rules
 abbrev pub rules_view : code.Rules → VersionRules

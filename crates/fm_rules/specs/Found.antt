@@ -2,8 +2,8 @@
 use Rattle.std.specs.Prelude.{◌≡◌, List, Option, Some, None, Result, Ok, Err, option_map}
 use Rattle.fm_meaning.specs.Fault.{NumberedFault}
 use Rattle.fm_meaning.specs.Faults.{first_found}
-use Rattle.fm_fault.specs.declared.fault.Fault.{Fault}
-use Rattle.fm_fault.specs.Why.{fault_at}
+use Rattle.fm_rules.specs.declared.fault.Fault.{Fault}
+use Rattle.fm_rules.specs.Why.{fault_at}
 
 -- a fault with its number
 abbrev pub numbered : Fault → NumberedFault

@@ -4,8 +4,8 @@ use Rattle.fm_grammar.specs.declared.part_text.PartText.{PartText}
 use Rattle.fm_warp.specs.declared.warp.TheConstants.{MAX_PARTS}
 use Rattle.fm_meaning.specs.Resolve.{part_of}
 use Rattle.fm_meaning.specs.Ranges.{part_faults, part_length, length_spot}
-use Rattle.fm_version.proofs.RangeLemmas.{few_entries, entry_without}
-use Rattle.fm_version.proofs.shape.warp_of.Goals as goal
+use Rattle.fm_rules.proofs.RangeLemmas.{few_entries, entry_without}
+use Rattle.fm_rules.proofs.shape.warp_of.Goals as goal
 
 pub part_of-requires : goal.part_of-requires
 part_of-requires c =

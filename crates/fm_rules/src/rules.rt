@@ -4,7 +4,7 @@ ghost use Rattle.std.specs.Prelude.{◌≡◌, ◌≤◌, ◌*◌};
 ghost use Rattle.fm_grammar.specs.View.{score_view};
 ghost use Rattle.fm_meaning.specs.Rules.{division_of, score_rules, profile_of};
 ghost use Rattle.fm_msg.specs.declared.running.TheConstants.{LEAST_DIVISION, MOST_DIVISION};
-ghost use Rattle.fm_version.specs.View.{rules_view};
+ghost use Rattle.fm_rules.specs.View.{rules_view};
 
 use fm_grammar::{Number, Score};
 use fm_msg::{DIVISION, LEAST_DIVISION, MOST_DIVISION, Profile};

@@ -26,7 +26,7 @@ pub enum CheckFault {
 }
 
 impl From<AllocError> for CheckFault {
-    ghost use Rattle.fm_fault.specs.declared.fault.CheckFault.TheVariants.{Memory};
+    ghost use Rattle.fm_rules.specs.declared.fault.CheckFault.TheVariants.{Memory};
 
     ghost from_gives = { λ _ e. e ≡ Memory };
 

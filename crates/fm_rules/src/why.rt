@@ -1,7 +1,7 @@
 //! Why a score is refused.
 
 ghost use Rattle.std.specs.Prelude.{◌≡◌, Some};
-ghost use Rattle.fm_fault.specs.Why.{why_number, why_text};
+ghost use Rattle.fm_rules.specs.Why.{why_number, why_text};
 
 use std::fmt;
 
