@@ -1,5 +1,5 @@
-use Rattle.fm_readback.proofs.ReadBack.{read_back}
-use Rattle.fm_readback.proofs.laws.accepted_files_are_read.Goals as goal
+use Rattle.fm_top.proofs.ReadBack.{read_back}
+use Rattle.fm_top.proofs.laws.accepted_files_are_read.Goals as goal
 
 pub returns : goal.returns
 returns c = read_back (record {

@@ -21,7 +21,7 @@ use Rattle.fm_read.specs.Files.{contents}
 use Rattle.fm_read.specs.Written.{AreInRange}
 use Rattle.fm_read.specs.WrittenFile.{written_contents}
 use Rattle.fm_read.specs.declared.limits.TheConstants.{MAX_FILE}
-use Rattle.fm_readback.specs.ReadBack.{IsReadBack}
+use Rattle.fm_top.specs.ReadBack.{IsReadBack}
 use Rattle.fm_smf.proofs.Tracks.{length-end, length-events, length-file, length-track}
 use Rattle.fm_smf.specs.File.{file}
 use Rattle.fm_smf.specs.Track.{NeverFalls, filler_count, last_time, track, track_start}
