@@ -1,7 +1,7 @@
 //! Bytes on their way to a sink, gathered to pieces.
 ghost use Rattle.std.specs.Prelude.{◌≡◌, ◌++◌, ◌<◌, [], ◌∷◌, OnOk, OnErr};
 ghost use Rattle.fm_edge.specs.Runs.{Puts, Breaks};
-ghost use Rattle.fm_pieces.specs.Gathered.{Passes};
+ghost use Rattle.fm_edge.specs.Gathered.{Passes};
 
 use arrayvec::ArrayVec;
 use fm_edge::{Append, Failed};
@@ -19,7 +19,7 @@ pub struct Gatherer {
 impl Model for Gatherer {
     ghost use Rattle.std.specs.Prelude.{◌<◌, List, ℕ};
     ghost use Rattle.arrayvec.specs.ArrayVec.{array_vec_len};
-    ghost use Rattle.fm_pieces.specs.declared.gatherer.TheConstants.{PIECE_LENGTH};
+    ghost use Rattle.fm_edge.specs.declared.gatherer.TheConstants.{PIECE_LENGTH};
 
     ghost Value = { List ℕ };
 
