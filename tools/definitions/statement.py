@@ -24,7 +24,7 @@ SUBJECTS = {
     "the outside": ("fm_edge",),
     "the file": ("fm_smf",),
     "files that are read": ("fm_read", "fm_parts", "fm_excerpt", "fm_listing"),
-    "plans and their runs": ("fm_program", "fm_player", "fm_strand", "fm_play", "fm_walk", "fm_expansion"),
+    "plans and their runs": ("fm_program", "fm_player", "fm_strand", "fm_play", "fm_expansion"),
     "the scheduling core and its records": ("fm_core", "fm_record", "fm_audit"),
     "positions": ("fm_locate", "fm_position"),
     "the words of the command": ("fm_words",),

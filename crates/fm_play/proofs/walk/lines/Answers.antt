@@ -6,8 +6,8 @@ use Rattle.fm_line.specs.declared.line.Line.{Line}
 use Rattle.fm_nest.specs.declared.place.Place.{Place}
 use Rattle.fm_program.specs.Process.{plan_lines}
 use Rattle.fm_program.proofs.Lines.{plan-lines-length}
-use Rattle.fm_walk.specs.Ends.{ends_below}
-use Rattle.fm_walk.proofs.walk.lines.Goals as goal
+use Rattle.fm_play.specs.Places.{ends_below}
+use Rattle.fm_play.proofs.walk.lines.Goals as goal
 
 pub returns : goal.returns
 returns c =

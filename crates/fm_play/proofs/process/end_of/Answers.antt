@@ -3,7 +3,7 @@ use Rattle.std.proofs.Common.{◌∙◌, ap}
 use Rattle.fm_strand.specs.Course.{end_place}
 use Rattle.fm_strand.specs.Strand.{place_reached}
 use Rattle.fm_strand.proofs.WholeLemmas.{at-end}
-use Rattle.fm_walk.proofs.process.end_of.Goals as goal
+use Rattle.fm_play.proofs.process.end_of.Goals as goal
 
 pub returns-in-Ended : goal.returns-in-Ended
 returns-in-Ended c =

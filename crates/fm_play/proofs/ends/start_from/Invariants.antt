@@ -3,7 +3,7 @@ use Rattle.std.proofs.Common.{◌≡◌, map, take, IfSome}
 use Rattle.fm_program.specs.Parts.{process_program}
 use Rattle.fm_strand.specs.Course.{end_place, start_place}
 use Rattle.fm_play.specs.Places.{HasLevelsOf, latest_of}
-use Rattle.fm_walk.proofs.ends.start_from.Given as goal
+use Rattle.fm_play.proofs.ends.start_from.Given as goal
 
 -- the latest of the ends in front, which lies in the levels of the start
 abbrev pub invariant-loop-before : goal.invariant-loop-before

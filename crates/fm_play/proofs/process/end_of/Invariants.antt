@@ -1,7 +1,7 @@
 -- The strand is on its course.
 use Rattle.std.proofs.Common.{◌≡◌}
 use Rattle.fm_strand.specs.Strand.{InCourse, steps_left}
-use Rattle.fm_walk.proofs.process.end_of.Given as goal
+use Rattle.fm_play.proofs.process.end_of.Given as goal
 
 -- it is that of the process
 abbrev pub invariant-loop-strand : goal.invariant-loop-strand

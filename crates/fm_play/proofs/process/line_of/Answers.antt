@@ -8,7 +8,7 @@ use Rattle.fm_program.proofs.Lines.{plan-lines-waits}
 use Rattle.fm_strand.specs.Course.{end_place}
 use Rattle.fm_strand.specs.Strand.{clock_of, place_reached}
 use Rattle.fm_strand.proofs.WholeLemmas.{at-end}
-use Rattle.fm_walk.proofs.process.line_of.Goals as goal
+use Rattle.fm_play.proofs.process.line_of.Goals as goal
 
 line_parts : (events : List TimedMessage) (predecessors : List ℕ) (end : ℕ) (l : Line) → events ≡ l.events →
     predecessors ≡ l.predecessors → end ≡ l.end → record { events = events; predecessors = predecessors; end = end } ≡ l

@@ -8,7 +8,7 @@ use Rattle.fm_program.specs.Fit.{PartsFit}
 use Rattle.fm_program.proofs.Lines.{plan-lines-waits}
 use Rattle.fm_strand.specs.Course.{end_place, first_place}
 use Rattle.fm_strand.proofs.ValidLemmas.{lines-valid}
-use Rattle.fm_walk.specs.Ends.{ends_below}
+use Rattle.fm_play.specs.Places.{ends_below}
 
 -- a predecessor has a smaller number
 pub predecessor_less : (p : PlanParts) (j k : ℕ) → PartsFit p → k < length (process_program p j).predecessors

@@ -2,9 +2,9 @@
 ghost use Rattle.std.specs.Prelude.{◌≡◌, ◌<◌, length, slice_index_or};
 ghost use Rattle.fm_program.specs.Fit.{PartsFit};
 ghost use Rattle.fm_strand.specs.Course.{first_place, start_place};
-ghost use Rattle.fm_walk.specs.Ends.{ends_below};
+ghost use Rattle.fm_play.specs.Places.{ends_below};
 
-use fm_play::met;
+use crate::start::met;
 use fm_strand::{Place, Plan, first};
 
 /// Where a process starts, given where all before it end.

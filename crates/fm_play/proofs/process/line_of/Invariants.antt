@@ -3,7 +3,7 @@ use Rattle.std.proofs.Common.{◌≡◌, ◌++◌}
 use Rattle.fm_line.specs.Line.{line}
 use Rattle.fm_program.specs.Process.{plan_lines}
 use Rattle.fm_strand.specs.Strand.{InCourse, rest, steps_left}
-use Rattle.fm_walk.proofs.process.line_of.Given as goal
+use Rattle.fm_play.proofs.process.line_of.Given as goal
 
 -- what was given and what is to come is the line
 abbrev pub invariant-loop-event : goal.invariant-loop-event

@@ -7,8 +7,8 @@ use Rattle.fm_strand.specs.Course.{end_place, start_place}
 use Rattle.fm_play.specs.Places.{HasLevelsOf, latest_of, met_place}
 use Rattle.fm_play.proofs.Meeting.{later_levels, latest_meets, latest_of-append, levels_of_end, none_meets}
 use Rattle.fm_play.proofs.PlanFacts.{ends_in_levels, starts_where_ends_meet}
-use Rattle.fm_walk.proofs.EndLemmas.{known_end, length-ends, map-push, predecessor_less}
-use Rattle.fm_walk.proofs.ends.start_from.Goals as goal
+use Rattle.fm_play.proofs.EndLemmas.{known_end, length-ends, map-push, predecessor_less}
+use Rattle.fm_play.proofs.ends.start_from.Goals as goal
 
 pub end_at-end-requires : goal.end_at-end-requires
 end_at-end-requires c =
