@@ -14,7 +14,7 @@ from formula_score.words import read
 
 from .program import TOP
 
-# Lines of words, with a `|` between two words; those of crates/fm_words_tests/src/words.rt.
+# Lines of words, with a `|` between two words; those of crates/fm_file_tests/src/words.rt.
 REFUSED = (
     "a|b|--rounds=", "a|b|--rounds=1", "a|b|--rounds|--rounds", "a|b|--lead=", "a|b|--lead|", "a|b|--lead",
     "a|b|--lead|--", "--lead|--|a|b", "a|b|--lead|--rounds", "a|b|--lead|-", "a|b|--lead|5_0", "a|b|--lead| 5",

@@ -14,6 +14,6 @@ mod replay;
 pub use checked::audit;
 pub use fault::AuditFault;
 pub use fm_line::Line;
+pub use fm_play::lines;
 pub use fm_record::{BadHeader, MAX_RECORD, Reel, Step, Tape, header};
-pub use fm_walk::lines;
 pub use laws::records_have_one_verdict;

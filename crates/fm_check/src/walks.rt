@@ -7,15 +7,16 @@ ghost use Rattle.fm_meaning.specs.Resolve.{resolved};
 ghost use Rattle.fm_meaning.specs.Bounds.{score_bounds};
 ghost use Rattle.fm_meaning.specs.Faults.{score_faults, first_found};
 ghost use Rattle.fm_outline.specs.OfScore.{IsOutlineOf};
-ghost use Rattle.fm_bounds.specs.Reached.{totals_of};
-ghost use Rattle.fm_fault.specs.Why.{fault_at};
-ghost use Rattle.fm_fault.specs.declared.why.Why.{Why as Reason};
+ghost use Rattle.fm_check.specs.Reached.{totals_of};
+ghost use Rattle.fm_rules.specs.Why.{fault_at};
+ghost use Rattle.fm_rules.specs.declared.why.Why.{Why as Reason};
 
-use fm_bounds::{Bounds, find_bounds};
-use fm_fault::{CheckFault, refused};
+use crate::places::first_place_fault;
+use crate::totals::bounds::Bounds;
+use crate::totals::find_bounds;
 use fm_grammar::Score;
 use fm_outline::{Outline, outline_of};
-use fm_places::first_place_fault;
+use fm_rules::{CheckFault, refused};
 use std::alloc::Global;
 
 /// An accepted score with nothing left to look up, and its static totals.

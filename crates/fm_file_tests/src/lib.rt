@@ -1,4 +1,5 @@
-//! Tests of the crates that write and read files: from `fm_msg` and `fm_edge` to `fm_listing`.
+//! Tests of the crates that write and read files, from `fm_msg` and `fm_edge` to `fm_listing`, and of
+//! `fm_words`, which reads the words of the command line.
 //!
 //! They use public calls alone, and stand above the crates that they test, so that the code of
 //! those is not proved once more for them. There is nothing else here.
@@ -24,3 +25,5 @@ mod read;
 mod same;
 #[cfg(test)]
 mod smf;
+#[cfg(test)]
+mod words;

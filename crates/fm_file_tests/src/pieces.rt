@@ -4,8 +4,7 @@ ghost use Rattle.fm_edge.specs.Runs.{Puts, Breaks};
 
 use crate::memory::memory_of;
 use crate::same::{same, same_bytes};
-use fm_edge::{Append, Failed};
-use fm_pieces::Gatherer;
+use fm_edge::{Append, Failed, Gatherer};
 use std::alloc::{AllocError, Global};
 
 // One caller: a title and a text, gathered.

@@ -3,8 +3,8 @@ use Rattle.std.proofs.Common.{◌≡◌, ℕ, ◌+◌, ◌<◌, List, ◌∷◌,
 use Rattle.std.proofs.Math.Seq.{drop-cons}
 use Rattle.fm_edge.specs.Seen.{SinkSeen}
 use Rattle.fm_edge.specs.Runs.{Breaks}
-use Rattle.fm_pieces.specs.Gathered.{Passes}
-use Rattle.fm_pieces.proofs.Coming.{Comes, come_more, come_breaks}
+use Rattle.fm_edge.specs.Gathered.{Passes}
+use Rattle.fm_edge.proofs.Coming.{Comes, come_more, come_breaks}
 use Rattle.fm_listing.specs.Listing.{byte_text, bytes_text}
 
 -- a byte in front of those behind it

@@ -1,7 +1,7 @@
 pub use Rattle.fm_edge.specs.Causes
 pub use Rattle.fm_edge.specs.Content
 pub use Rattle.fm_edge.specs.Runs
-pub use Rattle.fm_pieces.specs.Gathered
+pub use Rattle.fm_edge.specs.Gathered
 pub use Rattle.fm_read.specs.Reading
 pub use Rattle.fm_read.specs.Tracks
 pub use Rattle.fm_read.specs.Files

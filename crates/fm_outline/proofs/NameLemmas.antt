@@ -11,11 +11,11 @@ use Rattle.fm_grammar.specs.Score as text
 use Rattle.fm_meaning.specs.Fault.{NumberedFault, fault_if, double_name, unknown_name}
 use Rattle.fm_meaning.specs.Faults.{first_found}
 use Rattle.fm_meaning.specs.Ranges.{double_faults, unknown_faults}
-use Rattle.fm_fault.specs.Why.{fault_at}
-use Rattle.fm_fault.specs.declared.why.Why.{Why}
-use Rattle.fm_fault.specs.declared.why.Why.TheVariants.{DoubleName}
-use Rattle.fm_fault.specs.declared.fault.CheckFault.{CheckFault}
-use Rattle.fm_fault.specs.declared.fault.CheckFault.TheVariants.{Refused}
+use Rattle.fm_rules.specs.Why.{fault_at}
+use Rattle.fm_rules.specs.declared.why.Why.{Why}
+use Rattle.fm_rules.specs.declared.why.Why.TheVariants.{DoubleName}
+use Rattle.fm_rules.specs.declared.fault.CheckFault.{CheckFault}
+use Rattle.fm_rules.specs.declared.fault.CheckFault.TheVariants.{Refused}
 use Rattle.fm_expansion.specs.Numbering.{Catalogue}
 use Rattle.fm_outline.specs.declared.known.Known.{Known}
 use Rattle.fm_outline.specs.declared.known.Meaning.{Meaning}

@@ -3,7 +3,7 @@ use Rattle.std.proofs.Common.{◌≡◌, ℕ, zero, suc, ◌<◌, List, [], ◌�
 use Rattle.fm_lex.specs.declared.spot.Spot.{Spot}
 use Rattle.fm_meaning.specs.Fault.{NumberedFault}
 use Rattle.fm_meaning.specs.Ranges.{each_faults}
-use Rattle.fm_version.proofs.RangeLemmas.{none_first, none_second}
+use Rattle.fm_rules.proofs.RangeLemmas.{none_first, none_second}
 
 -- the entry at an index has no fault, of what the entries of a list stand for
 pub entry_seen : {A B : Type 0} (view : A → B) (faults : B → List NumberedFault) (spot : B → Spot) (most : ℕ) (xs : List A)

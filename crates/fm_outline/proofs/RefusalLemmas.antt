@@ -5,12 +5,12 @@ use Rattle.std.specs.declared.alloc.AllocError.{AllocError}
 use Rattle.fm_lex.specs.declared.spot.Spot.{Spot}
 use Rattle.fm_meaning.specs.Fault.{NumberedFault}
 use Rattle.fm_meaning.specs.Faults.{first_found}
-use Rattle.fm_fault.specs.Found.{found}
-use Rattle.fm_fault.specs.Why.{fault_at}
-use Rattle.fm_fault.specs.declared.why.Why.{Why}
-use Rattle.fm_fault.specs.declared.fault.Fault.{Fault}
-use Rattle.fm_fault.specs.declared.fault.CheckFault.{CheckFault}
-use Rattle.fm_fault.specs.declared.fault.CheckFault.TheVariants.{Refused}
+use Rattle.fm_rules.specs.Found.{found}
+use Rattle.fm_rules.specs.Why.{fault_at}
+use Rattle.fm_rules.specs.declared.why.Why.{Why}
+use Rattle.fm_rules.specs.declared.fault.Fault.{Fault}
+use Rattle.fm_rules.specs.declared.fault.CheckFault.{CheckFault}
+use Rattle.fm_rules.specs.declared.fault.CheckFault.TheVariants.{Refused}
 use Rattle.fm_outline.specs.Refusal.{answer_of, memory_answer, Refuses}
 
 -- what `?` hands on is what it was given

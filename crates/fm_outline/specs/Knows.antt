@@ -6,9 +6,9 @@ use Rattle.fm_names.specs.Named.{named}
 use Rattle.fm_grammar.specs.Score as text
 use Rattle.fm_meaning.specs.Ranges.{Names}
 use Rattle.fm_meaning.specs.Resolve.{Named, meaning_of}
-use Rattle.fm_fault.specs.declared.fault.CheckFault.{CheckFault}
-use Rattle.fm_fault.specs.declared.fault.CheckFault.TheVariants.{Refused}
-use Rattle.fm_fault.specs.declared.why.Why.TheVariants.{DoubleName, UnknownName}
+use Rattle.fm_rules.specs.declared.fault.CheckFault.{CheckFault}
+use Rattle.fm_rules.specs.declared.fault.CheckFault.TheVariants.{Refused}
+use Rattle.fm_rules.specs.declared.why.Why.TheVariants.{DoubleName, UnknownName}
 use Rattle.fm_expansion.specs.Outline.{done}
 use Rattle.fm_expansion.specs.Numbering.{Catalogue}
 use Rattle.fm_outline.specs.declared.known.Known.{Known}

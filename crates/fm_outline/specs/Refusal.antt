@@ -2,10 +2,10 @@
 use Rattle.std.specs.Prelude.{◌≡◌, ℕ, Some, Result, Ok, Err, ⊤}
 use Rattle.std.specs.declared.alloc.AllocError.{AllocError}
 use Rattle.fm_lex.specs.declared.spot.Spot.{Spot}
-use Rattle.fm_fault.specs.declared.why.Why.{Why}
-use Rattle.fm_fault.specs.declared.fault.Fault.{Fault}
-use Rattle.fm_fault.specs.declared.fault.CheckFault.{CheckFault}
-use Rattle.fm_fault.specs.declared.fault.CheckFault.TheVariants.{Refused, Memory}
+use Rattle.fm_rules.specs.declared.why.Why.{Why}
+use Rattle.fm_rules.specs.declared.fault.Fault.{Fault}
+use Rattle.fm_rules.specs.declared.fault.CheckFault.{CheckFault}
+use Rattle.fm_rules.specs.declared.fault.CheckFault.TheVariants.{Refused, Memory}
 use Rattle.fm_outline.specs.declared.step.Instruction.{Instruction}
 use Rattle.fm_outline.specs.declared.step.Instruction.TheVariants.{Phrase}
 

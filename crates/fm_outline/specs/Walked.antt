@@ -6,8 +6,8 @@ use Rattle.fm_grammar.specs.Score as text
 use Rattle.fm_grammar.specs.View.{item_view}
 use Rattle.fm_meaning.specs.Faults.{first_found}
 use Rattle.fm_meaning.specs.Ranges.{entries_faults, second_walk}
-use Rattle.fm_fault.specs.Why.{fault_at}
-use Rattle.fm_fault.specs.declared.why.Why.{Why}
+use Rattle.fm_rules.specs.Why.{fault_at}
+use Rattle.fm_rules.specs.declared.why.Why.{Why}
 use Rattle.fm_expansion.specs.Outline as plain
 use Rattle.fm_expansion.specs.Numbering.{Catalogue, outline, outline_from}
 use Rattle.fm_outline.specs.declared.known.Known.{Known}

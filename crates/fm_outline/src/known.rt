@@ -5,9 +5,9 @@ ghost use Rattle.fm_grammar.specs.View.{name_view};
 ghost use Rattle.fm_names.specs.Named.{named};
 ghost use Rattle.fm_outline.specs.Knows.{new_or_told, number_or_told, shape_index, phrase_number};
 
-use fm_fault::{CheckFault, Why};
 use fm_grammar::Name;
 use fm_names::Names;
+use fm_rules::{CheckFault, Why};
 
 /// What a name stands for.
 #[derive(Clone, Copy, Drop)]

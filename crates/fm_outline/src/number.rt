@@ -10,7 +10,7 @@ ghost use Rattle.fm_outline.specs.View.{tables_view};
 
 use crate::tables::Tables;
 use fm_grammar::{Length, Number};
-use fm_version::ticks;
+use fm_rules::ticks;
 use std::alloc::{AllocError, Global};
 
 // The entries of a rhythm, which have no fault.

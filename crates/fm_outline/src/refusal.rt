@@ -4,7 +4,7 @@ ghost use Rattle.std.specs.Prelude.{◌≡◌};
 ghost use Rattle.fm_outline.specs.Refusal.{answer_of, call_of, memory_answer};
 
 use crate::step::Instruction;
-use fm_fault::{CheckFault, Fault, refused};
+use fm_rules::{CheckFault, Fault, refused};
 use std::alloc::AllocError;
 
 /// A fault refuses the score.

@@ -4,7 +4,7 @@ ghost use Rattle.std.specs.Prelude.{◌≡◌, IfOk, Some, None};
 ghost use Rattle.fm_grammar.specs.View.{item_view, items_view};
 ghost use Rattle.fm_meaning.specs.Faults.{first_found};
 ghost use Rattle.fm_meaning.specs.Ranges.{stmt_faults, body_faults};
-ghost use Rattle.fm_fault.specs.Why.{fault_at};
+ghost use Rattle.fm_rules.specs.Why.{fault_at};
 ghost use Rattle.fm_expansion.specs.Numbering.{Catalogue, numbered, instruction_of, block_of};
 ghost use Rattle.fm_outline.specs.View.{Look, tables_view, instruction_view, block_view};
 ghost use Rattle.fm_ranges.specs.Own.{own_faults};
@@ -22,10 +22,10 @@ use crate::quality::Quality;
 use crate::refusal::{answered, called, made};
 use crate::step::{Instruction, Step};
 use crate::tables::{Tables, append};
-use fm_fault::CheckFault;
 use fm_grammar::{Item, What};
 use fm_program::{Count, Point};
 use fm_ranges::check_own;
+use fm_rules::CheckFault;
 use std::alloc::Global;
 
 /// A statement whose own numbers have no fault, or the first fault of its name and of what stands

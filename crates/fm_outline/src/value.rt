@@ -11,7 +11,7 @@ use crate::lasting::Lasting;
 use crate::tables::Tables;
 use fm_grammar::{Amount, Duration, Pitch};
 use fm_program::Draw;
-use fm_version::ticks;
+use fm_rules::ticks;
 use std::alloc::{AllocError, Global};
 
 /// A number of a message.

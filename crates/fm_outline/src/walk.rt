@@ -8,8 +8,8 @@ ghost use Rattle.fm_meaning.specs.Faults.{first_found};
 ghost use Rattle.fm_meaning.specs.Ranges.{second_walk};
 ghost use Rattle.fm_meaning.specs.Resolve.{resolved, seed_of};
 ghost use Rattle.fm_meaning.specs.Rules.{profile_of};
-ghost use Rattle.fm_fault.specs.Why.{fault_at};
-ghost use Rattle.fm_fault.specs.declared.why.Why.{Why as Reason};
+ghost use Rattle.fm_rules.specs.Why.{fault_at};
+ghost use Rattle.fm_rules.specs.declared.why.Why.{Why as Reason};
 ghost use Rattle.fm_expansion.specs.Numbering.{outline};
 ghost use Rattle.fm_outline.specs.View.{outline_view};
 ghost use Rattle.fm_outline.specs.OfScore.{passage_of_outline};
@@ -25,11 +25,10 @@ use crate::statement::{outline_item, outline_items};
 use crate::step::Step;
 use crate::tables::{Tables, append, next_index};
 use fm_expansion::outlines_stand_for_scores;
-use fm_fault::CheckFault;
 use fm_grammar::{Entry, Item, Name, PartText, Score};
 use fm_names::Names;
 use fm_ranges::{check_head, check_own, check_parts};
-use fm_version::{rules_of, warp_of};
+use fm_rules::{CheckFault, rules_of, warp_of};
 use std::alloc::Global;
 
 /// What stands before a spot of the text, and what is known there.

@@ -1,4 +1,4 @@
-pub use Rattle.fm_pieces.specs.Gathered
+pub use Rattle.fm_edge.specs.Gathered
 pub use Rattle.fm_edge.specs.Causes
 pub use Rattle.fm_edge.specs.Content
 pub use Rattle.fm_edge.specs.Runs

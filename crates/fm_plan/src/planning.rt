@@ -10,11 +10,11 @@ ghost use Rattle.fm_program.specs.Fit.{PartsFit, all_steps};
 ghost use Rattle.fm_program.specs.Process.{plan_lines, plan_played};
 ghost use Rattle.fm_expansion.specs.Numbering.{score_plan};
 ghost use Rattle.fm_outline.specs.OfScore.{IsOutlineOf};
-ghost use Rattle.fm_bounds.specs.Reached.{totals_of};
+ghost use Rattle.fm_check.specs.Reached.{totals_of};
 ghost use Rattle.fm_plan.specs.Seen.{outline_plan};
 
 use crate::expanding::{Expanded, expand};
-use fm_bounds::Bounds;
+use fm_check::Bounds;
 use fm_fidelity::{plans_fit, plans_play_the_score};
 use fm_grammar::Score;
 use fm_outline::{Outline, Tables, outline_of};

@@ -1,4 +1,5 @@
 pub mod Chains
+pub mod EndLemmas
 pub mod InTime
 pub mod Meeting
 pub mod PlanFacts

@@ -1,7 +1,8 @@
--- Where the ends of several processes meet.
-use Rattle.std.specs.Prelude.{◌≡◌, List, [], ◌∷◌, Option, Some, None}
+-- Where processes end, and where the ends of several meet.
+use Rattle.std.specs.Prelude.{◌≡◌, ℕ, zero, suc, List, [], ◌∷◌, ◌++◌, Option, Some, None}
 use Rattle.fm_nest.specs.declared.place.Place.{Place}
-use Rattle.fm_strand.specs.Course.{later_place, latest_place}
+use Rattle.fm_program.specs.Parts.{PlanParts}
+use Rattle.fm_strand.specs.Course.{end_place, later_place, latest_place}
 
 -- two places lie in the same levels
 pub record HasLevelsOf (a b : Place) : Type 0 where
@@ -17,3 +18,8 @@ met_place (Some a) end = later_place a end
 abbrev pub latest_of : List Place → Option Place
 latest_of [] = None
 latest_of (a ∷ bs) = Some (latest_place a bs)
+
+-- where the first n processes end
+abbrev pub ends_below : PlanParts → ℕ → List Place
+ends_below p zero = []
+ends_below p (suc n) = ends_below p n ++ end_place p n ∷ []

@@ -1,5 +1,5 @@
 //! Tests of the crates that place ticks in time and play one process: `fm_warp`, `fm_nest`,
-//! `fm_locate`, `fm_buffer`, `fm_offs`, `fm_program`, `fm_player`, `fm_strand`, `fm_walk` and
+//! `fm_locate`, `fm_buffer`, `fm_offs`, `fm_program`, `fm_player`, `fm_strand`, `fm_play` and
 //! `fm_position`.
 //!
 //! They use public calls alone, and stand above the crates that they test, so that the code of

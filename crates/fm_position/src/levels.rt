@@ -7,9 +7,9 @@ ghost use Rattle.fm_tick.specs.declared.tick.TheConstants.{MAX_TICK};
 
 use crate::Position;
 use fm_locate::locate;
+use fm_play::start_of;
 use fm_program::Plan;
 use fm_strand::Strand;
-use fm_walk::start_of;
 use std::alloc::{AllocError, Global};
 
 /// Where the tick `tick` of the file lies in the levels that are open where a process starts. It

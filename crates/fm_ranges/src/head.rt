@@ -4,13 +4,12 @@ ghost use Rattle.std.specs.Prelude.{◌≡◌};
 ghost use Rattle.fm_grammar.specs.View.{score_view};
 ghost use Rattle.fm_meaning.specs.Faults.{first_found};
 ghost use Rattle.fm_meaning.specs.Ranges.{head_faults};
-ghost use Rattle.fm_fault.specs.Found.{found};
+ghost use Rattle.fm_rules.specs.Found.{found};
 
 use crate::number::check_number;
-use fm_fault::Fault;
 use fm_grammar::Score;
 use fm_msg::{LEAST_DIVISION, MOST_DIVISION};
-use fm_version::{FIRST_VERSION, LAST_VERSION};
+use fm_rules::{FIRST_VERSION, Fault, LAST_VERSION};
 
 /// The first fault of the head of a score: its version, then its division.
 pub fn check_head(score: &Score) -> Result<(), Fault>

@@ -14,16 +14,15 @@ ghost use Rattle.fm_meaning.specs.Ranges.{
   pitch_spot,
   empty_faults,
 };
-ghost use Rattle.fm_fault.specs.Found.{found};
+ghost use Rattle.fm_rules.specs.Found.{found};
 
 use crate::number::{check_length, check_number, out_of_range};
 use crate::value::check_pitch;
-use fm_fault::Fault;
 use fm_grammar::{Length, Number, PartText, Pitch};
 use fm_lex::Spot;
 use fm_pattern::MAX_ENTRIES;
+use fm_rules::{Fault, ticks_of};
 use fm_tick::MAX_STRETCH;
-use fm_version::ticks_of;
 use fm_warp::MAX_PARTS;
 
 /// How many pitches one statement has at most.

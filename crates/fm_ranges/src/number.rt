@@ -4,12 +4,12 @@ ghost use Rattle.std.specs.Prelude.{◌≡◌};
 ghost use Rattle.fm_meaning.specs.Faults.{first_found};
 ghost use Rattle.fm_meaning.specs.Ranges.{number_faults, share_faults, length_faults};
 ghost use Rattle.fm_meaning.specs.Ranges.{literal_faults};
-ghost use Rattle.fm_fault.specs.Found.{found};
-ghost use Rattle.fm_fault.specs.declared.why.Why.TheVariants.{OutOfRange};
+ghost use Rattle.fm_rules.specs.Found.{found};
+ghost use Rattle.fm_rules.specs.declared.why.Why.TheVariants.{OutOfRange};
 
-use fm_fault::{Fault, Why};
 use fm_grammar::{Length, Number};
 use fm_lex::Spot;
+use fm_rules::{Fault, Why};
 
 /// The longest length that is written as one, in ticks.
 pub const MAX_TICKS: u32 = 1_000_000;

@@ -3,14 +3,14 @@
 ghost use Rattle.std.specs.Prelude.{◌≡◌};
 ghost use Rattle.fm_grammar.specs.View.{item_view};
 ghost use Rattle.fm_meaning.specs.Faults.{first_found};
-ghost use Rattle.fm_fault.specs.Found.{found};
+ghost use Rattle.fm_rules.specs.Found.{found};
 ghost use Rattle.fm_ranges.specs.Own.{own_faults};
 
 use crate::lists::{check_lengths, check_numbers, check_pitches};
 use crate::number::{MAX_TICKS, check_number};
 use crate::value::{MAX_DATA, check_amount, check_duration, check_expr};
-use fm_fault::Fault;
 use fm_grammar::{Item, What};
+use fm_rules::Fault;
 
 /// The greatest count of a loop.
 pub const MAX_ROUNDS: u32 = 1_000_000;

@@ -6,12 +6,12 @@ ghost use Rattle.fm_meaning.specs.Faults.{first_found};
 ghost use Rattle.fm_meaning.specs.Rules.{most_data};
 ghost use Rattle.fm_meaning.specs.Ranges.{node_faults, expr_faults, amount_faults, duration_faults};
 ghost use Rattle.fm_meaning.specs.Ranges.{pitch_faults};
-ghost use Rattle.fm_fault.specs.Found.{found};
+ghost use Rattle.fm_rules.specs.Found.{found};
 
 use crate::number::{MAX_TICKS, check_length, check_literal, check_number, out_of_range};
-use fm_fault::Fault;
 use fm_grammar::{Amount, Duration, Pitch};
 use fm_lex::Spot;
+use fm_rules::Fault;
 use fm_value::{Expr, MAX_VALUE, Node, Spot2};
 
 /// The greatest key, controller, control value, program and velocity.

@@ -1,7 +1,7 @@
 //! The numbers of faults, and their words.
 
-use fm_fault::{CheckFault, Fault, Why, refused};
 use fm_lex::Spot;
+use fm_rules::{CheckFault, Fault, Why, refused};
 use std::alloc::{AllocError, Global};
 
 const NUMBERS: &[(Why, u8)] = &[

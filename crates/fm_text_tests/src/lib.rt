@@ -1,5 +1,5 @@
 //! Tests of the crates between a text and its plan: `fm_lex`, `fm_value`, `fm_parse`, `fm_names`,
-//! `fm_fault`, `fm_version`, `fm_outline`, `fm_check` and `fm_plan`, and of `fm_gen`.
+//! `fm_rules`, `fm_outline`, `fm_check` and `fm_plan`, and of `fm_gen`.
 //!
 //! They use public calls alone, and stand above the crates that they test, so that the code of
 //! those is not proved once more for them. There is nothing else here.

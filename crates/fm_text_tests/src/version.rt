@@ -3,7 +3,7 @@
 use fm_grammar::{Length, Number, Score};
 use fm_lex::Spot;
 use fm_msg::Profile;
-use fm_version::{FIRST_VERSION, LAST_VERSION, rules_of, ticks_of};
+use fm_rules::{FIRST_VERSION, LAST_VERSION, rules_of, ticks_of};
 use std::alloc::Global;
 
 fn number(value: u32) -> Number {

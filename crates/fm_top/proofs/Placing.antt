@@ -11,11 +11,11 @@ use Rattle.fm_grammar.specs.Within.{limits}
 use Rattle.fm_meaning.specs.Fault.{NumberedFault}
 use Rattle.fm_meaning.specs.Faults.{score_faults, first_found}
 use Rattle.fm_meaning.specs.Verdict.{grammar_fault, trips, finds, HasFault}
-use Rattle.fm_fault.specs.Why.{why_number, fault_at}
-use Rattle.fm_fault.specs.declared.why.Why.{Why}
-use Rattle.fm_bounds.specs.declared.bounds.Bounds.{Bounds}
-use Rattle.fm_fault.specs.declared.fault.CheckFault.{CheckFault}
-use Rattle.fm_fault.specs.declared.fault.CheckFault.TheVariants.{Refused, Memory}
+use Rattle.fm_rules.specs.Why.{why_number, fault_at}
+use Rattle.fm_rules.specs.declared.why.Why.{Why}
+use Rattle.fm_check.specs.declared.totals.bounds.Bounds.{Bounds}
+use Rattle.fm_rules.specs.declared.fault.CheckFault.{CheckFault}
+use Rattle.fm_rules.specs.declared.fault.CheckFault.TheVariants.{Refused, Memory}
 use Rattle.fm_top.specs.Judging.{IsFirst}
 use Rattle.fm_terms.specs.declared.fault.ParseFault.{ParseFault}
 use Rattle.fm_terms.specs.declared.fault.ParseFault.TheVariants.{Expected, TooNested}

@@ -3,9 +3,9 @@ use Rattle.std.specs.Prelude.{◌≡◌, List, ℕ, Some}
 use Rattle.fm_grammar.specs.Score.{Score}
 use Rattle.fm_meaning.specs.Faults.{score_faults, first_found}
 use Rattle.fm_meaning.specs.Verdict.{HasFault, Means}
-use Rattle.fm_fault.specs.Why.{fault_at}
-use Rattle.fm_fault.specs.declared.fault.CheckFault.{CheckFault}
-use Rattle.fm_fault.specs.declared.fault.CheckFault.TheVariants.{Refused, Memory}
+use Rattle.fm_rules.specs.Why.{fault_at}
+use Rattle.fm_rules.specs.declared.fault.CheckFault.{CheckFault}
+use Rattle.fm_rules.specs.declared.fault.CheckFault.TheVariants.{Refused, Memory}
 use Rattle.fm_program.specs.Parts.{PlanParts}
 use Rattle.fm_expansion.specs.Numbering.{score_plan}
 use Rattle.fm_tell.specs.declared.run_fault.RunFault.{RunFault}

@@ -3,6 +3,7 @@ pub mod Tasks
 pub mod Judging
 pub mod Records
 pub mod Products
+pub mod ReadBack
 pub mod Audits
 pub mod Taking
 pub mod Outcome

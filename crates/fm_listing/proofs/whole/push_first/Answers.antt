@@ -1,6 +1,6 @@
 use Rattle.std.proofs.lemmas.Result.{on_ok_weaker, on_err_weaker}
 use Rattle.fm_edge.proofs.Chains.{on_err}
-use Rattle.fm_pieces.proofs.Coming.{come_begun, come_more, come_breaks, come_last, come_last_breaks}
+use Rattle.fm_edge.proofs.Coming.{come_begun, come_more, come_breaks, come_last, come_last_breaks}
 use Rattle.std.proofs.Common.{length}
 use Rattle.fm_read.specs.Files.{tracks}
 use Rattle.fm_listing.specs.Listing.{first_line}

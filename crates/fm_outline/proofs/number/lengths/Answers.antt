@@ -3,7 +3,7 @@ use Rattle.fm_pattern.specs.declared.cursor.TheConstants.{MAX_ENTRIES}
 use Rattle.fm_meaning.specs.Ranges.{length_faults, length_spot}
 use Rattle.fm_meaning.specs.Resolve.{length_ticks}
 use Rattle.fm_outline.proofs.MapLemmas.{mapped_more, mapped_end}
-use Rattle.fm_version.proofs.RangeLemmas.{entry_without}
+use Rattle.fm_rules.proofs.RangeLemmas.{entry_without}
 use Rattle.fm_outline.proofs.number.lengths.Goals as goal
 
 pub ticks-requires : goal.ticks-requires

@@ -8,12 +8,12 @@ use Rattle.fm_meaning.specs.Faults.{first_found}
 use Rattle.fm_meaning.specs.Ranges.{body_faults, branches_faults, duration_faults, pitches_faults, stmt_faults}
 use Rattle.fm_meaning.specs.Resolve.{length_ticks}
 use Rattle.fm_meaning.specs.Resolved as meaning
-use Rattle.fm_fault.specs.Why.{fault_at}
+use Rattle.fm_rules.specs.Why.{fault_at}
 use Rattle.fm_expansion.specs.Outline as plain
 use Rattle.fm_expansion.specs.Numbering.{numbered, block_of, arms_of}
 use Rattle.fm_names.specs.Named.{named}
 use Rattle.fm_ranges.specs.Own.{own_faults}
-use Rattle.fm_version.proofs.RangeLemmas.{none_first, none_second}
+use Rattle.fm_rules.proofs.RangeLemmas.{none_first, none_second}
 use Rattle.fm_outline.specs.Knows.{names_of, shape_index}
 use Rattle.fm_outline.specs.View.{tables_view, block_view, instruction_view, step_view}
 use Rattle.fm_outline.specs.Growing.{followed, joined_behind}

@@ -2,7 +2,7 @@ use Rattle.std.proofs.Common.{◌∙◌, ap}
 use Rattle.fm_grammar.specs.View.{score_view}
 use Rattle.fm_meaning.specs.Ranges.{head_faults}
 use Rattle.fm_meaning.specs.Rules.{VersionRules}
-use Rattle.fm_fault.specs.Why.{fault_at}
+use Rattle.fm_rules.specs.Why.{fault_at}
 use Rattle.fm_expansion.specs.Outline.{passage_in}
 use Rattle.fm_outline.specs.View.{tables_view}
 use Rattle.fm_outline.proofs.RefusalLemmas.{handed, before, passed, failed}

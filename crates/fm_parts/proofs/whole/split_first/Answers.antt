@@ -5,7 +5,7 @@ use Rattle.fm_msg.specs.declared.msg.TheConstants.{CHANNELS}
 use Rattle.fm_read.specs.Decoded.{decoded}
 use Rattle.fm_parts.specs.Format1.{channel_tracks, format1_header, tempo_track, track_chunk}
 use Rattle.fm_parts.specs.Tally.{first_track}
-use Rattle.fm_pieces.proofs.Passing.{pass_after, pass_breaks, pass_parts, parts_break, breaks_all, pass_finish, pass_finish_breaks}
+use Rattle.fm_edge.proofs.Passing.{pass_after, pass_breaks, pass_parts, parts_break, breaks_all, pass_finish, pass_finish_breaks}
 use Rattle.fm_parts.proofs.SplitLemmas.{split_parts, split_long}
 use Rattle.fm_parts.proofs.whole.split_first.Goals as goal
 

@@ -1,7 +1,7 @@
 use Rattle.std.proofs.Common.{◌≡◌, ◌∙◌, sym, ap, arith, Err}
 use Rattle.std.proofs.lemmas.Grind.{common_steps}
 use Rattle.fm_meaning.specs.Faults.{first_found}
-use Rattle.fm_fault.specs.Found.{found, numbered}
+use Rattle.fm_rules.specs.Found.{found, numbered}
 use Rattle.fm_ranges.proofs.ListLemmas.{first_of_both, each_more}
 use Rattle.fm_ranges.proofs.lists.check_lengths.Goals as goal
 

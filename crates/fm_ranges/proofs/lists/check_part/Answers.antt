@@ -3,7 +3,7 @@ use Rattle.std.proofs.lemmas.Grind.{common_steps}
 use Rattle.fm_tick.specs.declared.stretch.TheConstants.{MAX_STRETCH}
 use Rattle.fm_meaning.specs.Faults.{first_found}
 use Rattle.fm_meaning.specs.Ranges.{length_faults, empty_faults, number_faults, part_faults}
-use Rattle.fm_fault.specs.Found.{found, numbered}
+use Rattle.fm_rules.specs.Found.{found, numbered}
 use Rattle.fm_ranges.proofs.ListLemmas.{first_of_both}
 use Rattle.fm_ranges.proofs.lists.check_part.Goals as goal
 

@@ -3,7 +3,7 @@ use Rattle.std.specs.Prelude.{vec_items}
 use Rattle.std.proofs.lemmas.List.{map-append, length-map}
 use Rattle.fm_grammar.specs.View.{name_view, items_view}
 use Rattle.fm_meaning.specs.Ranges.{body_faults, entries_faults}
-use Rattle.fm_fault.specs.Why.{fault_at}
+use Rattle.fm_rules.specs.Why.{fault_at}
 use Rattle.fm_names.specs.Named.{named}
 use Rattle.fm_outline.specs.View.{tables_view}
 use Rattle.fm_outline.proofs.RefusalLemmas.{handed}

@@ -2,7 +2,7 @@ use Rattle.std.proofs.Common.{◌∷◌, ◌∙◌, ap, refl}
 use Rattle.fm_grammar.specs.View.{name_view}
 use Rattle.fm_meaning.specs.Faults.{first_found}
 use Rattle.fm_meaning.specs.Ranges.{entries_faults}
-use Rattle.fm_fault.specs.Why.{fault_at}
+use Rattle.fm_rules.specs.Why.{fault_at}
 use Rattle.fm_names.specs.Named.{named}
 use Rattle.fm_outline.proofs.RefusalLemmas.{handed, passed, failed}
 use Rattle.fm_outline.proofs.NameLemmas.{new_free, new_told}

@@ -1,6 +1,6 @@
 use Rattle.std.proofs.Common.{sym, ap, ◌∙◌}
 use Rattle.fm_grammar.specs.View.{item_view}
-use Rattle.fm_fault.specs.Why.{fault_at}
+use Rattle.fm_rules.specs.Why.{fault_at}
 use Rattle.fm_ranges.specs.Own.{own_faults}
 use Rattle.fm_outline.specs.declared.step.Step.{Step}
 use Rattle.fm_expansion.specs.Numbering.{numbered}

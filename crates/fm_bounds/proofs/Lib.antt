@@ -1,7 +1,0 @@
-pub mod SaturationLemmas
-pub mod SumsLemmas
-pub mod WeightLemmas
-pub mod LongestLemmas
-pub mod LimitLemmas
-pub mod WalkLemmas
-mod Numerals

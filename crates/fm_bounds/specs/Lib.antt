@@ -1,3 +1,0 @@
-pub mod Saturation
-pub mod Weight
-pub mod Reached

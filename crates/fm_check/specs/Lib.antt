@@ -1,0 +1,5 @@
+pub mod Needs
+pub mod Found
+pub mod Saturation
+pub mod Weight
+pub mod Reached

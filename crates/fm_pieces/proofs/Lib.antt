@@ -1,3 +1,0 @@
-mod Numerals
-pub mod Coming
-pub mod Passing

@@ -1,4 +1,0 @@
-pub mod NumberLemmas
-pub mod NeedsLemmas
-pub mod PassageLemmas
-pub mod PhraseLemmas

@@ -1,2 +1,0 @@
-pub use Rattle.fm_read.specs.WrittenFile
-pub mod ReadBack

@@ -1,2 +1,0 @@
-pub use Rattle.fm_strand.specs.Course
-pub mod Ends
