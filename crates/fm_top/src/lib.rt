@@ -9,7 +9,6 @@
 #![tactic(auto)]
 
 mod audits;
-mod excerpt;
 mod growing;
 mod headline;
 mod input;
@@ -17,7 +16,6 @@ mod judge;
 mod laws;
 mod listing;
 mod memory;
-mod parts;
 mod perform;
 mod play;
 mod positions;

@@ -1,7 +1,7 @@
 use Rattle.std.proofs.Common.{◌≤◌, length, subst, sym, ◌∙◌}
 use Rattle.fm_read.specs.declared.limits.TheConstants.{MAX_FILE}
 use Rattle.fm_top.proofs.Splitting.{file_read, is_written, plan_read, plan_small, split_cut, split_done}
-use Rattle.fm_top.proofs.parts.split_score.Goals as goal
+use Rattle.fm_top.proofs.perform.split_score.Goals as goal
 
 pub open_written-file-requires-clause-small : goal.open_written-file-requires-clause-small
 open_written-file-requires-clause-small g c =

@@ -2,7 +2,7 @@ use Rattle.std.proofs.Common.{◌≤◌, length, subst, sym, ◌∙◌}
 use Rattle.fm_read.specs.declared.limits.TheConstants.{MAX_FILE}
 use Rattle.fm_top.proofs.Excerpting.{excerpt_cut, excerpt_done, file_of_plan, has_excerpts}
 use Rattle.fm_top.proofs.Splitting.{plan_read, plan_small}
-use Rattle.fm_top.proofs.excerpt.excerpt_score.Goals as goal
+use Rattle.fm_top.proofs.perform.excerpt_score.Goals as goal
 
 pub open_written-file-requires-clause-small : goal.open_written-file-requires-clause-small
 open_written-file-requires-clause-small g c =
