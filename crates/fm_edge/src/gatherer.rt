@@ -4,7 +4,7 @@ ghost use Rattle.fm_edge.specs.Runs.{Puts, Breaks};
 ghost use Rattle.fm_edge.specs.Gathered.{Passes};
 
 use arrayvec::ArrayVec;
-use fm_edge::{Append, Failed};
+use crate::{Append, Failed};
 use std::marker::Model;
 
 /// How many bytes a piece has that is put before the end.
