@@ -5,6 +5,7 @@ from __future__ import annotations
 import importlib
 import os
 import pathlib
+import re
 import subprocess
 import sys
 import tempfile
@@ -78,6 +79,19 @@ class Install(unittest.TestCase):
         self.assertIn((TOP / "COPYING").read_text().strip(), said)
         for row in rows:
             self.assertIn(f"---- {row.crate}: {row.told}\n", said)
+
+
+
+class Suggested(unittest.TestCase):
+    def test_what_the_companion_asks_for_is_suggested(self) -> None:
+        asked: set[str] = set()
+        for path in (TOP / "python" / "formula_score").rglob("*.py"):
+            text = path.read_text(encoding="utf-8")
+            for names in re.findall(r"apt-get install ([a-z0-9 .+-]+)", text):
+                asked.update(names.split())
+            asked.update(re.findall(r'needs\("\w+", "([a-z0-9-]+)"', text))
+        self.assertGreaterEqual(asked, {"fluidsynth", "libjs-codemirror", "python3-aiohttp", "python3-pylsp-jsonrpc"})
+        self.assertEqual(asked - {*debian.SUGGESTED}, set())
 
 
 if __name__ == "__main__":

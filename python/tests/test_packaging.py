@@ -71,9 +71,11 @@ class Package(unittest.TestCase):
         if mypy is None:
             self.skipTest("NOT TRIED: there is no mypy")
         whole = [mypy, f"--cache-dir={os.devnull}"]
-        for script in ("", "../scripts/package", "../scripts/install"):
-            done = subprocess.run([*whole, *script.split()], cwd=TOP / "python", stdout=subprocess.PIPE, stderr=subprocess.STDOUT,
-                                  env={**os.environ, "MYPYPATH": "../tools/package"}, text=True, check=False)
+        typed = "../scripts/package", "../scripts/install", "../scripts/pages", "../tools/gate/build.py", "../tools/harness.py"
+        folders = ":".join(f"../tools/{name}" for name in ("", "package", "pages", "gate"))
+        for scripts in ((), ("--scripts-are-modules", *typed)):
+            done = subprocess.run([*whole, *scripts], cwd=TOP / "python", stdout=subprocess.PIPE, stderr=subprocess.STDOUT,
+                                  env={**os.environ, "MYPYPATH": folders}, text=True, check=False)
             self.assertEqual(done.returncode, 0, done.stdout)
 
     def test_each_name_is_there(self) -> None:

@@ -65,7 +65,7 @@ class Scripts(unittest.TestCase):
 
     def test_a_build_that_is_stopped_leaves_the_old_program(self) -> None:
         started = self.top / "started"
-        written(self.top / "scripts" / "build", f"#!/bin/sh\necho $$ >'{started}'\nexec sleep 60\n")
+        written(self.top / "tools" / "gate" / "build.py", f"#!/bin/sh\necho $$ >'{started}'\nexec sleep 60\n")
         (self.top / "crates.txt").touch()
         os.utime(self.built, (0, 0))
         for number, status in ((signal.SIGTERM, 143), (signal.SIGHUP, 143)):

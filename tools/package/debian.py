@@ -15,6 +15,10 @@ NAME = "rosetrowel"
 #: Where Debian has modules of Python; the library's own place becomes a link to it.
 MODULES = "lib/python3/dist-packages/formula_score"
 
+#: What verbs of the companion need beside python3: `listen` one player with its sounds, `studio` and `lsp` their modules.
+SUGGESTED = ("fluidsynth", "fluid-soundfont-gm", "timidity", "freepats", "python3-aiohttp", "libjs-codemirror",
+             "python3-pylsp-jsonrpc", "vim")
+
 CONTROL = """\
 Package: {name}
 Version: {version}
@@ -22,7 +26,7 @@ Architecture: amd64
 Maintainer: {maintainer}
 Installed-Size: {size}
 Depends: libc6 (>= {libc}), python3:any
-Suggests: fluidsynth, fluid-soundfont-gm, timidity, vim
+Suggests: {suggested}
 Section: sound
 Priority: optional
 Description: music performance compiler whose files are proved
@@ -162,4 +166,4 @@ def control_of(files: dict[str, File], facts: Facts) -> str:
     """The file control."""
     size = sum(-(-len(file.content) // 1024) for file in files.values())
     return CONTROL.format(name=NAME, version=facts.version, maintainer=facts.maintainer, size=size,
-                          libc=least_libc(files[PROGRAM].content))
+                          libc=least_libc(files[PROGRAM].content), suggested=", ".join(SUGGESTED))

@@ -100,6 +100,14 @@ class Trial:
         done = self.run("python3", "-c", "import formula_score as f; f.Score(f.note('c4', '1/4')).play('/tmp/py.mid')", user=True)
         self.tell("the library plays", done.returncode == 0 and (self.root / "tmp/py.mid").read_bytes() == FILE,
                   done.stderr.decode())
+        done = self.run("dpkg-query", "--show", "--showformat=${Suggests}", "rosetrowel")
+        for name in done.stdout.decode().split(", "):
+            shown = self.run("apt-cache", "--quiet=0", "show", name)
+            self.tell(f"the suggested package {name} is in Debian", f"Package: {name}\n".encode() in shown.stdout)
+        for verb, needed in (("studio", "python3-aiohttp"), ("lsp", "python3-pylsp-jsonrpc"), ("listen", "fluidsynth")):
+            done = self.run("/usr/bin/formula-score", verb, *(["/tmp/note.score"] if verb == "listen" else []), user=True)
+            self.tell(f"{verb} names what it needs", done.returncode == 1 and needed.encode() in done.stderr,
+                      f"{done.returncode} {done.stdout!r} {done.stderr!r}")
         done = self.run("dpkg", "--verify", "rosetrowel")
         self.tell("the package is as it was made", done.returncode == 0 and not done.stdout, done.stdout.decode())
         done = self.run("dpkg", "--purge", "rosetrowel")

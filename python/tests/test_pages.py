@@ -1,0 +1,95 @@
+"""What scripts/pages measures in pages, and whether an option is named alike at each place."""
+
+from __future__ import annotations
+
+import importlib
+import pathlib
+import shutil
+import sys
+import tempfile
+import unittest
+from typing import Any
+
+from .program import TOP
+
+sys.path.insert(0, str(TOP / "tools" / "pages"))
+#: Modules of tools/pages, which are no part of the library.
+prose: Any = importlib.import_module("prose")
+plain: Any = importlib.import_module("plain")
+options: Any = importlib.import_module("options")
+
+PAGE = """\
+# A heading is no sentence. It is left out
+
+One, two `a name. With a dot` four. (A second sentence.) Version 1.0 of
+it ends here: with a list
+- of an item, e.g. This one is no end
+- and *another.* And more!
+
+| A | cell |
+|---|---|
+| `a | b` and \\| | two words. And more |
+
+```
+no words here. At all
+```
+<!-- nor
+here -->
+[A link](docs/A_PAGE.md) counts by its text.
+"""
+
+
+class Prose(unittest.TestCase):
+    def test_sentences_and_cells(self) -> None:
+        found = [(it.line, it.words, it.text) for it in prose.passages(PAGE) if not it.is_cell]
+        self.assertEqual(found, [
+            (3, 4, "One, two `a name. With a dot` four."), (3, 3, "(A second sentence.)"),
+            (3, 9, "Version 1.0 of it ends here: with a list"), (5, 9, "of an item, e.g. This one is no end"),
+            (6, 2, "and *another.*"), (6, 2, "And more!"),
+            (17, 6, "[A link](docs/A_PAGE.md) counts by its text.")])
+        cells = [(it.line, it.text) for it in prose.passages(PAGE) if it.is_cell]
+        self.assertEqual(cells[:2] + cells[-1:], [(8, "A"), (8, "cell"), (10, "two words. And more")])
+
+    def test_what_is_beyond_the_limits(self) -> None:
+        for text, told in (
+            ("word " * 30 + "more.", "a sentence of 31 words"), ("word " * 30 + ".", "the sentences have 30.0 words in the mean"),
+            (f"| {'c' * 251} |", "a cell of 251 characters"), ("It stood there.", "`stood` means too much"),
+            ("It goes over all.", "`goes over` means too much"), ("Want\nof memory.", "`Want of memory` means too much"),
+        ):
+            self.assertIn(told, "\n".join(it.told for it in plain.faults_of(text)), text)
+        for text in ("word " * 18 + ".", f"| {'c' * 250} |", "`stands` and ```stood``` are names. A standard.", "Storytelling"):
+            self.assertEqual(plain.faults_of(text), [], text)
+
+
+class Options(unittest.TestCase):
+    def test_each_place_is_read(self) -> None:
+        for place, read in options.PLACES.items():
+            self.assertEqual(len(read(TOP)), 13, place)
+        self.assertEqual(list(options.differences(TOP)), [])
+
+    def test_a_change_at_one_place_is_seen(self) -> None:
+        changes = (
+            (f"{options.CODE}/limits.rt", "MAX_WORKERS: u64 = 16", "MAX_WORKERS: u64 = 17", "--workers has the range"),
+            (f"{options.CODE}/command.rt", 'flag(alloc, "audit")', 'flag(alloc, "audits")', "--audit is not an option"),
+            (options.MANUAL, '.BI \\-\\-lead " T"\nhow', ".B \\-\\-lead\nhow", "--lead has no number"),
+            (options.MANUAL, ".RB [ \\-\\-parts ]\n", "", "its synopsis: --parts is missing"),
+            (options.COMPLETION, "--process --parts", "--process", "--parts is missing"),
+            (options.COMPLETION, "--process | --from", "--from", "--process has no number"),
+            (options.README, "1 to 64", "0 to 64", "--room has the range (0, 64) in place of (1, 64)"),
+            (options.README, "| `--record` |", "| `--records` |", "--records is not an option"),
+        )
+        for name, old, new, told in changes:
+            with tempfile.TemporaryDirectory() as folder:
+                top = pathlib.Path(folder)
+                shutil.copytree(TOP / options.CODE, top / options.CODE)
+                for place in (options.MANUAL, options.COMPLETION, options.README):
+                    (top / place).parent.mkdir(parents=True, exist_ok=True)
+                    shutil.copy(TOP / place, top / place)
+                text = (top / name).read_text(encoding="utf-8")
+                self.assertIn(old, text, name)
+                (top / name).write_text(text.replace(old, new), encoding="utf-8")
+                self.assertIn(told, "\n".join(options.differences(top)), name)
+
+
+if __name__ == "__main__":
+    unittest.main()

@@ -1,0 +1,178 @@
+"""What the scripts share that try the program: they find it, run it, judge what it did, and count.
+
+The program is the one that `--program FILE` names, else the one that FORMULA names, else the proved one, which
+scripts/formula builds if it has to."""
+
+from __future__ import annotations
+
+import argparse
+import os
+import pathlib
+import re
+import shutil
+import subprocess
+import sys
+from typing import Callable, Mapping, NamedTuple, NoReturn, Optional, Sequence, Union
+
+TOP = pathlib.Path(__file__).resolve().parent.parent
+EXAMPLES = TOP / "examples"
+SCORES = EXAMPLES / "scores"
+
+#: The status of a script that found no program.
+NO_PROGRAM = 70
+
+PathLike = Union[str, "os.PathLike[str]"]
+
+
+# ---- the program
+
+def no_program(told: str) -> NoReturn:
+    """Ends a script that found no program."""
+    print(f"{pathlib.Path(sys.argv[0]).name}: {told}", file=sys.stderr)
+    raise SystemExit(NO_PROGRAM)
+
+
+def find(named: Optional[str] = None) -> str:
+    """The program, as a whole name; FORMULA is then out of the environment, so that no run goes through it again."""
+    if not named:
+        built = subprocess.run([TOP / "scripts" / "formula", "--program"], stdout=subprocess.PIPE, text=True, check=False)
+        if built.returncode:
+            no_program("the program could not be built")
+        named = built.stdout.strip()
+    os.environ.pop("FORMULA", None)
+    found = shutil.which(named)
+    if found is None:
+        no_program(f"there is no program {named}")
+    return os.path.abspath(found)
+
+
+def parser(doc: Optional[str]) -> argparse.ArgumentParser:
+    """A parser with `--program`, for a script of which this is the text at its head."""
+    parts = (doc or "").split("\n\n")
+    made = argparse.ArgumentParser(description=parts[0], epilog="\n\n".join(parts[2:]),
+                                   formatter_class=argparse.RawDescriptionHelpFormatter)
+    add_program(made)
+    return made
+
+
+def add_program(made: argparse.ArgumentParser) -> None:
+    """Gives a parser the option `--program`."""
+    made.add_argument("--program", metavar="FILE", help="the program; else FORMULA names it, else it is the proved one")
+
+
+# ---- files
+
+def content(path: PathLike) -> bytes:
+    """What a file holds."""
+    return pathlib.Path(path).read_bytes()
+
+
+def held(path: PathLike) -> Optional[bytes]:
+    """What a file holds; None if it does not exist."""
+    try:
+        return content(path)
+    except FileNotFoundError:
+        return None
+
+
+def bytes_of(path: PathLike) -> bytes:
+    """The bytes of a file of hexadecimal digits, in which blanks and what follows a `#` do not count."""
+    return bytes.fromhex(re.sub(r"#.*", "", content(path).decode()))
+
+
+def scores_in(folder: PathLike) -> list[str]:
+    """The scores of a folder, by their names."""
+    return sorted(os.path.join(folder, name) for name in os.listdir(folder) if name.endswith(".score"))
+
+
+# ---- runs
+
+class Ran(NamedTuple):
+    """How a run ended: its status, what it printed on standard output and standard error, and what OUT holds."""
+
+    status: int
+    said: bytes
+    complained: bytes
+    out: Optional[bytes]
+
+
+class Runs:
+    """Runs of a program in a folder, with OUT in it."""
+
+    def __init__(self, program: str, folder: PathLike):
+        self.program, self.folder = program, str(folder)
+        self.out = self.path("out")
+
+    def path(self, name: str) -> str:
+        """A name in the folder."""
+        return os.path.join(self.folder, name)
+
+    def put(self, name: str, data: bytes) -> str:
+        """Writes a file in the folder, and returns its name."""
+        pathlib.Path(self.path(name)).write_bytes(data)
+        return self.path(name)
+
+    def run(self, words: Sequence[str], given: Optional[bytes] = None, before: Optional[Callable[[], None]] = None,
+            timeout: Optional[float] = None, env: Optional[Mapping[str, str]] = None) -> Ran:
+        """A run on these words, with OUT as it is."""
+        done = subprocess.run([self.program, *words], input=given or b"", stdout=subprocess.PIPE, stderr=subprocess.PIPE,
+                              preexec_fn=before, timeout=timeout, env=env, check=False)
+        return Ran(done.returncode, done.stdout, done.stderr, held(self.out) if os.path.isfile(self.out) else None)
+
+    def anew(self, words: Sequence[str], given: Optional[bytes] = None,
+             before: Optional[Callable[[], None]] = None, timeout: Optional[float] = None) -> Ran:
+        """A run on these words, before which there is no OUT."""
+        pathlib.Path(self.out).unlink(missing_ok=True)
+        return self.run(words, given, before, timeout)
+
+
+# ---- verdicts
+
+def difference(wanted: Optional[bytes], found: Optional[bytes]) -> str:
+    """What is wrong with OUT; nothing if it is as wanted."""
+    if wanted == found:
+        return ""
+    if wanted is None:
+        return "OUT was made"
+    if found is None:
+        return "OUT is not there"
+    at = next((at for at, (one, other) in enumerate(zip(wanted, found)) if one != other), min(len(wanted), len(found)))
+    return f"OUT differs from byte {at} on: {len(found)} bytes in place of {len(wanted)}"
+
+
+class Count:
+    """How many comparisons passed and failed."""
+
+    def __init__(self) -> None:
+        self.passed = self.failed = 0
+
+    def judge(self, name: str, problem: Union[str, Sequence[str], None]) -> bool:
+        """Counts a comparison, and prints what is wrong with it, if something is; whether it passed."""
+        told = problem if isinstance(problem, str) else "; ".join(problem or ())
+        if told:
+            self.failed += 1
+            print(f"{name}: {told}", flush=True)
+        else:
+            self.passed += 1
+        return not told
+
+    def ends(self, name: str, ran: Ran, status: int, said: bytes, out: Optional[bytes]) -> bool:
+        """A run ended so, printed this and no more, and left this in OUT."""
+        problems = []
+        if ran.status != status:
+            problems.append(f"status {ran.status} in place of {status}")
+        if ran.said + ran.complained != said:
+            problems.append(f"it printed {(ran.said + ran.complained).decode('utf-8', 'replace')!r} in place of "
+                            f"{said.decode('utf-8', 'replace')!r}")
+        if ran.out != out:
+            problems.append(difference(out, ran.out))
+        return self.judge(name, problems)
+
+    def not_tried(self, what: str, why: str) -> None:
+        """Prints what could not be tried here."""
+        print(f"not tried: {what}, since {why}", flush=True)
+
+    def end(self) -> int:
+        """Prints the numbers, and returns the status of the script."""
+        print(f"{self.passed} passed, {self.failed} failed", flush=True)
+        return 1 if self.failed else 0

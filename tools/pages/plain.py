@@ -1,0 +1,102 @@
+"""Whether pages are in plain English: how long their sentences and the cells of their tables are, and words that mean too much.
+
+The pages of HELD keep the limits. Those of NOT_YET do not yet: they are measured, and not judged. A page that is
+rewritten goes from one list to the other."""
+
+from __future__ import annotations
+
+import pathlib
+import re
+from typing import Iterator, NamedTuple
+
+from prose import Passage, passages, without_code
+
+#: The most words of a sentence, the most in the mean, and the most characters of a cell.
+MOST_WORDS, MOST_IN_THE_MEAN, MOST_OF_A_CELL = 30, 18, 250
+
+HELD = ("README.md",)
+NOT_YET = ("CONTRIBUTING.md", "docs/ARCHITECTURE.md", "docs/SCHEDULER.md", "docs/GUARANTEES.md", "docs/POSITIONS.md",
+           "docs/MIDI_FILE.md", "docs/PROOF.md", "docs/LANGUAGE.md", "docs/TUTORIAL.md", "docs/STUDIO.md", "docs/SLIPS.md",
+           "docs/GLOSSARY.md", "docs/DECISIONS.md", "CHANGELOG.md", "python/README.md", "python/COOKBOOK.md",
+           "editors/README.md", "examples/README.md")
+
+#: Words that stand for too many things, each with words that say one.
+VAGUE = {
+    r"st(?:and(?:s|ing)?|ood)": "is, are, lies, begins",
+    r"(?:come(?:s)?|came|coming) out": "results, returns, is written",
+    r"(?:tell(?:s|ing)?|told)": "prints, says, returns, reports",
+    r"(?:go(?:es|ing)?|went|gone) over": "visits, reads, iterates",
+    r"want of memory": "out of memory",
+    r"takes? (?:its|their) time anew": "runs again, rebuilds",
+    r"comes? to (?:its|their) end": "terminates, ends",
+}
+
+
+class Fault(NamedTuple):
+    """What is wrong on a line of a page."""
+
+    line: int
+    told: str
+
+
+class Measure(NamedTuple):
+    """What a page measures: sentences, their words in the mean and at most, long ones, long cells, vague words."""
+
+    sentences: int
+    mean: float
+    most: int
+    long: int
+    long_cells: int
+    vague: int
+
+
+def _vague_in(passage: Passage) -> Iterator[Fault]:
+    for pattern, better in VAGUE.items():
+        for found in re.finditer(rf"\b{pattern}\b", without_code(passage.text), re.I):
+            yield Fault(passage.line, f"`{found.group()}` means too much: write {better}")
+
+
+def faults_of(page: str) -> list[Fault]:
+    """What is wrong with a page, line by line; the mean is told on line 1."""
+    found: list[Fault] = []
+    lengths: list[int] = []
+    for passage in passages(page):
+        if passage.is_cell and len(passage.text) > MOST_OF_A_CELL:
+            found.append(Fault(passage.line, f"a cell of {len(passage.text)} characters: {passage.text[:50]}.."))
+        if not passage.is_cell:
+            lengths.append(passage.words)
+            if passage.words > MOST_WORDS:
+                found.append(Fault(passage.line, f"a sentence of {passage.words} words: {passage.text[:50]}.."))
+        found += _vague_in(passage)
+    if lengths and sum(lengths) > MOST_IN_THE_MEAN * len(lengths):
+        found.insert(0, Fault(1, f"the sentences have {sum(lengths) / len(lengths):.1f} words in the mean"))
+    return found
+
+
+def measure(page: str) -> Measure:
+    """What a page measures."""
+    whole = list(passages(page))
+    lengths = [each.words for each in whole if not each.is_cell] or [0]
+    cells = [len(each.text) for each in whole if each.is_cell]
+    return Measure(len(lengths), sum(lengths) / len(lengths), max(lengths), sum(each > MOST_WORDS for each in lengths),
+                   sum(each > MOST_OF_A_CELL for each in cells), sum(1 for each in whole for _ in _vague_in(each)))
+
+
+def judged(top: pathlib.Path) -> list[str]:
+    """What is wrong with the pages that are held, and pages that stand in neither list."""
+    problems = [f"{name}:{fault.line}: {fault.told}" for name in HELD
+                for fault in faults_of((top / name).read_text(encoding="utf-8"))]
+    there = {path.relative_to(top).as_posix() for folder in (".", "docs", "python", "editors", "examples")
+             for path in (top / folder).glob("*.md")}
+    problems += [f"{name}: tools/pages/plain.py names it in no list" for name in sorted(there - {*HELD, *NOT_YET})]
+    problems += [f"{name}: tools/pages/plain.py names it, and it is not there" for name in sorted({*HELD, *NOT_YET} - there)]
+    return problems
+
+
+def table(top: pathlib.Path) -> Iterator[str]:
+    """A line for each page with what it measures."""
+    yield f"{'page':<24}{'sentences':>10}{'mean':>7}{'most':>6}{'> ' + str(MOST_WORDS):>6}{'cells':>7}{'words':>7}"
+    for name in (*HELD, *NOT_YET):
+        it = measure((top / name).read_text(encoding="utf-8"))
+        yield (f"{name:<24}{it.sentences:>10}{it.mean:>7.1f}{it.most:>6}{it.long:>6}{it.long_cells:>7}{it.vague:>7}"
+               + ("" if name in HELD else "  not yet"))

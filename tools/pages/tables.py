@@ -1,0 +1,99 @@
+"""The tables of docs/ that have their source in python/, and the copies of files that have to be the same."""
+
+from __future__ import annotations
+
+import pathlib
+from typing import Callable, Iterator, Mapping
+
+from formula_score.faults import FAULTS, FILE_FAULTS, RECORD_FAULTS, Fault
+from formula_score.index import INDEX
+from tests.slips import SLIPS
+
+FAULTS_FROM = "python/formula_score/faults.py"
+INDEX_FROM = "python/formula_score/index.py"
+SLIPS_FROM = "python/tests/slips.py"
+
+
+class NotWritten(Exception):
+    """Why a page cannot be written."""
+
+
+def cell(text: str) -> str:
+    """A text as it is written in a cell."""
+    return text.replace("|", "\\|")
+
+
+def code(text: str) -> str:
+    """A text in one line, between as many marks as it needs."""
+    line = cell(" ⏎ ".join(text.split("\n")))
+    return f"`{line}`" if "`" not in line else f"`` {line} ``"
+
+
+def _rows(table: Mapping[int, Fault]) -> Iterator[str]:
+    yield "|---|---|---|---|"
+    for fault in table.values():
+        yield f"| {fault.number} | {cell(fault.means)} | {cell(fault.stands_at)} | {cell(fault.do)} |"
+
+
+def faults() -> Iterator[str]:
+    """The faults of texts."""
+    yield "| Number | Means | Stands at | Do |"
+    yield from _rows(FAULTS)
+
+
+def file_faults() -> Iterator[str]:
+    """The faults of MIDI files."""
+    yield "| Number | What is wrong | Place | What to do |"
+    yield from _rows(FILE_FAULTS)
+
+
+def record_faults() -> Iterator[str]:
+    """The faults of records."""
+    yield "| Number | What is wrong | P is | What to do |"
+    yield from _rows(RECORD_FAULTS)
+
+
+def words() -> Iterator[str]:
+    """The index of musical words."""
+    yield "| Word | Write | |"
+    yield "|---|---|---|"
+    for word in INDEX:
+        yield f"| {word.words} | {code(word.write)} | {cell(word.note)} |".replace("|  |", "| |")
+
+
+def slips() -> Iterator[str]:
+    """Mistakes in texts, and what is said of them."""
+    yield "| You wrote | Place, fault | What stands there | What to do |"
+    yield "|---|---|---|---|"
+    for slip in SLIPS:
+        yield f"| {code(slip.wrote)} | {slip.place}, {slip.fault} | {cell(slip.heading)} | {cell(slip.cure)} |"
+
+
+PAGES: Mapping[str, Mapping[str, tuple[str, Callable[[], Iterator[str]]]]] = {
+    "LANGUAGE.md": {"words": (INDEX_FROM, words), "faults": (FAULTS_FROM, faults)},
+    "MIDI_FILE.md": {"faults": (FAULTS_FROM, file_faults)},
+    "SCHEDULER.md": {"faults": (FAULTS_FROM, record_faults)},
+    "SLIPS.md": {"slips": (SLIPS_FROM, slips)},
+}
+
+#: Files that are copies of others.
+COPIES = {"python/formula_score/studio/page/formula.tmLanguage.json": "editors/vscode/syntaxes/formula.tmLanguage.json"}
+
+
+def _written(path: pathlib.Path, tables: Mapping[str, tuple[str, Callable[[], Iterator[str]]]]) -> str:
+    """A page with its tables written anew, between their marks."""
+    page = path.read_text(encoding="utf-8")
+    for name, (source, table) in tables.items():
+        head, foot = f"<!-- {name}: from {source}, by scripts/pages -->\n", f"<!-- {name} end -->\n"
+        if page.count(head) != 1 or page.count(foot) != 1:
+            raise NotWritten(f"{path} lacks the marks of {name}")
+        before, rest = page.split(head)
+        page = before + head + "\n" + "".join(line + "\n" for line in table()) + "\n" + foot + rest.split(foot)[1]
+    return page
+
+
+def wanted(top: pathlib.Path) -> Mapping[pathlib.Path, str]:
+    """Each page with tables and each copy, as it has to be."""
+    made = {top / "docs" / name: _written(top / "docs" / name, tables) for name, tables in PAGES.items()}
+    made.update((top / copy, (top / source).read_text(encoding="utf-8")) for copy, source in COPIES.items())
+    return made
