@@ -36,6 +36,7 @@ ASKED = {
     "played_lines": "fm_meaning.specs.Lines.played_lines",
     "piece": "fm_line.specs.Piece.piece",
     "before": "fm_line.specs.Piece.before",
+    "track": "fm_smf.specs.Track.track",
     "file": "fm_smf.specs.File.file",
     "format1": "fm_parts.specs.Format1.format1",
     "as_message": "fm_read.specs.Written.as_message",
@@ -119,6 +120,8 @@ class Definitions:
     def __init__(self, repository: Repository):
         self.translator = Translator(repository)
         self.names: dict[str, str] = {}
+        # how many steps of records were gone through
+        self.steps = 0
         for name, path in ASKED.items():
             module, _, plain = path.rpartition(".")
             target = Target("definition", f"Rattle.{module}", plain)
@@ -166,6 +169,9 @@ class Definitions:
 
     def file_of(self, it: Played) -> bytes:
         return bytes(self.file(self.profile_of(it.score), it.piece, it.end))
+
+    def track_of(self, it: Played) -> bytes:
+        return bytes(self.track(self.profile_of(it.score), it.piece, it.end))
 
     def parts_of_score(self, it: Played) -> bytes:
         messages = listed(self.as_message(event) for event in it.piece)
@@ -221,6 +227,10 @@ class Definitions:
 
     # ---- records
 
+    def head_of(self, workers: int, room: int, lead: int, text: bytes) -> bytes:
+        """The head of a record of a run: the conductor has a seat too."""
+        return bytes(self.head_bytes(workers + 1, room, lead, listed(text)))
+
     def audit(self, data: bytes) -> bytes | tuple[int, int] | Fault:
         """The file of an accepted record, or the place and the number of its fault, or the fault of its text. The steps are
         gone through by the definitions of the core one by one."""
@@ -256,6 +266,7 @@ class Definitions:
                 return count, self.refused_step()
             state = self.after(setting, state, step)
             at, count = at + size, count + 1
+            self.steps += 1
         released = sum(1 for _ in state.released) == self.total(lines)
         drained = all(cell.tag.tag == "Drained" for cell in state.cells)
         return None if released and drained else (count, self.unfinished_run())

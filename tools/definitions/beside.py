@@ -1,0 +1,171 @@
+"""What is compared on one text, file or record: what the definitions compute, the program's answers, and those of
+tools/score_model."""
+from __future__ import annotations
+
+import importlib
+import os
+import random
+import subprocess
+import sys
+from collections import Counter
+from collections.abc import Mapping
+from typing import Any, Optional
+
+import plain
+from products import TOP, Definitions, Fault, Played
+from running import Made, Record, listed
+
+sys.path.append(os.path.join(TOP, "tools", "score_model"))
+#: The player of texts, which is apart from the program and has no types.
+score_model: Any = importlib.import_module("score_model")
+
+MOST_TEXT, MOST_FILE = 20_000, 16_000
+SCHEDULES = (("--workers", "0"), ("--rounds",), (), ("--workers", "3", "--room", "1", "--lead", "0"))
+# A file begins with so many bytes, and its track is the rest.
+HEAD = 22
+# After so many seconds a run of the program is one that does not end.
+LONGEST = 600
+# The status and the line of a run, and what stands in OUT, None where there is none.
+End = tuple[int, bytes, Optional[bytes]]
+
+
+class Program:
+    """Runs of the program in a folder of their own."""
+
+    def __init__(self, program: str, folder: str):
+        self.program, self.given, self.out = program, os.path.join(folder, "in"), os.path.join(folder, "out")
+
+    def run(self, data: bytes, *words: str) -> End:
+        """The status, the line on standard output, and what stands in OUT, None where there is none."""
+        with open(self.given, "wb") as file:
+            file.write(data)
+        if os.path.exists(self.out):
+            os.remove(self.out)
+        done = subprocess.run([self.program, self.given, self.out, *words], stdin=subprocess.DEVNULL,
+                              stdout=subprocess.PIPE, stderr=subprocess.STDOUT, timeout=LONGEST, check=False)
+        made = None
+        if os.path.exists(self.out):
+            with open(self.out, "rb") as file:
+                made = file.read()
+        return done.returncode, done.stdout, made
+
+
+class Case:
+    """What is compared on one text."""
+
+    def __init__(self, definitions: Definitions, program: Program, name: str, text: bytes, draw: random.Random,
+                 recorded: bool):
+        self.definitions, self.program = definitions, program
+        self.name, self.text, self.draw, self.recorded = name, text, draw, recorded
+        self.counts: Counter[str] = Counter()
+        self.differ: list[str] = []
+
+    def judge(self, product: str, mine: Any, others: Mapping[str, Any]) -> None:
+        self.counts[product] += 1
+        for whose, other in others.items():
+            if mine != other:
+                gave = f"the definitions give {str(mine)[:200]}, {whose} {str(other)[:200]}"
+                self.differ.append(f"{self.name}: {product}: {gave}")
+
+    def line_of(self, tag: str, *parts: Any) -> End:
+        """The line of a fault as the definitions tell it, with its status."""
+        fault = Made(tag, parts)
+        return self.definitions.fault_status(fault), bytes(self.definitions.fault_text(fault)), None
+
+    def score_line(self, fault: Fault) -> End:
+        return self.line_of("Score", Record(line=fault.line, column=fault.column), fault.number)
+
+    def compare(self) -> None:
+        if len(self.text) > MOST_TEXT:
+            self.counts["left out: a long text"] += 1
+            return
+        found = self.program.run(self.text, *self.draw.choice(SCHEDULES))
+        if found[2] is not None and len(found[2]) > MOST_FILE:
+            self.counts["left out: a long file"] += 1
+            return
+        verdict = self.definitions.verdict(self.text)
+        if isinstance(verdict, Fault):
+            self.judge("fault of a text", self.score_line(verdict), {"the program": found})
+            return
+        it = self.definitions.played(verdict)
+        mine = self.definitions.file_of(it)
+        events, end = score_model.played(self.text)
+        model = score_model.file_of(events, end, *score_model.profile(self.text))
+        self.judge("file", (0, b"", mine), {"the program": found, "tools/score_model": (0, b"", model)})
+        tracks = {"the program": (found[2] or b"")[HEAD:], "tools/score_model": model[HEAD:]}
+        self.judge("track", self.definitions.track_of(it), tracks)
+        resolved = plain.model_score(score_model, self.text)
+        self.judge("resolved score", plain.score(it.resolved), {"tools/score_model": resolved})
+        marks = plain.model_marks(score_model, self.text)
+        self.judge("played marks", plain.marks(it.made.marks), {"tools/score_model": marks})
+        self.lines(it, events)
+        self.tokens()
+        self.of_score(it, mine)
+        if self.recorded:
+            self.records(mine)
+
+    def tokens(self) -> None:
+        mine = [bytes(token.args[0].text).decode() for token in self.definitions.tokens(listed(self.text))]
+        self.judge("tokens", mine, {"tools/score_model": score_model.tokens(self.text)})
+
+    def lines(self, it: Played, events: Any) -> None:
+        mine = [(event.time, event.process, event.index, plain.message_of(event.msg)) for event in it.piece]
+        self.judge("piece", mine, {"tools/score_model": [(*front, bytes(message)) for *front, message in events]})
+        lines = [[[(event.time, plain.message_of(event.msg)) for event in line.events], list(line.predecessors), line.end]
+                 for line in it.lines]
+        self.judge("lines", lines, {"tools/score_model": score_model.lines(self.text)})
+
+    def of_score(self, it: Played, file: bytes) -> None:
+        program, definitions, draw = self.program, self.definitions, self.draw
+        self.judge("tracks", (0, b"", definitions.parts_of_score(it)), {"the program": program.run(self.text, "--parts")})
+        begin, until = sorted(draw.randrange(it.end + 2) for _ in range(2)) if draw.randrange(4) else (it.end, 0)
+        stop = draw.choice((None, until, until))
+        words = ["--from", str(begin)] + ([] if stop is None else ["--to", str(stop)])
+        excerpt = definitions.excerpt_of(it, begin, stop)
+        self.judge("excerpt", (0, b"", excerpt), {"the program": program.run(self.text, *words)})
+        process = draw.randrange(sum(1 for _ in it.lines) + (draw.randrange(8) == 0))
+        tick = draw.choice((0, it.end, draw.randrange(it.end + 1), draw.randrange(2 * it.end + 2)))
+        line = definitions.position_line(it.score, process, tick)
+        told = score_model.located(self.text, tick, process)
+        mine: End = self.line_of("NoProcess") if line is None else (0, line, None)
+        model: End = self.line_of("NoProcess") if told is None else (0, told.encode() + b"\n", None)
+        found = program.run(self.text, "--locate", str(tick), "--process", str(process))
+        self.judge("position", mine, {"the program": found, "tools/score_model": model})
+        self.listing("listing", file)
+        self.listing("listing of a changed file", self.changed(file))
+
+    def listing(self, product: str, data: bytes) -> None:
+        made = self.definitions.listing_of(data)
+        mine: End = (0, b"", made) if isinstance(made, bytes) else self.line_of("File", *made)
+        self.judge(product, mine, {"the program": self.program.run(data, "--list")})
+
+    def changed(self, data: bytes) -> bytes:
+        """The bytes with one of them changed, left out, doubled or taken for the end."""
+        place, way = self.draw.randrange(len(data)), self.draw.randrange(4)
+        if way == 0:
+            return data[:place] + bytes([data[place] ^ 1 << self.draw.randrange(8)]) + data[place + 1:]
+        return data[:place] if way == 1 else data[:place + (way == 2)] + data[place + (way == 3):]
+
+    def records(self, file: bytes) -> None:
+        draw, text = self.draw, self.text
+        workers, room = draw.choice((1, 2, 3, 8, 16)), draw.choice((1, 2, 7, 64))
+        lead = draw.choice((0, 100, 7680, 1_000_000))
+        words = ["--workers", str(workers), "--room", str(room), "--lead", str(lead)]
+        status, said, record = self.program.run(text, "--record", *words)
+        if record is None or (status, said) != (0, b""):
+            self.differ.append(f"{self.name}: no record: status {status}")
+            return
+        head = self.definitions.head_of(workers, room, lead, text)
+        self.judge("head of a record", head, {"the program": record[:len(head)]})
+        before = self.definitions.steps
+        self.judge("record", self.definitions.audit(record), {"the program": file})
+        self.counts["steps of records"] += self.definitions.steps - before
+        place = draw.randrange(14) if draw.randrange(4) == 0 else 14 + len(text)
+        place = draw.randrange(place, len(record))
+        data = record[:place] + self.changed(record[place:])
+        mine = self.definitions.audit(data)
+        if isinstance(mine, bytes):
+            answer: End = 0, b"", mine
+        else:
+            answer = self.score_line(mine) if isinstance(mine, Fault) else self.line_of("Record", *mine)
+        self.judge("changed record", answer, {"the program": self.program.run(data, "--audit")})
