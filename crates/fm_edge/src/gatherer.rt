@@ -3,8 +3,8 @@ ghost use Rattle.std.specs.Prelude.{◌≡◌, ◌++◌, ◌<◌, [], ◌∷◌,
 ghost use Rattle.fm_edge.specs.Runs.{Puts, Breaks};
 ghost use Rattle.fm_edge.specs.Gathered.{Passes};
 
-use arrayvec::ArrayVec;
 use crate::{Append, Failed};
+use arrayvec::ArrayVec;
 use std::marker::Model;
 
 /// How many bytes a piece has that is put before the end.
