@@ -5,7 +5,7 @@ use fm_msg::Profile;
 use fm_program::{Scopes, Slot};
 use std::test::Fail;
 
-// A copy with expressions, lists and deformations is played in `fm_top_tests`; `strand/cuts` looks
+// A copy with expressions, lists and deformations is played in `fm_way_tests`; `strand/cuts` looks
 // at the spots of its expressions.
 #[test]
 fn a_plan_is_made_and_copied(rt: HostRuntime) -> Result<(), Fail> {

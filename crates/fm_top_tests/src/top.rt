@@ -3,15 +3,12 @@ ghost use Rattle.std.specs.Prelude.{◌≡◌, [], IfOk};
 
 mod breaks;
 mod damaged;
-mod meets;
 mod runs;
 mod scores;
-mod scripted;
 mod tasks;
 mod texts;
-mod ways;
 
-use fm_edge::{Gate, MemorySink, MemorySource, OpenGate};
+use fm_edge::{MemorySink, MemorySource, OpenGate};
 use fm_top::formula;
 use std::alloc::{AllocError, Global};
 use std::process::Abort;
@@ -116,18 +113,6 @@ fn run_on<R: Threads + Wait + Sync>(
     text: &[u8],
     faults: Faults<'_>,
 ) -> Result<Ran, AllocError> {
-    run_at(rt, alloc, words, text, faults, &OpenGate)
-}
-
-// The same, where threads pass this gate.
-fn run_at<R: Threads + Wait + Sync, G: Gate + Sync>(
-    rt: &R,
-    alloc: Global,
-    words: &str,
-    text: &[u8],
-    faults: Faults<'_>,
-    gate: &G,
-) -> Result<Ran, AllocError> {
     let words = words_of(alloc, words)?;
     let mut source = source_of(alloc, text, faults.0)?;
     let mut sink = memory_of(alloc, faults.1)?;
@@ -139,7 +124,7 @@ fn run_at<R: Threads + Wait + Sync, G: Gate + Sync>(
         &mut source,
         &mut sink,
         &mut console,
-        gate,
+        &OpenGate,
     );
     Ok(Ran {
         status,
@@ -167,13 +152,4 @@ fn repeated(
     }
     text.push_str(ends.1)?;
     Ok(text)
-}
-
-// The bytes as digits to the base 31, modulo 2^32.
-fn sum_of(bytes: &[u8]) -> u32 {
-    let mut sum = 0u32;
-    for byte in bytes {
-        sum = sum.wrapping_mul(31).wrapping_add(u32::from(*byte));
-    }
-    sum
 }

@@ -1,7 +1,6 @@
 //! Runs that list, split, locate and write excerpts, and what each leaves.
 
 use super::runs::{Left, NO_PROCESS, READ, Row, SKIP, SKIP_REFUSED, UNTOUCHED, WRITE};
-use super::ways::PIECE;
 use super::{NOTE, QUARTER_FILE, SOUND};
 
 /// The listing of a quarter note's file.
@@ -47,7 +46,7 @@ const HALF: &[u8] = b"formula 1; shape s = flat ticks 1000 by 500; warp s { rest
     par { branch { note c4 1/4; } } }";
 
 /// As many processes as there can be.
-pub const MANY_PROCESSES: &[u8] = b"formula 1; repeat 1365 { par { branch { } branch { } } }";
+const MANY_PROCESSES: &[u8] = b"formula 1; repeat 1365 { par { branch { } branch { } } }";
 
 /// A program and two notes.
 const PAIR: &[u8] = b"formula 1; program 5; note c4 1/4; note d4 1/4;";

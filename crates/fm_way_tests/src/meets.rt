@@ -1,9 +1,10 @@
 //! Processes that threads run beside one another, as a gate sees them, and as they stand on record.
 
-use super::{SOUND, THREE_BRANCHES, THREE_TRACK, check_left, file_with, run_at};
+use crate::runs::{Ran, THREE_BRANCHES, THREE_TRACK, file_with, run_at};
 use fm_edge::{Gate, MeetGate, Moment};
 use fm_record::{Step, read_step};
 use std::hint::spin_loop;
+use std::process::Abort;
 use std::sync::atomic::{AtomicU64, Ordering};
 use std::test::Fail;
 use std::thread::yield_now;
@@ -33,12 +34,18 @@ fn branches_run_beside_one_another(rt: HostRuntime) -> Result<(), Fail> {
     let alloc = rt.alloc();
     for (text, laps, track) in MEETINGS {
         let gate = MeetGate::new(1, 2, *laps, TURNS);
-        let ran = run_at(&rt, alloc, "a.txt b.mid --workers 4", text, SOUND, &gate)?;
-        let file = file_with(alloc, track, 4)?;
-        check_left(&rt, &ran, (0, b"", file.as_slice()), "a meeting");
+        let ran = run_at(&rt, alloc, "a.txt b.mid --workers 4", text, &[], &gate)?;
+        let file = file_with(alloc, track)?;
+        check_left(&rt, &ran, &file);
         assert_eq!(rt; gate.met(), true);
     }
     Ok(())
+}
+
+// Compares what a run leaves with status 0, an untouched console and this file.
+fn check_left<R: Abort>(rt: &R, ran: &Ran, file: &[u8]) {
+    let left = (ran.status, ran.console.content(), ran.sink.content());
+    assert_eq!(rt; left, (0, b"".as_slice(), file));
 }
 
 /// How many processes are held at a time.
@@ -126,7 +133,7 @@ fn a_record_has_the_seats_the_room_and_the_lead_of_its_run(rt: HostRuntime) -> R
         begun: AtomicU64::new(0),
     };
     let words = "a.txt b.record --record --workers 4";
-    let ran = run_at(&rt, alloc, words, THREE_BRANCHES, SOUND, &gate)?;
+    let ran = run_at(&rt, alloc, words, THREE_BRANCHES, &[], &gate)?;
     let record = ran.sink.content();
     let (highest, computed) = summed(record.get(14 + THREE_BRANCHES.len()..).unwrap_or(&[]));
     assert_eq!(rt; (ran.status, 1 < highest, computed), (0, true, Some(2)));

@@ -1,9 +1,8 @@
 //! Pieces under each way of playing, and their plans.
 
-use super::tasks::MANY_PROCESSES;
-use super::{CAPACITY, FILES, NOTE, SOUND, THREE_BRANCHES, repeated, run_on, sum_of};
+use crate::runs::{CAPACITY, FILES, Failing, NOTE, THREE_BRANCHES, run_at, sum_of};
 use fm_check::{Checked, check_outline};
-use fm_edge::MemorySink;
+use fm_edge::{MemorySink, OpenGate};
 use fm_lex::MAX_TEXT;
 use fm_parse::parse;
 use fm_plan::plan_outline;
@@ -28,7 +27,7 @@ const FILE_OF_LONGEST: (usize, u32) = (28_706, 1389874708);
 const FILE_OF_BRANCHES: (usize, u32) = (60, 1880084997);
 
 /// Four voices of 200 bars.
-pub const PIECE: &[u8] = b"formula 1;
+const PIECE: &[u8] = b"formula 1;
 seed 42;
 shape rubato = slope 100/1 by 1000 to 1100, breath 1/8,
                slope 100/1 by 1100 to 1000;
@@ -87,10 +86,10 @@ fn check_sum<R: Abort + Threads + Wait + Sync>(
     rt: &R,
     alloc: Global,
     (words, text): (&str, &[u8]),
-    writes: &[(u64, u32)],
+    writes: Failing<'_>,
     wanted: Measured,
 ) -> Result<(), AllocError> {
-    let ran = run_on(rt, alloc, words, text, (&[], writes, &[]))?;
+    let ran = run_at(rt, alloc, words, text, writes, &OpenGate)?;
     let file = ran.sink.content();
     assert_eq!(rt;
         (ran.status, (file.len(), sum_of(file))),
@@ -107,7 +106,8 @@ fn check_branches<R: Abort + Threads + Wait + Sync>(
     workers: &str,
     queues: &str,
 ) -> Result<(), AllocError> {
-    let words = repeated(alloc, (workers, ""), queues, 1)?;
+    let mut words = String::from_str(alloc, workers)?;
+    words.push_str(queues)?;
     let run = (words.as_str(), THREE_BRANCHES);
     check_sum(rt, alloc, run, &[], (0, FILE_OF_BRANCHES))
 }
@@ -139,6 +139,9 @@ fn a_length_of_which_three_bytes_are_written(rt: HostRuntime) -> Result<(), Fail
     check_sum(&rt, alloc, run, &[(4_099, 3)], (4, FILE_OF_LONGEST))?;
     Ok(())
 }
+
+/// Many processes without an event.
+const MANY_PROCESSES: &[u8] = b"formula 1; repeat 1365 { par { branch { } branch { } } }";
 
 /// Texts, and of their plans how many processes there are, how many events are played, the tick of
 /// the end and the bytes of the file.
@@ -194,7 +197,7 @@ fn check_plans<R: Abort + Threads + Wait + Sync>(
     text: &[u8],
     totals: Totals,
 ) -> Result<(), Fail> {
-    let ran = run_on(rt, alloc, FILES, text, SOUND)?;
+    let ran = run_at(rt, alloc, FILES, text, &[], &OpenGate)?;
     let file = ran.sink.content();
     check_plan(rt, alloc, plan_of(alloc, text)?, totals, file)?;
     check_plan(rt, alloc, copy_of(alloc, text)?, totals, file)?;

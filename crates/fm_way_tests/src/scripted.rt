@@ -1,8 +1,7 @@
 //! Small scores played by a conductor and one worker, whose time slices begin in the order that a
 //! script says.
-use super::{CAPACITY, sum_of, words_of};
-use fm_edge::{Gate, MemorySink, Moment, SureSource};
-use fm_top::formula;
+use crate::runs::{run_at, sum_of};
+use fm_edge::{Gate, Moment};
 use std::alloc::{AllocError, Global};
 use std::hint::spin_loop;
 use std::process::Abort;
@@ -175,25 +174,13 @@ fn play_by<R: Abort + Threads + Wait + Sync>(
     text: &str,
     script: &'static [u32],
 ) -> Result<(usize, u32), AllocError> {
-    let words = words_of(alloc, words)?;
-    let mut source = SureSource::new(text.as_bytes().to_vec(alloc)?);
-    let mut sink = MemorySink::new(alloc, CAPACITY, Vec::new(alloc))?;
-    let mut console = MemorySink::new(alloc, CAPACITY, Vec::new(alloc))?;
     let gate = ScriptedGate {
         script,
         begun: AtomicU64::new(0),
     };
-    let status = formula(
-        rt,
-        alloc,
-        &words,
-        &mut source,
-        &mut sink,
-        &mut console,
-        &gate,
-    );
-    assert_eq!(rt; status, 0, "at {text}");
-    Ok((sink.content().len(), sum_of(sink.content())))
+    let ran = run_at(rt, alloc, words, text.as_bytes(), &[], &gate)?;
+    assert_eq!(rt; ran.status, 0, "at {text}");
+    Ok((ran.sink.content().len(), sum_of(ran.sink.content())))
 }
 
 #[test]

@@ -1,0 +1,14 @@
+//! Tests of the ways of playing of the command, `fm_top`: threads, rounds and scripts.
+//!
+//! They use public calls alone, and stand above the crate that they test, so that its code is not
+//! proved once more for them. There is nothing else here.
+#![tactic(auto)]
+
+#[cfg(test)]
+mod meets;
+#[cfg(test)]
+mod runs;
+#[cfg(test)]
+mod scripted;
+#[cfg(test)]
+mod ways;
