@@ -1,5 +1,6 @@
 //! How a seat finds the word of a process without a look, and where the process ended.
 ghost use Rattle.std.specs.Prelude.{◌≡◌, ◌<◌, false, length, slice_index_or, true};
+ghost use Rattle.fm_core.specs.Tags.{is_ended};
 ghost use Rattle.fm_strand.specs.Course.{end_place};
 ghost use Rattle.fm_board.specs.Answers.{Found};
 ghost use Rattle.fm_board.specs.Minds.{recalled};
@@ -48,6 +49,10 @@ impl Board {
         ensures found { Found seat.old process result seat.old.mind.view
             (recalled seat.old.mind process seat.new.mind.log.seen result.tag) seat.new }
         ensures wide { length seat.old.mind.over ≡ processes seat.old.mind.view }
+        ensures ours { IsOurs self.now.table.shared.table_id self.now.about seat.new }
+        ensures there { process < processes seat.new.mind.view }
+        ensures ended { is_ended result.tag ≡ true
+            → slice_index_or seat.new.mind.over process false ≡ true }
     {
         let found = seat
             .token

@@ -5,12 +5,11 @@ ghost use Rattle.fm_crew.specs.Conduct.{Attends, Stays};
 ghost use Rattle.fm_crew.specs.Onward.{Grows};
 ghost use Rattle.fm_crew.specs.Visiting.{Visited};
 
-use crate::bell::Bell;
 use crate::conductor::Conductor;
-use crate::idle::Idle;
 use crate::limits::Pass;
 use crate::pass::attend;
 use fm_edge::Gate;
+use fm_rest::{Bell, Idle};
 use fm_taping::Calls;
 use std::sync::Wait;
 

@@ -1,8 +1,9 @@
-use Rattle.std.proofs.Common.{ap}
+use Rattle.std.proofs.Common.{ap, arith, ◌∙◌, sym}
 use Rattle.fm_board.specs.Seats.{SeatState}
 use Rattle.fm_board.specs.declared.view.Mind.{Mind}
 use Rattle.fm_board.specs.declared.view.View.{View}
 use Rattle.fm_board.specs.Minds.{recalled}
+use Rattle.fm_board.proofs.Findings.{marked_now, ours_seen, seen_found, there_seen}
 use Rattle.fm_board.proofs.Steps.{found_as, recalls_at, stays_tidy, widths}
 use Rattle.fm_board.proofs.board.Board.peek.Goals as goal
 
@@ -35,3 +36,19 @@ pub returns-clause-wide : goal.returns-clause-wide
 returns-clause-wide c =
     widths c.seat.inside.token.me.0 c.args.seat.now (ap (λ (x : SeatState). x.mind) c.seat.view_is)
     (c.load-found.ensures.told c.args.process c.index_of.ensures).wide
+
+pub returns-clause-ours : goal.returns-clause-ours
+returns-clause-ours c =
+    ours_seen _ _ c.args.seat.now _ c.requires.ours
+    (seen_found c.args.seat.now _ c.args.process c.seen_of.result _ (returns-clause-found c))
+
+pub returns-clause-there : goal.returns-clause-there
+returns-clause-there c =
+    there_seen c.args.seat.now _ c.args.process c.requires.there
+    (seen_found c.args.seat.now _ c.args.process c.seen_of.result _ (returns-clause-found c))
+
+pub returns-clause-ended : goal.returns-clause-ended
+returns-clause-ended c ended =
+    let wide = returns-clause-wide c in
+    let there = c.requires.there in
+    marked_now c.args.seat.now _ c.args.process c.seen_of.result _ (returns-clause-found c) ended (omega (arith, wide, there))
