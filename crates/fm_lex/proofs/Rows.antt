@@ -1,6 +1,6 @@
 -- Texts and their tokens, by computing.
 use Rattle.std.proofs.Common.{◌≡◌, ℕ, List, [], ◌∷◌, ◌++◌, Ok, Err, map, refl}
-use Rattle.std.specs.Prelude.{codes, true, false}
+use Rattle.std.specs.Prelude.{codes, true, false, Some, None}
 use Rattle.std.specs.Fmt.{digits}
 use Rattle.fm_lex.specs.declared.kind.Kind.{Kind}
 use Rattle.fm_lex.specs.declared.kind.Kind.TheVariants.{Name, Number, Pitch, Register, Index, Symbol, End}
@@ -9,13 +9,29 @@ use Rattle.fm_lex.specs.declared.keyword.Keyword.TheVariants.{Formula, Note, Key
 use Rattle.fm_lex.specs.declared.token.LexFault.{LexFault}
 use Rattle.fm_lex.specs.declared.token.LexFault.TheVariants.{BadByte, BadNumber}
 use Rattle.fm_lex.specs.Bytes.{is_digit, is_letter, decimal, spot_text}
-use Rattle.fm_lex.specs.Words.{spelling, keywords}
+use Rattle.fm_lex.specs.Words.{spelling, keywords, register_of, index_of, pitch_of}
 use Rattle.fm_lex.specs.Tokens.{Lexed, tokens, walk}
 
 -- digits and letters, and the bytes beside them
 digits_and_letters : map is_digit (47 ∷ 48 ∷ 57 ∷ 58 ∷ []) ++ map is_letter (96 ∷ 97 ∷ 122 ∷ 123 ∷ [])
     ≡ false ∷ true ∷ true ∷ false ∷ false ∷ true ∷ true ∷ false ∷ []
 digits_and_letters = refl
+
+-- registers and indices at both ends of their ranges
+registers : map register_of (codes "r0" ∷ codes "r7" ∷ codes "r8" ∷ codes "r/" ∷ codes "n0" ∷ [])
+    ≡ Some 0 ∷ Some 7 ∷ None ∷ None ∷ None ∷ []
+registers = refl
+
+indices : map index_of (codes "n0" ∷ codes "n9" ∷ codes "n10" ∷ codes "n15" ∷ codes "n16" ∷ codes "n1/" ∷ codes "n20"
+    ∷ codes "r1" ∷ codes "m12" ∷ codes "nn" ∷ [])
+    ≡ Some 0 ∷ Some 9 ∷ Some 10 ∷ Some 15 ∷ None ∷ None ∷ None ∷ None ∷ None ∷ None ∷ []
+indices = refl
+
+-- a pitch of each letter, and words that are none
+letters : map pitch_of (codes "c0" ∷ codes "d1" ∷ codes "e2" ∷ codes "f3" ∷ codes "g4" ∷ codes "a5" ∷ codes "b6" ∷ codes "cs4"
+    ∷ codes "cb4" ∷ codes "cx4" ∷ codes "h4" ∷ codes "c/" ∷ codes "cc" ∷ [])
+    ≡ Some 12 ∷ Some 26 ∷ Some 40 ∷ Some 53 ∷ Some 67 ∷ Some 81 ∷ Some 95 ∷ Some 61 ∷ Some 59 ∷ None ∷ None ∷ None ∷ None ∷ []
+letters = refl
 
 -- decimal digits
 number_of_four_digits : map decimal (codes "1024" ∷ codes "007" ∷ codes "999999999" ∷ []) ≡ 1024 ∷ 7 ∷ 999999999 ∷ []
