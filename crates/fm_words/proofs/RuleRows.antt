@@ -2,7 +2,7 @@
 -- A `|` stands between two words.
 use Rattle.std.proofs.Common.{◌≡◌, [], ◌∷◌, Some, None, true, false, refl, codes, map, replicate}
 use Rattle.fm_words.specs.Asked.{flagged, numbered, options, settings_by_rules}
-use Rattle.fm_words.specs.Rules.{file, flag, is_table, keeps_rules, number_within, parts_after, parts_of, stray, unvalued, valued}
+use Rattle.fm_words.specs.Rules.{behind_hyphens, file, flag, has_flag_named, is_digit, is_table, keeps_rules, number_within, parts_after, parts_of, stray, unvalued, valued}
 use Rattle.fm_words.proofs.Rows.{asked, words_in}
 
 -- two options of one name, and an option with the name of a file
@@ -11,6 +11,19 @@ no_tables : map is_table (
     (flagged (codes "IN") ∷ []) ∷ [])
     ≡ replicate 2 false
 no_tables = refl
+
+-- two hyphens and more, or no option
+hyphens : map behind_hyphens (codes "--a" ∷ codes "-ab" ∷ codes "a-b" ∷ codes "--" ∷ []) ≡ Some (codes "a") ∷ None ∷ None ∷ None ∷ []
+hyphens = refl
+
+-- digits, and the bytes beside them
+digits : map is_digit (47 ∷ 48 ∷ 57 ∷ 58 ∷ []) ≡ false ∷ true ∷ true ∷ false ∷ []
+digits = refl
+
+-- a flag behind another one
+flags : map (λ name. has_flag_named name (flag (codes "rounds") ∷ flag (codes "list") ∷ []))
+    (codes "rounds" ∷ codes "list" ∷ codes "parts" ∷ []) ≡ true ∷ true ∷ false ∷ []
+flags = refl
 
 some_parts : map (λ line. parts_of options (words_in line)) (
     codes "a|--from|5|b|--list" ∷
