@@ -73,6 +73,8 @@ class Build(unittest.TestCase):
             while crate not in self.names("begun") and time.monotonic() < until:
                 time.sleep(0.01)
             build.send_signal(number)
+            # as the script does that ran the build, and was interrupted with it
+            build.send_signal(signal.SIGTERM)
             self.assertEqual(build.wait(60), -number if number == signal.SIGKILL else 128 + number)
 
     def test_an_interrupted_build_continues(self) -> None:

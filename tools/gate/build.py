@@ -45,6 +45,9 @@ MEMORY = 3_000_000
 #: The status of an rt whose check was killed, most likely for memory.
 KILLED = 256 - signal.SIGKILL
 
+#: The signals that end a build in good order.
+SIGNALS = signal.SIGINT, signal.SIGTERM, signal.SIGHUP
+
 #: The commands of the toolchain, as the first words of a process name them.
 TOOLCHAIN = {b"rt", b"rattle"}
 
@@ -261,10 +264,13 @@ def main() -> int:
     uses, checks = uses_of_crates(), Checks()
 
     def stopped(number: int, _: object) -> NoReturn:
+        # a second signal, as from a script that was interrupted too, may not stop what moves the work back
+        for each in SIGNALS:
+            signal.signal(each, signal.SIG_IGN)
         checks.stop()
         sys.exit(128 + number)
 
-    for number in (signal.SIGINT, signal.SIGTERM, signal.SIGHUP):
+    for number in SIGNALS:
         signal.signal(number, stopped)
     # As rt does: until the crates are proved no other rt works in their folders.
     held = [os.open(f"{TOP}/crates/{name}", os.O_RDONLY) for name in sorted(uses)]
