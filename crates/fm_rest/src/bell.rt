@@ -1,4 +1,7 @@
 //! How a thread rests, and how all that rest are woken at the end of a run.
+ghost use Rattle.std.specs.Prelude.{◌≤◌};
+ghost use Rattle.fm_rest.specs.declared.idle.TheConstants.{LONGEST_REST};
+
 use std::marker::{Send, Sync};
 use std::sync::Wait;
 use std::sync::atomic::{AtomicU64, Ordering};
@@ -24,8 +27,11 @@ impl Bell {
         }
     }
 
-    /// Sleeps for so many microseconds at most. Once the bell is rung it returns at once.
-    pub fn rest<R: Wait>(&self, rt: &R, microseconds: u64) {
+    /// Sleeps for so many microseconds at most, and for 20 milliseconds at most. Once the bell is
+    /// rung it returns at once.
+    pub fn rest<R: Wait>(&self, rt: &R, microseconds: u64)
+        requires { microseconds ≤ LONGEST_REST }
+    {
         self.word
             .park_timeout(rt, SILENT, Duration::from_micros(microseconds));
     }

@@ -2,7 +2,7 @@
 use Rattle.std.proofs.Common.{◌≡◌, ◌⊎◌, ℕ, suc, ◌+◌, ◌*◌, ◌<◌, ◌≤◌, List, [], ◌∷◌, ◌++◌, length, map, sym, ap, ◌∙◌, subst, inl, inr, arith, length-append}
 use Rattle.std.proofs.lemmas.Bool.{cases_lt}
 use Rattle.fm_round.specs.declared.lane.Lane.{Lane}
-use Rattle.fm_round.specs.Rounds.{AreFresh}
+use Rattle.fm_round.specs.Rounds.{AreFresh, first_room}
 use Rattle.fm_round.specs.Lanes.{IsFresh, room_of, room_sum, lane}
 use Rattle.fm_round.proofs.Running.{lane-left, lane-right}
 
@@ -34,3 +34,14 @@ sum_fresh room (s ∷ ss) fresh =
 -- their room together
 pub room_sum-fresh : {n : ℕ} (room : ℕ) (ss : List Lane) → AreFresh n room ss → room_sum (map room_of ss) ≡ room * n
 room_sum-fresh room ss are = sum_fresh room ss are.fresh ∙ ap (λ k. room * k) are.count
+
+-- where there are some, the first one has their room
+pub first_fresh : (n room : ℕ) (ss : List Lane) → AreFresh n room ss → 0 < n → first_room ss ≡ room
+first_fresh n room ss are some =
+    let many = are.count in (are.fresh 0 (omega (arith, many, some))).room
+
+-- and each of them has that of the first
+pub fresh_as_first : (n room : ℕ) (ss : List Lane) → AreFresh n room ss → 0 < n → (k : ℕ) → k < length ss
+    → IsFresh (first_room ss) (lane ss k)
+fresh_as_first n room ss are some k within =
+    subst (λ (r : ℕ). IsFresh r (lane ss k)) (sym (first_fresh n room ss are some)) (are.fresh k within)

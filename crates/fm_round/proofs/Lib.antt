@@ -17,4 +17,5 @@ pub mod Passing
 pub mod Listing
 pub mod Following
 pub mod Watched
+pub mod Turning
 mod Numerals

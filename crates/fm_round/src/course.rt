@@ -5,8 +5,8 @@ ghost use Rattle.fm_line.specs.Piece.{piece};
 ghost use Rattle.fm_program.specs.Process.{plan_lines};
 ghost use Rattle.fm_smf.specs.Track.{events_bytes};
 ghost use Rattle.fm_smf.specs.Writing.{Writes, just_begun};
-ghost use Rattle.fm_round.specs.Hands.{AreHands, MayRun};
-ghost use Rattle.fm_round.specs.Rounds.{AreOpened};
+ghost use Rattle.fm_round.specs.Hands.{AreHands, CanRound};
+ghost use Rattle.fm_round.specs.Rounds.{AreOpened, first_room};
 ghost use Rattle.fm_round.specs.Lanes.{AllAtEnd, RunsAll};
 
 use crate::begin::{begin_first, begin_next};
@@ -18,8 +18,8 @@ use fm_edge::Sink;
 use fm_smf::{SinkFault, Writer};
 use fm_strand::Plan;
 
-/// Plays all rounds, whoever runs them: a call of `hands` gives each process one quantum, up to a
-/// limit. Says how many events these are.
+/// Plays all rounds, whoever runs them: a call of `hands` gives each process one quantum, up to the
+/// least clock plus the lead. Says how many events these are.
 pub fn play_rounds<H: Fn(&Plan, u64, &[u32], &mut [Lane]), K: Sink>(
     hands: &H,
     plan: &Plan,
@@ -28,7 +28,7 @@ pub fn play_rounds<H: Fn(&Plan, u64, &[u32], &mut [Lane]), K: Sink>(
     writer: &mut Writer,
     sink: &mut K,
 ) -> Result<u64, SinkFault>
-    requires hands { AreHands H.Fn hands.now }
+    requires hands { AreHands H.Fn (first_room lanes.old) stage.old.lead hands.now }
     requires opened { AreOpened plan.now stage.old lanes.old }
     requires begun { writer.old ≡ just_begun plan.now.profile }
     requires at_end { IfSome (K.seen.content sink.old) (λ c. length c ≡ writer.old.put) }
@@ -61,8 +61,7 @@ fn run_round<H: Fn(&Plan, u64, &[u32], &mut [Lane])>(
     next: &[u32],
     lanes: &mut [Lane],
 )
-    requires hands { AreHands H.Fn hands.now }
-    requires may { MayRun plan.now next.now lanes.old }
+    requires { CanRound H.Fn hands.now plan.now limit next.now lanes.old }
     ensures { RunsAll plan.now limit lanes.old lanes.new }
 {
     hands(plan, limit, next, lanes);

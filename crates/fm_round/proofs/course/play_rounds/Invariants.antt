@@ -1,12 +1,14 @@
-use Rattle.fm_round.specs.Rounds.{Between}
+use Rattle.std.proofs.Common.{◌≡◌}
+use Rattle.fm_round.specs.Rounds.{Between, first_room}
 use Rattle.fm_round.specs.Lanes.{loads}
 use Rattle.fm_round.specs.Watching.{Watched}
 use Rattle.fm_round.proofs.course.play_rounds.Given as goal
 
 abbrev pub invariant-loop-next : goal.invariant-loop-next
 invariant-loop-next g l = record {
-  between : Between g.K.Append.seen l.plan l.fn.sink l.sink l.fn.writer l.writer l.lanes l.stage.gather l.events;
+  between : Between g.K.Append.seen l.plan (first_room l.fn.lanes) l.fn.sink l.sink l.fn.writer l.writer l.lanes l.stage.gather l.events;
   watched : Watched l.plan l.stage.watch l.lanes;
+  lead : l.stage.lead ≡ l.fn.stage.lead;
 }
 
 -- a round makes a step, or ends a process

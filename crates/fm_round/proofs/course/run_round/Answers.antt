@@ -1,7 +1,7 @@
 use Rattle.fm_round.proofs.course.run_round.Goals as goal
 
 pub hands-requires : goal.hands-requires
-hands-requires g c = c.requires.hands.may _ _ _ _ c.requires.may
+hands-requires g c = c.requires.are.may _ _ _ _ c.requires.round
 
 pub returns : goal.returns
-returns g c = c.requires.hands.run _ _ _ _ _ c.hands.ensures
+returns g c = c.requires.are.run _ _ _ _ _ c.hands.ensures

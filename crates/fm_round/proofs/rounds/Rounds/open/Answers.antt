@@ -1,19 +1,22 @@
-use Rattle.std.proofs.Common.{◌∙◌, ap, arith}
+use Rattle.std.proofs.Common.{◌<◌, ◌∙◌, ap, arith}
 use Rattle.fm_buffer.specs.Gather.{EventGather}
-use Rattle.fm_round.proofs.Freshness.{room_sum-fresh}
+use Rattle.fm_round.proofs.Freshness.{first_fresh, fresh_as_first, room_sum-fresh}
 use Rattle.fm_round.proofs.Watched.{watched_fresh}
 use Rattle.fm_round.proofs.rounds.Rounds.open.Goals as goal
 
 pub invariant_of-result : goal.invariant_of-result
 invariant_of-result c =
     let lanes = c.in_ok-lanes.ensures in
-    let gather = c.in_ok-gather.ensures in record {
-      room = c.args.room;
+    let gather = c.in_ok-gather.ensures in
+    let value = c.processes-processes.ensures.value in
+    let there = c.processes-processes.ensures.fits.some in
+    let some : 0 < c.processes-processes.result = omega (arith, value, there) in
+    let first = first_fresh c.processes-processes.result c.args.room c.in_ok-lanes.lanes.items lanes some in record {
       opened = record {
         fits = c.processes-processes.ensures.fits;
-        some = omega arith;
-        count = lanes.count ∙ c.processes-processes.ensures.value;
-        fresh = lanes.fresh;
+        some = let least = c.requires.room.0 in omega (arith, first, least);
+        count = lanes.count ∙ value;
+        fresh = fresh_as_first c.processes-processes.result c.args.room c.in_ok-lanes.lanes.items lanes some;
         empty = ap (λ (g : EventGather). g.events) gather;
         space =
             let sums = room_sum-fresh c.args.room _ lanes in
