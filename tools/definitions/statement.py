@@ -23,6 +23,7 @@ SUBJECTS = {
     "the large scores": ("fm_gen",),
     "the outside": ("fm_edge",),
     "the file": ("fm_smf",),
+    "the text and its file": ("fm_spelling",),
     "files that are read": ("fm_read", "fm_parts", "fm_excerpt", "fm_listing"),
     "plans and their runs": ("fm_program", "fm_player", "fm_strand", "fm_play", "fm_expansion"),
     "the scheduling core and its records": ("fm_core", "fm_record", "fm_audit"),

@@ -1,0 +1,5 @@
+pub mod FromForms
+pub mod ToForms
+pub mod ToScores
+pub mod Files
+mod FileRows
