@@ -1,5 +1,5 @@
-//! The calls of a board that are steps of the core, with a recorder beside it. Each does what the
-//! board's call does, whatever becomes of the tape.
+//! The calls of a board that are steps of the core, made by a recorder. Each does what the board's
+//! call does, whatever becomes of the tape.
 ghost use Rattle.std.specs.Prelude.{◌≡◌, ◌&&◌, ◌<◌, ℕ, length, None, Option, Some, IfSome, if◌then◌else◌, nat_eq, slice_index_or, true};
 ghost use Rattle.fm_core.specs.Floors.{floor_eq, floor_of};
 ghost use Rattle.fm_core.specs.Sweep.{least};
@@ -29,158 +29,160 @@ use fm_buffer::Gather;
 use fm_core::{Floor, MAX_SEATS, Step};
 use fm_record::Tape;
 
-/// A look. Of seat 0 it is kept where it changes what the core keeps; of a worker it never is.
-#[tactic(auto, using(crate::proofs::Tapes::small_process))]
-pub fn look(board: &Board, recorder: &mut Recorder, seat: &mut BoardSeat, process: u32) -> Seen
-    requires ours { IsOurs board.now.table.shared.table_id board.now.about seat.old }
-    requires turn { InTurn seat.old.mind.view process }
-    ensures found { Looks seat.old process result seat.new }
-    ensures kept { Keeps recorder.old.tape
-        (look_step seat.old.mind.view.number recorder.old.known.look process result)
-        recorder.new.tape }
-{
-    let number = seat.number();
-    let seen = board.look(seat, process);
-    let step = step_of_look(number, &mut recorder.known, process, &seen);
-    keep(&mut recorder.tape, step);
-    seen
-}
+impl Recorder {
+    /// A look. Of seat 0 it is kept where it changes what the core keeps; of a worker it never is.
+    #[tactic(auto, using(crate::proofs::Tapes::small_process))]
+    pub fn look(&mut self, board: &Board, seat: &mut BoardSeat, process: u32) -> Seen
+        requires ours { IsOurs board.now.table.shared.table_id board.now.about seat.old }
+        requires turn { InTurn seat.old.mind.view process }
+        ensures found { Looks seat.old process result seat.new }
+        ensures kept { Keeps self.old.tape
+            (look_step seat.old.mind.view.number self.old.known.look process result)
+            self.new.tape }
+    {
+        let number = seat.number();
+        let seen = board.look(seat, process);
+        let step = step_of_look(number, &mut self.known, process, &seen);
+        keep(&mut self.tape, step);
+        seen
+    }
 
-/// A pace. It is kept where it finds another floor than the seat found before.
-pub fn pace(board: &Board, recorder: &mut Recorder, seat: &mut BoardSeat) -> Floor
-    requires ours { IsOurs board.now.table.shared.table_id board.now.about seat.old }
-    ensures paced { seat.new ≡ making seat.old (step.Pace seat.old.mind.view.number)
-        (record seat.old.mind.view { paced = result }) seat.new.mind.log.seen }
-    ensures own { seat.old.mind.view.number ≡ 0 → result ≡ seat.old.mind.view.published }
-    ensures kept { seat.old.mind.view.number < MAX_SEATS → Keeps recorder.old.tape
-        (pace_step seat.old.mind.view.number
-        (slice_index_or recorder.old.known.floors seat.old.mind.view.number (At 0)) result)
-        recorder.new.tape }
-{
-    let number = number_of(seat);
-    let floor = board.pace(seat);
-    let before = recorder.known.note_pace(number, floor);
-    let step = step_of_pace(number, before, floor);
-    keep(&mut recorder.tape, step);
-    floor
-}
+    /// A pace. It is kept where it finds another floor than the seat found before.
+    pub fn pace(&mut self, board: &Board, seat: &mut BoardSeat) -> Floor
+        requires ours { IsOurs board.now.table.shared.table_id board.now.about seat.old }
+        ensures paced { seat.new ≡ making seat.old (step.Pace seat.old.mind.view.number)
+            (record seat.old.mind.view { paced = result }) seat.new.mind.log.seen }
+        ensures own { seat.old.mind.view.number ≡ 0 → result ≡ seat.old.mind.view.published }
+        ensures kept { seat.old.mind.view.number < MAX_SEATS → Keeps self.old.tape
+            (pace_step seat.old.mind.view.number
+            (slice_index_or self.old.known.floors seat.old.mind.view.number (At 0)) result)
+            self.new.tape }
+    {
+        let number = kept_number(seat);
+        let floor = board.pace(seat);
+        let before = self.known.note_pace(number, floor);
+        let step = step_of_pace(number, before, floor);
+        keep(&mut self.tape, step);
+        floor
+    }
 
-/// A claim. It is kept where it takes the process.
-#[tactic(auto, using(crate::proofs::Tapes::small_process))]
-pub fn claim(
-    board: &Board,
-    recorder: &mut Recorder,
-    seat: &mut BoardSeat,
-    process: u32,
-    expected: &Seen,
-) -> Claim
-    requires ours { IsOurs board.now.table.shared.table_id board.now.about seat.old }
-    requires there { process < processes seat.old.mind.view }
-    requires idle { seat.old.mind.view.holds ≡ None }
-    requires tag { is_claimable seat.old.mind.view.number expected.now.tag ≡ true }
-    ensures claims { Claims board.now.about seat.old process expected.now result seat.new }
-    ensures kept { seat.old.mind.view.number < MAX_SEATS
-        → Keeps recorder.old.tape (claim_step seat.old.mind.view.number process result)
-        recorder.new.tape }
-{
-    let number = number_of(seat);
-    let claim = board.claim(seat, process, expected);
-    let step = step_of_claim(number, process, &claim);
-    keep(&mut recorder.tape, step);
-    claim
-}
+    /// A claim. It is kept where it takes the process.
+    #[tactic(auto, using(crate::proofs::Tapes::small_process))]
+    pub fn claim(
+        &mut self,
+        board: &Board,
+        seat: &mut BoardSeat,
+        process: u32,
+        expected: &Seen,
+    ) -> Claim
+        requires ours { IsOurs board.now.table.shared.table_id board.now.about seat.old }
+        requires there { process < processes seat.old.mind.view }
+        requires idle { seat.old.mind.view.holds ≡ None }
+        requires tag { is_claimable seat.old.mind.view.number expected.now.tag ≡ true }
+        ensures claims { Claims board.now.about seat.old process expected.now result seat.new }
+        ensures kept { seat.old.mind.view.number < MAX_SEATS
+            → Keeps self.old.tape (claim_step seat.old.mind.view.number process result)
+            self.new.tape }
+    {
+        let number = kept_number(seat);
+        let claim = board.claim(seat, process, expected);
+        let step = step_of_claim(number, process, &claim);
+        keep(&mut self.tape, step);
+        claim
+    }
 
-/// A start. It is kept where it takes the process.
-#[tactic(auto, using(crate::proofs::Tapes::small_process))]
-pub fn start(board: &Board, recorder: &mut Recorder, seat: &mut BoardSeat, process: u32) -> Started
-    requires ours { IsOurs board.now.table.shared.table_id board.now.about seat.old }
-    requires there { process < processes seat.old.mind.view }
-    requires idle { seat.old.mind.view.holds ≡ None }
-    ensures starts { Starts board.now.about seat.old process result seat.new }
-    ensures kept { seat.old.mind.view.number < MAX_SEATS
-        → Keeps recorder.old.tape (start_step seat.old.mind.view.number process result)
-        recorder.new.tape }
-{
-    let number = number_of(seat);
-    let started = board.start(seat, process);
-    let step = step_of_start(number, process, &started);
-    keep(&mut recorder.tape, step);
-    started
-}
+    /// A start. It is kept where it takes the process.
+    #[tactic(auto, using(crate::proofs::Tapes::small_process))]
+    pub fn start(&mut self, board: &Board, seat: &mut BoardSeat, process: u32) -> Started
+        requires ours { IsOurs board.now.table.shared.table_id board.now.about seat.old }
+        requires there { process < processes seat.old.mind.view }
+        requires idle { seat.old.mind.view.holds ≡ None }
+        ensures starts { Starts board.now.about seat.old process result seat.new }
+        ensures kept { seat.old.mind.view.number < MAX_SEATS
+            → Keeps self.old.tape (start_step seat.old.mind.view.number process result)
+            self.new.tape }
+    {
+        let number = kept_number(seat);
+        let started = board.start(seat, process);
+        let step = step_of_start(number, process, &started);
+        keep(&mut self.tape, step);
+        started
+    }
 
-/// A record, which is always kept.
-#[tactic(auto, using(crate::proofs::Tapes::small_recorded))]
-pub fn record(board: &Board, recorder: &mut Recorder, seat: &mut BoardSeat, berth: &Berth)
-    requires ours { IsOurs board.now.table.shared.table_id board.now.about seat.old }
-    requires may { MayRecord board.now.about seat.old.mind.view
-        berth.now.process berth.now.strand }
-    ensures seat { seat.new ≡ making seat.old
-        (step.Record seat.old.mind.view.number berth.now.process) (noted seat.old.mind.view)
-        seat.new.mind.log.seen }
-    ensures kept { seat.old.mind.view.number < MAX_SEATS → Keeps recorder.old.tape
-        (Some (step.Record seat.old.mind.view.number berth.now.process)) recorder.new.tape }
-{
-    let step = Step::Record {
-        seat: number_of(seat),
-        process: berth.process,
-    };
-    board.record(seat, berth);
-    keep(&mut recorder.tape, Some(step));
-}
+    /// A record, which is always kept.
+    #[tactic(auto, using(crate::proofs::Tapes::small_recorded))]
+    pub fn record(&mut self, board: &Board, seat: &mut BoardSeat, berth: &Berth)
+        requires ours { IsOurs board.now.table.shared.table_id board.now.about seat.old }
+        requires may { MayRecord board.now.about seat.old.mind.view
+            berth.now.process berth.now.strand }
+        ensures seat { seat.new ≡ making seat.old
+            (step.Record seat.old.mind.view.number berth.now.process) (noted seat.old.mind.view)
+            seat.new.mind.log.seen }
+        ensures kept { seat.old.mind.view.number < MAX_SEATS → Keeps self.old.tape
+            (Some (step.Record seat.old.mind.view.number berth.now.process)) self.new.tape }
+    {
+        let step = Step::Record {
+            seat: kept_number(seat),
+            process: berth.process,
+        };
+        board.record(seat, berth);
+        keep(&mut self.tape, Some(step));
+    }
 
-/// A give, which is always kept: just the step that the seat makes.
-pub fn give(board: &Board, recorder: &mut Recorder, seat: &mut BoardSeat, berth: Berth, work: Work)
-    requires ours { IsOurs board.now.table.shared.table_id board.now.about seat.old }
-    requires may { MayComeBack board.now.about seat.old.mind.view
-        berth.process berth.strand berth.outbox }
-    requires told { IsWorkOf seat.old.mind.view (length berth.outbox.events) work }
-    ensures gave { Gave board.now.about seat.old berth seat.new }
-    ensures knows { Knows seat.old.mind seat.new.mind }
-    ensures kept { seat.old.mind.view.number < MAX_SEATS → Keeps recorder.old.tape
-        (Some (giving seat.old.mind.view berth.process (length berth.outbox.events)
-        (clock_of board.now.about.plan berth.strand))) recorder.new.tape }
-{
-    let number = number_of(seat);
-    let clock = berth.strand.clock();
-    let step = step_of_give(number, berth.process, clock, work);
-    board.give(seat, berth);
-    keep(&mut recorder.tape, Some(step));
-}
+    /// A give, which is always kept: just the step that the seat makes.
+    pub fn give(&mut self, board: &Board, seat: &mut BoardSeat, berth: Berth, work: Work)
+        requires ours { IsOurs board.now.table.shared.table_id board.now.about seat.old }
+        requires may { MayComeBack board.now.about seat.old.mind.view
+            berth.process berth.strand berth.outbox }
+        requires told { IsWorkOf seat.old.mind.view (length berth.outbox.events) work }
+        ensures gave { Gave board.now.about seat.old berth seat.new }
+        ensures knows { Knows seat.old.mind seat.new.mind }
+        ensures kept { seat.old.mind.view.number < MAX_SEATS → Keeps self.old.tape
+            (Some (giving seat.old.mind.view berth.process (length berth.outbox.events)
+            (clock_of board.now.about.plan berth.strand))) self.new.tape }
+    {
+        let number = kept_number(seat);
+        let clock = berth.strand.clock();
+        let step = step_of_give(number, berth.process, clock, work);
+        board.give(seat, berth);
+        keep(&mut self.tape, Some(step));
+    }
 
-/// A publish, which is always kept. The next look of seat 0 begins a sweep.
-pub fn publish(board: &Board, recorder: &mut Recorder, seat: &mut BoardSeat, floor: Floor)
-    requires ours { IsOurs board.now.table.shared.table_id board.now.about seat.old }
-    requires conductor { seat.old.mind.view.number ≡ 0 }
-    requires swept { length seat.old.mind.view.sweep ≡ processes seat.old.mind.view }
-    requires settled { seat.old.mind.view.due ≡ Nothing }
-    requires floor { floor ≡ floor_of (least seat.old.mind.view.sweep) }
-    ensures seat { seat.new ≡ making seat.old step.Publish
-        (published seat.old.mind.view floor (due_of (least seat.old.mind.view.sweep)))
-        seat.new.mind.log.seen }
-    ensures kept { Keeps recorder.old.tape (Some step.Publish) recorder.new.tape }
-    ensures begins { recorder.new.known.look ≡ None }
-{
-    board.publish(seat, floor);
-    recorder.known.note_publish();
-    keep(&mut recorder.tape, Some(Step::Publish));
-}
+    /// A publish, which is always kept. The next look of seat 0 begins a sweep.
+    pub fn publish(&mut self, board: &Board, seat: &mut BoardSeat, floor: Floor)
+        requires ours { IsOurs board.now.table.shared.table_id board.now.about seat.old }
+        requires conductor { seat.old.mind.view.number ≡ 0 }
+        requires swept { length seat.old.mind.view.sweep ≡ processes seat.old.mind.view }
+        requires settled { seat.old.mind.view.due ≡ Nothing }
+        requires floor { floor ≡ floor_of (least seat.old.mind.view.sweep) }
+        ensures seat { seat.new ≡ making seat.old step.Publish
+            (published seat.old.mind.view floor (due_of (least seat.old.mind.view.sweep)))
+            seat.new.mind.log.seen }
+        ensures kept { Keeps self.old.tape (Some step.Publish) self.new.tape }
+        ensures begins { self.new.known.look ≡ None }
+    {
+        board.publish(seat, floor);
+        self.known.note_publish();
+        keep(&mut self.tape, Some(Step::Publish));
+    }
 
-/// A release, which is always kept, with how many events it settles.
-pub fn release(board: &Board, recorder: &mut Recorder, seat: &mut BoardSeat, gather: &mut Gather)
-    requires ours { IsOurs board.now.table.shared.table_id board.now.about seat.old }
-    requires may { MayRelease seat.old.mind.view }
-    requires taken { gather.old.events ≡ seat.old.mind.view.gathered }
-    ensures seat { seat.new ≡ making seat.old (step.Release (length gather.new.events))
-        (released seat.old.mind.view (length gather.new.events)) seat.old.mind.log.seen }
-    ensures gather { Releases seat.old.mind.view gather.new.events }
-    ensures many { length gather.new.events ≡ length gather.old.events }
-    ensures capacity { gather.new.capacity ≡ gather.old.capacity }
-    ensures kept { Keeps recorder.old.tape (Some (step.Release (length gather.new.events)))
-        recorder.new.tape }
-{
-    board.release(seat, gather);
-    let count = gather.events().len() as u32;
-    keep(&mut recorder.tape, Some(Step::Release { count }));
+    /// A release, which is always kept, with how many events it settles.
+    pub fn release(&mut self, board: &Board, seat: &mut BoardSeat, gather: &mut Gather)
+        requires ours { IsOurs board.now.table.shared.table_id board.now.about seat.old }
+        requires may { MayRelease seat.old.mind.view }
+        requires taken { gather.old.events ≡ seat.old.mind.view.gathered }
+        ensures seat { seat.new ≡ making seat.old (step.Release (length gather.new.events))
+            (released seat.old.mind.view (length gather.new.events)) seat.old.mind.log.seen }
+        ensures gather { Releases seat.old.mind.view gather.new.events }
+        ensures many { length gather.new.events ≡ length gather.old.events }
+        ensures capacity { gather.new.capacity ≡ gather.old.capacity }
+        ensures kept { Keeps self.old.tape (Some (step.Release (length gather.new.events)))
+            self.new.tape }
+    {
+        board.release(seat, gather);
+        let count = gather.events().len() as u32;
+        keep(&mut self.tape, Some(Step::Release { count }));
+    }
 }
 
 // Puts a step on a tape, if there is one.
@@ -196,8 +198,8 @@ fn keep(tape: &mut Tape, step: Option<Step>)
     }
 }
 
-// The number of a seat, which is below the most seats.
-fn number_of(seat: &BoardSeat) -> u32
+// The number by which the steps of a seat are kept: its own, which is below the most seats.
+fn kept_number(seat: &BoardSeat) -> u32
     ensures number { seat.now.mind.view.number < MAX_SEATS
         → result ≡ seat.now.mind.view.number }
     ensures low { result < MAX_SEATS }

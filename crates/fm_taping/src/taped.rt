@@ -1,6 +1,6 @@
 //! A board whose steps are kept on a tape.
 use crate::recorder::Recorder;
-use crate::{Calls, Work, keeping};
+use crate::{Calls, Work};
 use fm_board::{Berth, Board, BoardSeat, Claim, Seen, Started};
 use fm_buffer::Gather;
 use fm_core::Floor;
@@ -35,42 +35,42 @@ impl<R: Wait> Calls for Taped<'_, R> {
 
     fn look(&self, seat: &mut BoardSeat, process: u32) -> Seen {
         let mut recorder = self.recorder.lock(self.rt);
-        keeping::look(self.board, &mut recorder, seat, process)
+        recorder.look(self.board, seat, process)
     }
 
     fn pace(&self, seat: &mut BoardSeat) -> Floor {
         let mut recorder = self.recorder.lock(self.rt);
-        keeping::pace(self.board, &mut recorder, seat)
+        recorder.pace(self.board, seat)
     }
 
     fn claim(&self, seat: &mut BoardSeat, process: u32, expected: &Seen) -> Claim {
         let mut recorder = self.recorder.lock(self.rt);
-        keeping::claim(self.board, &mut recorder, seat, process, expected)
+        recorder.claim(self.board, seat, process, expected)
     }
 
     fn start(&self, seat: &mut BoardSeat, process: u32) -> Started {
         let mut recorder = self.recorder.lock(self.rt);
-        keeping::start(self.board, &mut recorder, seat, process)
+        recorder.start(self.board, seat, process)
     }
 
     fn record(&self, seat: &mut BoardSeat, berth: &Berth) {
         let mut recorder = self.recorder.lock(self.rt);
-        keeping::record(self.board, &mut recorder, seat, berth);
+        recorder.record(self.board, seat, berth);
     }
 
     fn give(&self, seat: &mut BoardSeat, berth: Berth, work: Work) {
         let mut recorder = self.recorder.lock(self.rt);
-        keeping::give(self.board, &mut recorder, seat, berth, work);
+        recorder.give(self.board, seat, berth, work);
     }
 
     fn publish(&self, seat: &mut BoardSeat, floor: Floor) {
         let mut recorder = self.recorder.lock(self.rt);
-        keeping::publish(self.board, &mut recorder, seat, floor);
+        recorder.publish(self.board, seat, floor);
     }
 
     fn release(&self, seat: &mut BoardSeat, gather: &mut Gather) {
         let mut recorder = self.recorder.lock(self.rt);
-        keeping::release(self.board, &mut recorder, seat, gather);
+        recorder.release(self.board, seat, gather);
     }
 
     fn halt(&self, seat: &mut BoardSeat) {
