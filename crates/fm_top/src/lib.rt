@@ -32,5 +32,8 @@ mod top;
 
 pub use fm_words::{WordsFault, names};
 pub use headline::formula_over;
-pub use laws::{each_input_has_one_verdict, one_text_has_one_file, same_file_for_every_schedule};
+pub use laws::{
+    each_input_has_one_verdict, one_text_has_one_file, same_file_for_every_schedule,
+    words_that_play,
+};
 pub use top::formula;
