@@ -40,8 +40,19 @@ all_shared : AllByRecursion IsShared play_options
 all_shared =
     let shared : (c : Choice) → choice_of options c.name ≡ Some c → among c.name other_flags ≡ false
     → among c.name other_numbers ≡ false → IsShared c =
-    λ c p q r. record { found = p; flag = q; number = r } in
-    (shared _ refl refl refl, (shared _ refl refl refl, (shared _ refl refl refl, (shared _ refl refl refl, (shared _ refl refl refl, tt)))))
+    λ c p q r. record { found = p; flag = q; number = r } in (
+      shared _ refl refl refl,
+      (
+        shared _ refl refl refl,
+        (
+          shared _ refl refl refl,
+          (
+            shared _ refl refl refl,
+            (shared _ refl refl refl, tt),
+          ),
+        ),
+      ),
+    )
 
 -- an option of the whole table is one of playing, or another
 data IsOne (c : Choice) : Type 0 where
@@ -50,7 +61,43 @@ data IsOne (c : Choice) : Type 0 where
   a_number : (low high : ℕ) → c.takes ≡ number low high → among c.name other_numbers ≡ true → IsOne c
 
 all_ones : AllByRecursion IsOne options
-all_ones = (ours refl, (ours refl, (ours refl, (a_number _ _ refl refl, (ours refl, (a_flag refl refl, (a_flag refl refl, (a_number _ _ refl refl, (ours refl, (a_number _ _ refl refl, (a_number _ _ refl refl, (a_flag refl refl, (a_flag refl refl, tt)))))))))))))
+all_ones = (
+  ours refl,
+  (
+    ours refl,
+    (
+      ours refl,
+      (
+        a_number _ _ refl refl,
+        (
+          ours refl,
+          (
+            a_flag refl refl,
+            (
+              a_flag refl refl,
+              (
+                a_number _ _ refl refl,
+                (
+                  ours refl,
+                  (
+                    a_number _ _ refl refl,
+                    (
+                      a_number _ _ refl refl,
+                      (
+                        a_flag refl refl,
+                        (a_flag refl refl, tt),
+                      ),
+                    ),
+                  ),
+                ),
+              ),
+            ),
+          ),
+        ),
+      ),
+    ),
+  ),
+)
 
 -- what is found has what all of a table have, and the name that was asked for
 found_has : (P : Choice → Type 0) (table : List Choice) (name : Word) (c : Choice) → AllByRecursion P table → choice_of table name ≡ Some c
@@ -164,7 +211,8 @@ behind_part waiting next word words part one all is_plain more = record {
 
 -- a number that an option waits for
 value_parts : (table : List Choice) (name word : Word) (words : List Word)
-    → parts_after table (Some name) (word ∷ words) ≡ (if is_dashed word then unvalued name else valued name word) ∷ parts_after table None words
+    → parts_after table (Some name) (word ∷ words)
+    ≡ (if is_dashed word then unvalued name else valued name word) ∷ parts_after table None words
 unfolding parts_after
 value_parts table name word words = refl
 
@@ -220,11 +268,14 @@ module _ (word : Word) (words : List Word) (rest : Rest words) where
         plain = subst (λ ps. list_all plain ps ≡ true) (sym at) more.plain;
       }
   agree_both known other (other_part part small_is large_is is_other) =
-      let never : false ≡ true = (known_tail (stray word) _ _ (parts_whole play_options word words (stray word) other small_is) known).0 in cc
+      let never : false ≡ true =
+      (known_tail (stray word) _ _ (parts_whole play_options word words (stray word) other small_is) known).0 in cc
   agree_both known other (other_option name small_is large_is is_other) =
-      let never : false ≡ true = (known_tail (stray word) _ _ (parts_whole play_options word words (stray word) other small_is) known).0 in cc
+      let never : false ≡ true =
+      (known_tail (stray word) _ _ (parts_whole play_options word words (stray word) other small_is) known).0 in cc
 
-  agree_idle : list_all is_known (small None (word ∷ words)) ≡ true → (b : Bool) → bytes_eq word (codes "--") ≡ b → Agree None (word ∷ words)
+  agree_idle : list_all is_known (small None (word ∷ words)) ≡ true → (b : Bool) → bytes_eq word (codes "--") ≡ b
+      → Agree None (word ∷ words)
   agree_idle known true is = record {
     same = dashes_parts options word words is ∙ sym (dashes_parts play_options word words is);
     plain = subst (λ ps. list_all plain ps ≡ true) (sym (dashes_parts play_options word words is)) (files_plain words);

@@ -38,7 +38,8 @@ no_flag name (flag one ∷ ps) other all = go (bytes_eq one name) refl (both_par
     go : (b : Bool) → bytes_eq one name ≡ b → not (among one other_flags) ≡ true → has_flag_named name ps ≡ false
         → (b || has_flag_named name ps) ≡ false
     go true same is more =
-        let never : false ≡ true = sym (ap (λ (n : Word). not (among n other_flags)) ((bytes_eq-Decides one name).0 same) ∙ ap not other) ∙ is in cc
+        let never : false ≡ true =
+        sym (ap (λ (n : Word). not (among n other_flags)) ((bytes_eq-Decides one name).0 same) ∙ ap not other) ∙ is in cc
     go false same is more = more
 no_flag name (file word ∷ ps) other all = no_flag name ps other all
 no_flag name (valued one text ∷ ps) other all = no_flag name ps other (both_parts _ _ all).1
@@ -54,7 +55,8 @@ no_text name (valued one text ∷ ps) other all =
     go : (b : Bool) → bytes_eq one name ≡ b → not (among one other_numbers) ≡ true → text_for name ps ≡ None
         → (if b then Some text else text_for name ps) ≡ None
     go true same is more =
-        let never : false ≡ true = sym (ap (λ (n : Word). not (among n other_numbers)) ((bytes_eq-Decides one name).0 same) ∙ ap not other) ∙ is in cc
+        let never : false ≡ true =
+        sym (ap (λ (n : Word). not (among n other_numbers)) ((bytes_eq-Decides one name).0 same) ∙ ap not other) ∙ is in cc
     go false same is more = more
 no_text name (file word ∷ ps) other all = no_text name ps other all
 no_text name (flag one ∷ ps) other all = no_text name ps other (both_parts _ _ all).1
