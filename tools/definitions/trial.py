@@ -301,7 +301,7 @@ def main() -> int:
     with_stack()
     parser = argparse.ArgumentParser(description=__doc__, formatter_class=argparse.RawDescriptionHelpFormatter)
     parser.add_argument("function", nargs="?", default="formula_over")
-    parser.add_argument("clause", nargs="?", default="done")
+    parser.add_argument("clause", nargs="?", default="accepted")
     parser.add_argument("--only", default="", help="only definitions of the files with this pattern in their path")
     parser.add_argument("--alive", action="store_true", help="tells each change that no row finds")
     parser.add_argument("--scores", type=int, default=0, help="how many texts what no row finds is tried on")

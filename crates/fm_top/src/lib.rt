@@ -32,6 +32,6 @@ pub use fm_words::{WordsFault, names};
 pub use headline::formula_over;
 pub use laws::{
     accepted_files_are_read, each_input_has_one_verdict, one_text_has_one_file,
-    same_file_for_every_schedule,
+    same_file_for_every_schedule, words_that_play,
 };
 pub use top::formula;
