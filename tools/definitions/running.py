@@ -65,9 +65,10 @@ NIL = Nil()
 
 
 class Pair:
-    """A list that is not empty."""
+    """A list that is not empty. How many elements it has is kept once somebody has counted."""
 
-    __slots__ = ("head", "tail")
+    __slots__ = ("head", "tail", "size")
+    size: int
 
     def __init__(self, head: Any, tail: Any):
         self.head, self.tail = head, tail
@@ -191,6 +192,25 @@ def some(value: Any) -> Made:
     return Made("Some", (value,))
 
 
+def length(items: Any) -> int:
+    """How many elements a list has; each part of it keeps its own number."""
+    counted: list[Pair] = []
+    size = 0
+    while items is not NIL:
+        if isinstance(items, Joined):
+            items = items.force()
+            continue
+        if hasattr(items, "size"):
+            size = items.size
+            break
+        counted.append(items)
+        items = items.tail
+    for pair in reversed(counted):
+        size += 1
+        pair.size = size
+    return size
+
+
 def drop(count: int, items: Any) -> Any:
     while count > 0 and items is not NIL:
         items, count = items.tail, count - 1
@@ -271,7 +291,7 @@ def to_bytes(width: int, value: int) -> Any:
 
 # Each function of the libraries by name: how many arguments it takes, and what it gives.
 LIBRARY: dict[str, tuple[int, Callable[..., Any]]] = {
-    "length": (1, lambda xs: sum(1 for _ in xs)),
+    "length": (1, length),
     "map": (2, lambda f, xs: listed(f(x) for x in xs)),
     "reverse": (1, lambda xs: listed(reversed(list(xs)))),
     "take": (2, lambda n, xs: listed(itertools.islice(xs, n))),
