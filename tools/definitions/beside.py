@@ -22,6 +22,8 @@ command_line: Any = importlib.import_module("formula_score.words")
 score_model: Any = importlib.import_module("score_model")
 
 MOST_TEXT, MOST_FILE = 20_000, 8_000
+# The definition of an excerpt goes over all events for each controller of each channel.
+MOST_EVENTS = 200
 SCHEDULES = (("--workers", "0"), ("--rounds",), (), ("--workers", "3", "--room", "1", "--lead", "0"))
 # Options, and what may stand behind one.
 OPTIONS = ("workers", "lead", "room", "rounds", "list", "parts", "audit", "record", "locate", "process", "from", "to",
@@ -175,9 +177,12 @@ class Case:
         self.judge("tracks", (0, b"", definitions.parts_of_score(it)), {"the program": program.run(self.text, "--parts")})
         begin, until = sorted(draw.randrange(it.end + 2) for _ in range(2)) if draw.randrange(4) else (it.end, 0)
         stop = draw.choice((None, until, until))
-        words = ["--from", str(begin)] + ([] if stop is None else ["--to", str(stop)])
-        excerpt = definitions.excerpt_of(it, begin, stop)
-        self.judge("excerpt", (0, b"", excerpt), {"the program": program.run(self.text, *words)})
+        if sum(1 for _ in it.piece) <= MOST_EVENTS:
+            words = ["--from", str(begin)] + ([] if stop is None else ["--to", str(stop)])
+            excerpt = definitions.excerpt_of(it, begin, stop)
+            self.judge("excerpt", (0, b"", excerpt), {"the program": program.run(self.text, *words)})
+        else:
+            self.counts["left out: an excerpt of many events"] += 1
         process = draw.randrange(sum(1 for _ in it.lines) + (draw.randrange(8) == 0))
         tick = draw.choice((0, it.end, draw.randrange(it.end + 1), draw.randrange(2 * it.end + 2)))
         line = definitions.position_line(it.score, process, tick)

@@ -178,8 +178,15 @@ def kept1(function: Callable[[Any], Any]) -> Callable[[Any], Any]:
 
 def curried(function: Callable[..., Any], count: int, *given: Any) -> Any:
     """A function of so many arguments, some of them given, as one that takes the others one at a time."""
-    if len(given) == count:
+    left = count - len(given)
+    if left == 0:
         return function(*given)
+    if left == 1 and not given:
+        return function
+    if left == 1:
+        return lambda last: function(*given, last)
+    if left == 2:
+        return lambda first: lambda last: function(*given, first, last)
     return lambda argument: curried(function, count, *given, argument)
 
 
