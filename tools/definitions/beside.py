@@ -8,19 +8,32 @@ import random
 import subprocess
 import sys
 from collections import Counter
-from collections.abc import Mapping
+from collections.abc import Mapping, Sequence
 from typing import Any, Optional
 
 import plain
 from products import TOP, Definitions, Fault, Played
 from running import Made, Record, listed
 
-sys.path.append(os.path.join(TOP, "tools", "score_model"))
+sys.path += [os.path.join(TOP, "tools", "score_model"), os.path.join(TOP, "python")]
+#: The reader of the command's words in Python.
+command_line: Any = importlib.import_module("formula_score.words")
 #: The player of texts, which is apart from the program and has no types.
 score_model: Any = importlib.import_module("score_model")
 
-MOST_TEXT, MOST_FILE = 20_000, 16_000
+MOST_TEXT, MOST_FILE = 20_000, 8_000
+# The definition of an excerpt goes over all events for each controller of each channel.
+MOST_EVENTS = 200
 SCHEDULES = (("--workers", "0"), ("--rounds",), (), ("--workers", "3", "--room", "1", "--lead", "0"))
+# Options, and what may stand behind one.
+OPTIONS = ("workers", "lead", "room", "rounds", "list", "parts", "audit", "record", "locate", "process", "from", "to",
+           "generate")
+OTHERS = ("--", "-", "", "-x", "---", "--rooms", "in", "--list=", "--help", "-rounds", "x-y", "--=5")
+VALUES = ("0", "1", "2", "16", "17", "64", "65", "1000000", "1000001", "999999999", "1000000000", "16383", "16384",
+          "1099511627776", "1099511627777", "007", "+5", "++5", "+", "5_0", "5/", "5:", " 5", "x", "", "-", "-1", "--",
+          "--list")
+# How a run ends whose words are refused, and one that finds no file.
+NO_WORDS, NO_FILE = (1, b"formula: words refused\n"), (2, b"formula: read fault\n")
 # A file begins with so many bytes, and its track is the rest.
 HEAD = 22
 # After so many seconds a run of the program is one that does not end.
@@ -34,6 +47,14 @@ class Program:
 
     def __init__(self, program: str, folder: str):
         self.program, self.given, self.out = program, os.path.join(folder, "in"), os.path.join(folder, "out")
+        self.empty = os.path.join(folder, "empty")
+        os.mkdir(self.empty)
+
+    def ends(self, words: Sequence[str]) -> tuple[int, bytes]:
+        """The status and the line of a run with these words alone, in a folder in which nothing stands."""
+        done = subprocess.run([self.program, *words], cwd=self.empty, stdin=subprocess.DEVNULL, stdout=subprocess.PIPE,
+                              stderr=subprocess.STDOUT, timeout=LONGEST, check=False)
+        return done.returncode, done.stdout
 
     def run(self, data: bytes, *words: str) -> End:
         """The status, the line on standard output, and what stands in OUT, None where there is none."""
@@ -48,6 +69,29 @@ class Program:
             with open(self.out, "rb") as file:
                 made = file.read()
         return done.returncode, done.stdout, made
+
+
+def words_drawn(draw: random.Random) -> list[str]:
+    """Two names of files, mostly, and options."""
+    groups = [[name] for name in ("absent", "out", "other")[:draw.choice((2, 2, 2, 2, 2, 2, 2, 2, 1, 3))]]
+    for _ in range(draw.randrange(4)):
+        option, value = f"--{draw.choice(OPTIONS)}", draw.choice(VALUES)
+        groups.append(draw.choice(([option], [f"{option}={value}"], [option, value], [option, value])))
+    if draw.randrange(8) == 0:
+        groups.append([draw.choice(OTHERS)])
+    draw.shuffle(groups)
+    return [word for group in groups for word in group]
+
+
+def settings(read: Any) -> dict[str, Any]:
+    """What words ask for, by the reader of words in Python."""
+    numbers = {name: read.numbers.get(f"--{name}") for name in ("generate", "locate", "from", "to")}
+    usual = {"workers": 4, "lead": 7680, "room": 32, "process": 0}
+    numbers.update({name: read.numbers.get(f"--{name}", otherwise) for name, otherwise in usual.items()})
+    flags = {"rounds": "rounds", "list": "list", "parts": "parts", "record": "recorded", "audit": "audited"}
+    given = {field: f"--{name}" in read.options for name, field in flags.items()}
+    source, target = ([*name.encode()] for name in read.files)
+    return {"source": source, "target": target, **numbers, **given}
 
 
 class Case:
@@ -75,7 +119,20 @@ class Case:
     def score_line(self, fault: Fault) -> End:
         return self.line_of("Score", Record(line=fault.line, column=fault.column), fault.number)
 
+    def words(self) -> None:
+        """The words of a command at random: what they ask for, or that they are refused."""
+        words = words_drawn(self.draw)
+        made = self.definitions.settings_of([word.encode() for word in words])
+        mine = None if made is None else {name.rstrip("_"): plain.setting(it) for name, it in vars(made).items()}
+        read = command_line.read(words)
+        self.judge("words", mine, {"formula_score": None if read.wrong else settings(read)})
+        if "generate" not in " ".join(words):
+            # there is no IN, so that nothing is played
+            ended = self.program.ends(words)
+            self.judge("words, taken or refused", NO_WORDS if mine is None else NO_FILE, {"the program": ended})
+
     def compare(self) -> None:
+        self.words()
         if len(self.text) > MOST_TEXT:
             self.counts["left out: a long text"] += 1
             return
@@ -120,9 +177,12 @@ class Case:
         self.judge("tracks", (0, b"", definitions.parts_of_score(it)), {"the program": program.run(self.text, "--parts")})
         begin, until = sorted(draw.randrange(it.end + 2) for _ in range(2)) if draw.randrange(4) else (it.end, 0)
         stop = draw.choice((None, until, until))
-        words = ["--from", str(begin)] + ([] if stop is None else ["--to", str(stop)])
-        excerpt = definitions.excerpt_of(it, begin, stop)
-        self.judge("excerpt", (0, b"", excerpt), {"the program": program.run(self.text, *words)})
+        if sum(1 for _ in it.piece) <= MOST_EVENTS:
+            words = ["--from", str(begin)] + ([] if stop is None else ["--to", str(stop)])
+            excerpt = definitions.excerpt_of(it, begin, stop)
+            self.judge("excerpt", (0, b"", excerpt), {"the program": program.run(self.text, *words)})
+        else:
+            self.counts["left out: an excerpt of many events"] += 1
         process = draw.randrange(sum(1 for _ in it.lines) + (draw.randrange(8) == 0))
         tick = draw.choice((0, it.end, draw.randrange(it.end + 1), draw.randrange(2 * it.end + 2)))
         line = definitions.position_line(it.score, process, tick)

@@ -48,6 +48,13 @@ def branches(it: Made) -> list[Any]:
     return found
 
 
+def setting(it: Any) -> Any:
+    """What words ask for: a number or None, or the bytes of a name."""
+    if isinstance(it, Made):
+        return it.args[0] if it.tag == "Some" else None
+    return value(it)
+
+
 def score(it: Any) -> Score:
     return it.seed, it.longest, statements(it.passage)
 

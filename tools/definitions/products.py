@@ -8,6 +8,7 @@ from __future__ import annotations
 import importlib.machinery
 import importlib.util
 import os
+from collections.abc import Sequence
 from dataclasses import dataclass
 from typing import Any
 
@@ -21,6 +22,9 @@ from translate import Translator, global_name, run
 ASKED = {
     "tokens": "fm_lex.specs.Tokens.tokens",
     "first_fault": "fm_grammar.specs.Table.first_fault",
+    "trip": "fm_grammar.specs.Table.trip",
+    "is_divided": "fm_grammar.specs.Table.is_divided",
+    "whole": "fm_grammar.specs.Rules.whole",
     "grammar_fault": "fm_meaning.specs.Verdict.grammar_fault",
     "score_text": "fm_grammar.specs.Spelling.score_text",
     "limits": "fm_grammar.specs.Within.limits",
@@ -72,6 +76,7 @@ ASKED = {
     "too_long": "fm_top.specs.Records.too_long",
     "fault_text": "fm_tell.specs.Telling.fault_text",
     "fault_status": "fm_tell.specs.Telling.fault_status",
+    "settings_by_rules": "fm_words.specs.Asked.settings_by_rules",
     "summary_line": "fm_gen.specs.SummaryLine.summary_line",
     "score_summary": "fm_top.specs.Products.score_summary",
 }
@@ -137,6 +142,14 @@ class Definitions:
 
     def __getattr__(self, name: str) -> Any:
         return self.space[self.names[name]]
+
+    # ---- words
+
+    def settings_of(self, words: Sequence[bytes]) -> Any:
+        """What words ask for, None where they are refused."""
+        running.forget()
+        found = self.settings_by_rules(listed(map(listed, words)))
+        return None if found.tag == "None" else found.args[0]
 
     # ---- texts
 

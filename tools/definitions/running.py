@@ -65,9 +65,10 @@ NIL = Nil()
 
 
 class Pair:
-    """A list that is not empty."""
+    """A list that is not empty. How many elements it has is kept once somebody has counted."""
 
-    __slots__ = ("head", "tail")
+    __slots__ = ("head", "tail", "size")
+    size: int
 
     def __init__(self, head: Any, tail: Any):
         self.head, self.tail = head, tail
@@ -177,8 +178,15 @@ def kept1(function: Callable[[Any], Any]) -> Callable[[Any], Any]:
 
 def curried(function: Callable[..., Any], count: int, *given: Any) -> Any:
     """A function of so many arguments, some of them given, as one that takes the others one at a time."""
-    if len(given) == count:
+    left = count - len(given)
+    if left == 0:
         return function(*given)
+    if left == 1 and not given:
+        return function
+    if left == 1:
+        return lambda last: function(*given, last)
+    if left == 2:
+        return lambda first: lambda last: function(*given, first, last)
     return lambda argument: curried(function, count, *given, argument)
 
 
@@ -189,6 +197,25 @@ ANYTHING = Made("anything")
 
 def some(value: Any) -> Made:
     return Made("Some", (value,))
+
+
+def length(items: Any) -> int:
+    """How many elements a list has; each part of it keeps its own number."""
+    counted: list[Pair] = []
+    size = 0
+    while items is not NIL:
+        if isinstance(items, Joined):
+            items = items.force()
+            continue
+        if hasattr(items, "size"):
+            size = items.size
+            break
+        counted.append(items)
+        items = items.tail
+    for pair in reversed(counted):
+        size += 1
+        pair.size = size
+    return size
 
 
 def drop(count: int, items: Any) -> Any:
@@ -271,7 +298,7 @@ def to_bytes(width: int, value: int) -> Any:
 
 # Each function of the libraries by name: how many arguments it takes, and what it gives.
 LIBRARY: dict[str, tuple[int, Callable[..., Any]]] = {
-    "length": (1, lambda xs: sum(1 for _ in xs)),
+    "length": (1, length),
     "map": (2, lambda f, xs: listed(f(x) for x in xs)),
     "reverse": (1, lambda xs: listed(reversed(list(xs)))),
     "take": (2, lambda n, xs: listed(itertools.islice(xs, n))),

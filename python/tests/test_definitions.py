@@ -1,0 +1,98 @@
+"""What stands beside the definitions that run: lists, the model's scores as plain values, words, and runs by two programs."""
+
+from __future__ import annotations
+
+import importlib
+import importlib.machinery
+import importlib.util
+import pathlib
+import sys
+import tempfile
+import unittest
+import unittest.mock
+from typing import Any
+
+from .program import TOP, score_model
+
+sys.path[:0] = [str(TOP / "tools" / name) for name in ("definitions", "jobs")]
+
+running: Any = importlib.import_module("running")
+plain: Any = importlib.import_module("plain")
+beside: Any = importlib.import_module("beside")
+
+
+def script(name: str) -> Any:
+    """A script as a module."""
+    loader = importlib.machinery.SourceFileLoader(name, str(TOP / "scripts" / name))
+    spec = importlib.util.spec_from_loader(name, loader)
+    assert spec is not None
+    module = importlib.util.module_from_spec(spec)
+    sys.modules[name] = module
+    loader.exec_module(module)
+    return module
+
+
+class Lists(unittest.TestCase):
+    def test_a_list_knows_its_length_however_it_was_made(self) -> None:
+        front, back = running.listed([1, 2, 3]), running.listed([4, 5])
+        both = running.joined(front, back)
+        self.assertEqual([running.length(it) for it in (running.NIL, back, both, both.tail, both.tail.tail.tail)],
+                         [0, 2, 5, 4, 2])
+        more = running.Pair(0, running.joined(running.joined(both, running.NIL), both))
+        self.assertEqual((running.length(more), running.length(more)), (11, 11))
+        self.assertEqual(list(more), [0, 1, 2, 3, 4, 5, 1, 2, 3, 4, 5])
+
+
+class Plain(unittest.TestCase):
+    def test_the_score_of_the_model(self) -> None:
+        text = (b"formula 1; seed 7; shape s = flat 1/4 by 900, breath ticks 5; phrase p { rhythm [1/2, 1/8] { play c4; } } "
+                b"phrase unused { rhythm [ticks 7000] { skip; } } do p; warp s { set r1 = -(2 + n0) * 3; } gate 80 { } "
+                b"if less(r1, 1) { control 7 (r1); } else { note key -1 ticks (pick(3)) max 9; }")
+        postfix = [("Literal", 2), ("Index", 0), ("Add",), ("Negate",), ("Literal", 3), ("Multiply",)]
+        rhythm = ("under", ("duration",), [960, 240], [("note", [("given", 60)], ("beat",))])
+        note = ("note", [("given", -1)], ("counted", [("Literal", 3), ("Pick",)], 9))
+        test = [("Register", 1), ("Literal", 1), ("Less",)]
+        self.assertEqual(plain.model_score(score_model, text), (7, 7000, [
+            ("phrase", [rhythm]),
+            ("warp", [("Flat", 480, 900), ("Breath", 5)], [("assign", 1, postfix)]),
+            ("steady", ("articulation",), 80, []),
+            ("choice", test, [("send", ("control", 7), ("drawn", [("Register", 1)]))], [note]),
+        ]))
+
+    def test_the_marks_of_the_model(self) -> None:
+        text = b"formula 1; rest ticks 10; note c4 ticks 100; bend -8192;"
+        self.assertEqual(plain.model_marks(score_model, text), [
+            (0, 0, bytes((144, 60, 64)), 10, None), (0, 1, bytes((128, 60, 64)), 10, 100), (0, 2, bytes((224, 0, 0)), 110, None),
+            (0, 3, None, 110, None)])
+
+
+class Words(unittest.TestCase):
+    def test_what_words_ask_for(self) -> None:
+        read = beside.command_line.read(["a", "--lead=5", "b", "--parts", "--to", "+7"])
+        self.assertEqual(beside.settings(read), {
+            "source": [97], "target": [98], "workers": 4, "lead": 5, "room": 32, "generate": None, "rounds": False, "list": False,
+            "parts": True, "locate": None, "process": 0, "from": None, "to": 7, "recorded": False, "audited": False})
+
+
+class Compilers(unittest.TestCase):
+    def test_runs_of_two_programs(self) -> None:
+        compilers = script("compilers")
+        with tempfile.TemporaryDirectory() as folder, unittest.mock.patch.object(compilers, "LONGEST", 1):
+            programs = []
+            for name, line in (("one", "cat >/dev/null; echo $3"), ("other", "[ $3 != slow ] || sleep 30; echo ${3#un}")):
+                path = pathlib.Path(folder, name)
+                path.write_text(f"#!/bin/sh\n{line}\n")
+                path.chmod(0o755)
+                programs.append(str(path))
+            both = compilers.Both(programs, folder)
+            for word in ("same", "unlike", "slow"):
+                both.same("words", word, ["in", both.out, word], b"")
+            self.assertEqual(both.counts["words"], 3)
+            self.assertEqual(len(both.differ), 3)
+            self.assertRegex(both.differ[0], r"^words: unlike unlike: status 0, b'unlike\\n'.* in place of status 0, b'like\\n'")
+            self.assertRegex(both.differ[1], r"^no end after 1 seconds: .*/other in .*/out slow$")
+            self.assertRegex(both.differ[2], r"^words: slow slow: status 0, .* in place of status -1000, ")
+
+
+if __name__ == "__main__":
+    unittest.main()
