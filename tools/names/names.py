@@ -5,7 +5,8 @@
 A name is that of a type, a trait or a function. Names that differ in their case alone are one name. A method of a trait
 counts once, whoever has it. Methods that are no trait's are looked at with --methods only: `new` of two types is two
 meanings then. Tests are left out. Each name is told with the crates that see both meanings, lowest first, and with the
-places of its meanings. The exit status is 0."""
+places of its meanings. The exit status is 1 where a name of the code has no row in the last table of docs/GLOSSARY.md, or
+a row of it no name."""
 from __future__ import annotations
 
 import argparse
@@ -233,6 +234,19 @@ def doubles(top: str, methods: bool, only: str) -> dict[str, tuple[list[str], li
     return found
 
 
+def rows_of(text: str) -> set[str]:
+    """The names that the last table of a page tells, in its first column."""
+    lines = text.rstrip("\n").split("\n")
+    first = max((at for at, line in enumerate(lines) if not line.startswith("|")), default=-1) + 1
+    return {name.lower() for line in lines[first:] for name in line.split("|")[1].split("`")[1::2]}
+
+
+def compare(found: set[str], rows: set[str]) -> list[str]:
+    """What differs between the names that were found and those that have a row."""
+    return [f"{name}: no row in docs/GLOSSARY.md" for name in sorted(found - rows)] + \
+        [f"{name}: a row in docs/GLOSSARY.md, and one meaning" for name in sorted(rows - found)]
+
+
 def main() -> int:
     parser = argparse.ArgumentParser(description=__doc__, formatter_class=argparse.RawDescriptionHelpFormatter)
     parser.add_argument("--methods", action="store_true", help="look at methods that are no trait's, too")
@@ -246,7 +260,13 @@ def main() -> int:
         for meaning in meanings:
             print(f"    {meaning.place()}")
     print(f"{len(found)} names with two meanings")
-    return 0
+    if words.methods or words.crate:
+        return 0
+    with open(f"{TOP}/docs/GLOSSARY.md", encoding="utf-8") as file:
+        wrong = compare(set(found), rows_of(file.read()))
+    for line in wrong:
+        print(line)
+    return 1 if wrong else 0
 
 
 if __name__ == "__main__":

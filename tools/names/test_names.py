@@ -5,7 +5,7 @@ import sys
 import unittest
 
 sys.dont_write_bytecode = True
-from names import Reader  # noqa: E402
+from names import Reader, compare, rows_of  # noqa: E402
 
 TEXT = '''
 //! fn in_a_comment() {}
@@ -68,6 +68,12 @@ class TestReader(unittest.TestCase):
             (32, "fn", "", "room"),
             (46, "fn", "", "last"),
         ])
+
+    def test_rows_of_the_last_table_are_compared(self) -> None:
+        rows = rows_of("| `walk` | no |\n\nText.\n\n| Name | Its meanings |\n|---|---|\n| `play`, `Run` | two |\n| pass | none |\n")
+        self.assertEqual(rows, {"play", "run"})
+        self.assertEqual(compare({"play", "say"}, rows), ["say: no row in docs/GLOSSARY.md",
+                                                          "run: a row in docs/GLOSSARY.md, and one meaning"])
 
 
 if __name__ == "__main__":

@@ -1,5 +1,5 @@
 -- A publish, and a release where nothing is due.
-use Rattle.std.proofs.Common.{◌≡◌, ℕ, ◌≤◌, Bool, true, false, List, [], length, take, Option, refl, sym, ap, ◌∙◌, arith, append-nil}
+use Rattle.std.proofs.Common.{◌≡◌, ◌≤◌, Bool, true, false, List, [], length, take, refl, sym, ap, ◌∙◌, arith, append-nil}
 use Rattle.std.proofs.lemmas.Bool.{both_ways}
 use Rattle.fm_edge.specs.Seen.{SinkSeen}
 use Rattle.fm_msg.specs.Event.{TimedMessage}
@@ -16,11 +16,11 @@ use Rattle.fm_board.specs.declared.view.View.{View}
 use Rattle.fm_board.specs.Calls.{Releases}
 use Rattle.fm_board.specs.View.{lines_of, published, released}
 use Rattle.fm_crew.specs.declared.conductor.Conductor.{Conductor}
-use Rattle.fm_crew.specs.Conduct.{LooksAgain, Publishes, WritesNext}
+use Rattle.fm_crew.specs.Conduct.{LooksAgain, MovesFloor, WritesNext}
 
 -- a publish of the least pair of a new sweep
 pub publishes : (old mid new : View) (paced : Floor) (due : Due) → LooksAgain old mid → due ≡ due_of (least mid.sweep)
-    → new ≡ record (published mid (floor_of (least mid.sweep)) due) { paced = paced } → Publishes old new paced due
+    → new ≡ record (published mid (floor_of (least mid.sweep)) due) { paced = paced } → MovesFloor old new paced due
 publishes old mid new paced due looked due_is is = record {
   pair = least mid.sweep;
   due_is = due_is;

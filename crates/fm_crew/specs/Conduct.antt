@@ -103,7 +103,7 @@ abbrev pub LooksAgain : View → View → Type 0
 LooksAgain old new = new ≡ record old { sweep = new.sweep; visited = new.visited }
 
 -- a publish of the least pair of a sweep, and a pace
-pub record Publishes (old new : View) (paced : Floor) (due : Due) : Type 0 where
+pub record MovesFloor (old new : View) (paced : Floor) (due : Due) : Type 0 where
   pub pair : Option (ℕ × ℕ)
   pub due_is : due ≡ due_of pair
   pub view : new ≡ record (published old (floor_of pair) due) { paced = paced }

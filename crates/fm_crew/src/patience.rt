@@ -58,7 +58,7 @@ impl<R: Wait> Patience for Patient<'_, R> {
         conductor: &mut Conductor,
         process: u32,
     ) -> Option<u64> {
-        Some(wait_for(self.rt, board, gate, pass, conductor, process))
+        Some(look_until_visited(self.rt, board, gate, pass, conductor, process))
     }
 }
 
@@ -83,7 +83,7 @@ impl Patience for Alone {
 
 // Looks again at a process that was found in other hands, until it was visited. Nothing else of
 // the conductor waits.
-fn wait_for<R: Wait, B: Calls, G: Gate>(
+fn look_until_visited<R: Wait, B: Calls, G: Gate>(
     rt: &R,
     board: &B,
     gate: &G,

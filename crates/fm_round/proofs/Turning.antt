@@ -35,8 +35,8 @@ least_without p key ss c m least =
       least = λ j t within live. least.least j t (omega (arith, many, within)) (sym (ap (live_clock p) (lane-map key ss j)) ∙ live);
     }
 
-module _ {K : Type 0} {seen : SinkSeen K} {p : PlanParts} (here : Interval seen p) (w : Watch) (watched : Watched p w here.lanes)
-    (key : Option (ℕ × ℕ)) (ss : List Lane) (took : ss ≡ map (without_due key) here.lanes) where
+module _ {K : Type 0} {seen : SinkSeen K} {p : PlanParts} (here : Interval seen p) {w : Watch} (watched : Watched p w here.lanes)
+    (key : Option (ℕ × ℕ)) {ss : List Lane} (took : ss ≡ map (without_due key) here.lanes) where
   -- once what is due was taken, the processes may run
   may_run : MayRun p w.next.items (map (without_due key) here.lanes)
   may_run =
@@ -61,8 +61,8 @@ module _ {K : Type 0} {seen : SinkSeen K} {p : PlanParts} (here : Interval seen 
       })
 
   -- after the quanta who is not in the chain is idle
-  pub stays_watched : (limit : ℕ) (ran : List Lane) → RunsAll p limit ss ran → length ran ≡ length ss → AreWatched p w ran
-  stays_watched limit ran runs same =
+  pub stays_watched : {limit : ℕ} {ran : List Lane} → RunsAll p limit ss ran → length ran ≡ length ss → AreWatched p w ran
+  stays_watched {limit = limit} {ran = ran} runs same =
       let many = length-map here.lanes (without_due key) in
       let taken = ap length took in
       let count = here.between.count in record {
@@ -71,6 +71,6 @@ module _ {K : Type 0} {seen : SinkSeen K} {p : PlanParts} (here : Interval seen 
       }
 
   -- and who waited for a process that ended is in its list
-  pub stays_awaited : (limit : ℕ) (ran : List Lane) → RunsAll p limit ss ran → length ran ≡ length ss → AllAwait p w 0 ran
-  stays_awaited limit ran runs same =
+  pub stays_awaited : {limit : ℕ} {ran : List Lane} → RunsAll p limit ss ran → length ran ≡ length ss → AllAwait p w 0 ran
+  stays_awaited {limit = limit} {ran = ran} runs same =
       await_round p here.fits w key limit here.lanes ss ran watched here.between.count took runs same here.between.started

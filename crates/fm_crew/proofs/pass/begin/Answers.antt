@@ -11,7 +11,7 @@ use Rattle.fm_crew.proofs.pass.begin.Goals as goal
 
 pub advance-requires-clause-told : goal.advance-requires-clause-told
 advance-requires-clause-told g c =
-    takes_fresh (g.B.Calls.about c.args.board.now) c.args.conductor.now.seat c.args.process c.start.new.seat _
+    takes_fresh (g.B.Calls.about c.args.board.now) c.args.conductor.now.seat c.args.process c.start_process.new.seat _
     c.requires.passing.idle.ours.plan c.in-Some.ensures.some
 
 pub returns-in-Some-clause-passed : goal.returns-in-Some-clause-passed
@@ -22,7 +22,7 @@ returns-in-Some-clause-passed g c =
     let fresh = c.in-Some.ensures.some in
     let ours = c.requires.passing.idle.ours in
     record {
-      idle = gives_idle t a c.start.new.seat c.advance.new.seat
+      idle = gives_idle t a c.start_process.new.seat c.advance.new.seat
           (record {
             table = fresh.sees.table ∙ ours.table;
             plan = ap (λ (v : View). v.plan) fresh.sees.view ∙ ours.plan;
@@ -40,15 +40,15 @@ returns-in-Some-clause-passed g c =
 pub returns-in-Some-clause-grows : goal.returns-in-Some-clause-grows
 returns-in-Some-clause-grows g c = record {
   plan = ap (λ (v : View). v.plan) (c.advance.ensures.sees.view ∙ ap gave c.in-Some.ensures.some.sees.view);
-  knows = knows_then c.args.conductor.now.seat.mind c.start.new.seat.mind c.advance.new.seat.mind c.start.ensures.knows
+  knows = knows_then c.args.conductor.now.seat.mind c.start_process.new.seat.mind c.advance.new.seat.mind c.start_process.ensures.knows
       c.advance.ensures.knows;
   gathers = omega arith;
 }
 
 pub returns-in-Some-clause-moves : goal.returns-in-Some-clause-moves
 returns-in-Some-clause-moves g c =
-    λ _ more tick back. started_on c.args.process tick c.args.conductor.now.seat.mind c.start.new.seat.mind c.advance.new.seat.mind more
-    back c.start.ensures.born (ap (λ (v : View). v.plan) c.in-Some.ensures.some.sees.view) c.advance.ensures.knows
+    λ _ more tick back. started_on c.args.process tick c.args.conductor.now.seat.mind c.start_process.new.seat.mind c.advance.new.seat.mind more
+    back c.start_process.ensures.born (ap (λ (v : View). v.plan) c.in-Some.ensures.some.sees.view) c.advance.ensures.knows
 
 pub returns-in-Some-clause-rests : goal.returns-in-Some-clause-rests
 returns-in-Some-clause-rests g c =

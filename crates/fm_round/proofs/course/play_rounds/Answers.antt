@@ -1,11 +1,8 @@
 use Rattle.std.proofs.Common.{◌+◌, ◌-◌, ◌^◌, ◌<◌, ℕ, List, map, min, Some, None, length, refl, sym, ap, ◌∙◌, subst, arith}
 use Rattle.fm_edge.proofs.Chains.{on_err}
-use Rattle.fm_program.specs.Process.{plan_lines}
 use Rattle.fm_round.specs.Lanes.{AllAtEnd, loads}
 use Rattle.fm_round.specs.Rounds.{Between, first_room}
 use Rattle.fm_round.proofs.Between.{Interval, few_events, first_between, interval, last_count, last_ends, last_first, last_writes, may_release, next_first, next_round, release_breaks}
-use Rattle.fm_round.proofs.Parting.{FrontsFirst}
-use Rattle.fm_round.proofs.Releasing.{parts}
 use Rattle.fm_round.proofs.Turning.{first_watched, is_round, stays_awaited, stays_watched}
 use Rattle.fm_round.proofs.course.play_rounds.Given.{Over}
 use Rattle.fm_round.proofs.course.play_rounds.Goals.{In-Some, In_default, After-begin_next}
@@ -16,9 +13,7 @@ begin_first-requires g c = record { watched = first_watched c.args.plan.now c.ar
 
 pub loop-next-init : goal.loop-next-init
 loop-next-init g c = record {
-  between = first_between g.K.Append.seen c.args.plan.now c.args.sink.now c.args.writer.now
-      c.args.lanes.now c.begin_first.new.lanes c.args.stage.now.gather (first_room c.args.lanes.now) c.requires.opened.opened
-      c.requires.at_end c.begin_first.ensures.starts c.begin_first.auto.lanes;
+  between = first_between c.requires.opened.opened c.requires.at_end c.begin_first.ensures.starts c.begin_first.auto.lanes;
   watched = c.begin_first.ensures.watched.watch;
   lead = refl;
 }
@@ -29,25 +24,21 @@ loop-next-init g c = record {
 abbrev before : (g : Over) (c : In-Some g) → Interval g.K.Append.seen c.args.plan.now
 before g c = interval c.requires.opened c.requires.begun c.loop-next.invariant.between
 
--- what is due of each process comes first
-due_first : (g : Over) (c : In-Some g)
-    → FrontsFirst (parts c.args.plan.now (Some c.in-Some.next) (plan_lines c.args.plan.now) c.loop-next.lanes)
-due_first g c = next_first (before g c) c.in-Some.next.0 c.in-Some.next.1 c.in-Some.ensures
-
 pub release-requires-clause-may : goal.release-requires-clause-may
 release-requires-clause-may g c =
-    let at = (goal.at.release-requires-clause-may g c).In-Some in may_release (before g at) (Some c.in-Some.next) (due_first g at)
+    let here = before g (goal.at.release-requires-clause-may g c).In-Some in
+    may_release here (Some c.in-Some.next) (next_first here c.in-Some.next.0 c.in-Some.next.1 c.in-Some.ensures)
 
 pub returns-in_err-events-clause-err : goal.returns-in_err-events-clause-err
 returns-in_err-events-clause-err g c =
-    let at = (goal.at.returns-in_err-events-clause-err g c).In-Some in
-    on_err c.from_residual.result
-    (release_breaks (before g at) (Some c.in-Some.next) (due_first g at) c.release.new.sink c.in_err-events.ensures.err)
+    let here = before g (goal.at.returns-in_err-events-clause-err g c).In-Some in
+    on_err c.from_residual.result (release_breaks here (Some c.in-Some.next)
+    (next_first here c.in-Some.next.0 c.in-Some.next.1 c.in-Some.ensures) c.release.new.sink c.in_err-events.ensures.err)
 
 pub overflow_add-events : goal.overflow_add-events
 overflow_add-events g c =
-    let at = (goal.at.overflow_add-events g c).In-Some in
-    let few = few_events (before g at) (Some c.in-Some.next) (due_first g at) in
+    let here = before g (goal.at.overflow_add-events g c).In-Some in
+    let few = few_events here (Some c.in-Some.next) (next_first here c.in-Some.next.0 c.in-Some.next.1 c.in-Some.ensures) in
     let count = c.in_ok-events.ensures.count in omega arith
 
 pub run_round-requires : goal.run_round-requires
@@ -55,23 +46,21 @@ run_round-requires g c = record {
   room = first_room c.args.lanes.now;
   lead = c.args.stage.now.lead;
   are = c.requires.hands;
-  round = is_round (before g (goal.at.run_round-requires g c).In-Some) c.loop-next.stage.watch
-      c.loop-next.invariant.watched (Some c.in-Some.next) _ c.in_ok-events.ensures.lanes c.args.stage.now.lead
+  round = is_round (before g (goal.at.run_round-requires g c).In-Some)
+      c.loop-next.invariant.watched (Some c.in-Some.next) c.in_ok-events.ensures.lanes c.args.stage.now.lead
       c.saturating_add-limit.result c.in-Some.next.0 c.in-Some.next.1 _ c.in-Some.ensures c.deref-in-Some-2.ensures.value
       (c.saturating_add-limit.ensures ∙ ap (λ l. min (c.in-Some.next.0 + l) (2 ^ 64 - 1)) c.loop-next.invariant.lead);
 }
 
 pub begin_next-requires-clause-watched : goal.begin_next-requires-clause-watched
 begin_next-requires-clause-watched g c =
-    stays_watched (before g (goal.at.begin_next-requires-clause-watched g c).In-Some) c.loop-next.stage.watch
-    c.loop-next.invariant.watched (Some c.in-Some.next) _ c.in_ok-events.ensures.lanes c.saturating_add-limit.result _
-    c.run_round.ensures c.run_round.auto.lanes
+    stays_watched (before g (goal.at.begin_next-requires-clause-watched g c).In-Some) c.loop-next.invariant.watched
+    (Some c.in-Some.next) c.in_ok-events.ensures.lanes c.run_round.ensures c.run_round.auto.lanes
 
 pub begin_next-requires-clause-awaited : goal.begin_next-requires-clause-awaited
 begin_next-requires-clause-awaited g c =
-    stays_awaited (before g (goal.at.begin_next-requires-clause-awaited g c).In-Some) c.loop-next.stage.watch
-    c.loop-next.invariant.watched (Some c.in-Some.next) _ c.in_ok-events.ensures.lanes c.saturating_add-limit.result _
-    c.run_round.ensures c.run_round.auto.lanes
+    stays_awaited (before g (goal.at.begin_next-requires-clause-awaited g c).In-Some) c.loop-next.invariant.watched
+    (Some c.in-Some.next) c.in_ok-events.ensures.lanes c.run_round.ensures c.run_round.auto.lanes
 
 -- what it leaves: less to do, and the rest of the piece
 made : (g : Over) (c : After-begin_next g) → (loads c.args.plan.now 0 c.begin_next.new.lanes < loads c.args.plan.now 0 c.loop-next.lanes)
@@ -79,7 +68,6 @@ made : (g : Over) (c : After-begin_next g) → (loads c.args.plan.now 0 c.begin_
     c.args.writer.now c.release.new.writer c.begin_next.new.lanes c.release.new.gather (c.loop-next.events + c.in_ok-events.field-0)
 made g c = next_round (interval c.requires.opened c.requires.begun c.loop-next.invariant.between)
     c.in-Some.next.0 c.in-Some.next.1 c.saturating_add-limit.result c.in-Some.ensures (omega arith)
-    c.release.new.sink c.release.new.writer c.release.new.lanes c.run_round.new.lanes c.begin_next.new.lanes c.release.new.gather _
     c.in_ok-events.ensures.lanes c.in_ok-events.ensures.ok c.in_ok-events.ensures.gather
     (ap (λ n. c.loop-next.events + n) c.in_ok-events.ensures.count) c.run_round.ensures c.run_round.auto.lanes
     c.begin_next.ensures.starts c.begin_next.auto.lanes
@@ -118,8 +106,7 @@ overflow_add-events-2 g c =
     let count = c.in_ok-events-2.ensures.count in omega arith
 
 pub returns-clause-ended : goal.returns-clause-ended
-returns-clause-ended g c =
-    subst (AllAtEnd c.args.plan.now) (sym c.in_ok-events-2.ensures.lanes)
+returns-clause-ended g c = subst (AllAtEnd c.args.plan.now) (sym c.in_ok-events-2.ensures.lanes)
     (last_ends (last g (goal.at.returns-clause-ended g c).In_default) c.in_default.ensures)
 
 pub returns-clause-count : goal.returns-clause-count

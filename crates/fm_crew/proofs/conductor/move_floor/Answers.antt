@@ -9,7 +9,7 @@ use Rattle.fm_board.specs.declared.view.Mind.{Mind}
 use Rattle.fm_board.proofs.Knowing.{knows_stepped, knows_then}
 use Rattle.fm_crew.specs.Onward.{AreSeen, HoldsBack}
 use Rattle.fm_crew.proofs.Sweeping.{held_back}
-use Rattle.fm_crew.proofs.conductor.publish.Goals as goal
+use Rattle.fm_crew.proofs.conductor.move_floor.Goals as goal
 
 pub returns-clause-knows : goal.returns-clause-knows
 returns-clause-knows g c =
