@@ -2,11 +2,14 @@
 
 from __future__ import annotations
 
+import contextlib
 import importlib
+import io
 import os
 import pathlib
 import signal
 import sys
+import threading
 import time
 import unittest
 from typing import Any, Callable
@@ -53,6 +56,15 @@ class Jobs(unittest.TestCase):
     def test_a_task_that_takes_too_long_is_lost(self) -> None:
         found = dict(jobs.Jobs(2, 1.0, begin, 0).done([SLEEPS, 1, 2]))
         self.assertEqual(found, {SLEEPS: jobs.Lost("no end after 1 seconds"), 1: 1, 2: 2})
+
+    def test_an_interrupt_ends_it_with_what_was_done(self) -> None:
+        work = jobs.Jobs(2, 60.0, begin, 0)
+        timer = threading.Timer(1.0, os.kill, (os.getpid(), signal.SIGTERM))
+        timer.start()
+        with contextlib.redirect_stdout(io.StringIO()) as told:
+            self.assertEqual(sorted(work.done([1, 2, SLEEPS, SLEEPS, 3])), [(1, 1), (2, 2)])
+        self.assertEqual(told.getvalue(), "interrupted: what follows is of the tasks that were done\n")
+        self.assertEqual((work.interrupted, signal.getsignal(signal.SIGTERM)), (True, signal.SIG_DFL))
 
     def test_it_ends_where_no_process_can_begin(self) -> None:
         with self.assertRaisesRegex(RuntimeError, "20 tasks are lost: its process ended with status 7"):

@@ -3,12 +3,14 @@ dies or takes too long is told with the task that it was at, and another one tak
 from __future__ import annotations
 
 import multiprocessing
+import signal
 import sys
 import time
 from collections.abc import Callable, Iterator, Sequence
 from dataclasses import dataclass
 from multiprocessing.connection import Connection, wait
 from multiprocessing.process import BaseProcess
+from types import FrameType
 from typing import Any, Generic, TypeVar
 
 Task = TypeVar("Task")
@@ -29,6 +31,7 @@ class Lost:
 def serve(pipe: Connection, others: list[Connection], begin: Callable[..., Callable[[Any], Any]],
           words: tuple[Any, ...]) -> None:
     """What a process does: a task is read, and its answer is sent, until nobody sends a task."""
+    signal.signal(signal.SIGTERM, signal.SIG_DFL)
     # only the parent may hold these, so that their processes see when it is gone
     for other in others:
         other.close()
@@ -47,6 +50,10 @@ def give(pipe: Connection, task: Any) -> None:
         pipe.send(task)
     except (BrokenPipeError, ConnectionResetError):
         pass
+
+
+def interrupt(number: int, frame: FrameType | None) -> None:
+    raise KeyboardInterrupt
 
 
 @dataclass
@@ -70,12 +77,14 @@ class Jobs(Generic[Task, Answer]):
     def __init__(self, count: int, seconds: float, begin: Callable[..., Callable[[Task], Answer]], *words: Any):
         self.count, self.seconds, self.begin, self.words = count, seconds, begin, words
         self.seats: list[Seat[Task]] = []
+        self.interrupted = False
         self.context = multiprocessing.get_context("fork")
 
     def done(self, tasks: Sequence[Task]) -> Iterator[tuple[Task, Answer | Lost]]:
-        """Each task with its answer, in the order in which they end."""
+        """Each task with its answer, in the order in which they end. SIGINT and SIGTERM end it early."""
         left = iter(tasks)
         lost = 0
+        before = signal.signal(signal.SIGTERM, interrupt)
         try:
             for task in left:
                 self.start(task)
@@ -92,7 +101,11 @@ class Jobs(Generic[Task, Answer]):
                         if lost == MOST_LOST:
                             raise RuntimeError(f"{lost} tasks are lost: {answer.reason}")
                     self.next(seat, left)
+        except KeyboardInterrupt:
+            self.interrupted = True
+            print("interrupted: what follows is of the tasks that were done", flush=True)
         finally:
+            signal.signal(signal.SIGTERM, before)
             for seat in self.seats:
                 seat.end()
 
