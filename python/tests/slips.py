@@ -201,7 +201,8 @@ SLIPS = (
          "a rest has its length: write `rest 1/4;`"),
     Slip("rest 1/4 1/4;", "rest 2/4;", "1:10", 3,
          "here a `;` is expected, and there is `1`",
-         "a rest has one length, and `;` behind it: take the second one away"),
+         "a rest has one length, and `;` behind it: write `rest 1/2;` for both together, or take the second one "
+         "away"),
     Slip("note c4 ticks (2 * 120);", "note c4 ticks (2 * 120) max 1920;", "1:24", 3,
          "here `max` is expected, and there is `;`",
          "a computed length has its `max`, the greatest that it may be: write `note c4 ticks (2 * 120) max 1920;`"),
@@ -216,7 +217,7 @@ SLIPS = (
          "`channel` holds for a block: write `channel 1 { .. }`"),
     Slip("volume (60 + 4) { note c4 1/4; }", "volume 64 { note c4 1/4; }", "1:8", 3,
          "here a number is expected, and there is `(`",
-         "the number of `volume` is written, and never computed: write `volume 80 { .. }`; for a velocity from note "
+         "the number of `volume` is written, and never computed, as in `volume 80 { .. }`; for a velocity from note "
          "to note, a `loud` list"),
     Slip("volume mf { note c4 1/4; }", "volume 80 { note c4 1/4; }", "1:8", 3,
          "here a number is expected, and there is `mf`",
@@ -307,8 +308,8 @@ SLIPS = (
          "it, and tells the tick of a bar"),
     Slip("note c4 1/4 || note e4 1/4;", "note c4 1/4; note e4 1/4;", "1:13", 1,
          "`|` begins no word of the language",
-         "take the `||` away: a bar line is not in the file: a comment counts bars, and `scripts/score bars` checks "
-         "it, and tells the tick of a bar"),
+         "a statement ends with `;`: write `;` in place of the `||`; a bar line is not in the file: a comment counts "
+         "bars, and `scripts/score bars` checks it, and tells the tick of a bar"),
     Slip("|: note c4 1/4; :|", "repeat 2 { note c4 1/4; }", "1:1", 1,
          "`|` begins no word of the language",
          "repeat, first and second ending: write `repeat 2 { note c4 3/4; if n0 { note g4 1/4; } else { note e4 "
@@ -395,7 +396,7 @@ SLIPS = (
          "a length is a whole number of ticks, of which a whole note has 1,920: write `ticks 274`, or `1/6`"),
     Slip("formula 1: note c4 1/4;", "formula 1; note c4 1/4;", "1:10", 1,
          "`:` begins no word of the language",
-         "the head ends with `;`: write `formula 1;`"),
+         "each statement ends with `;`: write `;` in place of the `:`"),
     Slip("formula 1 note c4 1/4;", "formula 1; note c4 1/4;", "1:11", 3,
          "here a `;` is expected, and there is `note`",
          "the head ends with `;`: write `formula 1;`"),
@@ -407,7 +408,7 @@ SLIPS = (
          "write a number from 1 to 2: the version of the language"),
     Slip("formula 1; division 96; note c4 1/4;", "formula 2; division 96; note c4 1/4;", "1:12", 3,
          "`division` begins no statement",
-         "a division belongs to version 2, directly behind its head: write `formula 2; division 96;`"),
+         "a division belongs to version 2: write `formula 2;` in place of `formula 1;`"),
     Slip("tempo 4 = 90; note c4 1/4;",
          "shape tempo_90 = flat 500/1 by 1333; warp tempo_90 { note c4 1/4; }", "1:1", 3,
          "`tempo` begins no statement",
@@ -423,8 +424,8 @@ SLIPS = (
          "music with a name is a `phrase`: write `phrase theme { .. }`, and play it by `do theme;`"),
     Slip("note c4 1/4> note d4 1/4;", "note c4 3/8; note d4 1/8;", "1:12", 1,
          "`>` begins no word of the language",
-         "`>` has no meaning here: a dotted rhythm is its lengths, `note c4 3/8; note d4 1/8;`, and an "
-         "accent or a crescendo a list, `loud [100, 64] { .. }`"),
+         "`>` has no meaning here, and `;` ends a statement: a dotted rhythm is its lengths, `note c4 3/8; note d4 "
+         "1/8;`, and an accent or a crescendo a list, `loud [100, 64] { .. }`"),
     Slip("note c4 1/4; > note c4 1/4;", "note c4 1/4; note c5 1/4;", "1:14", 1,
          "`>` begins no word of the language",
          "`>` has no meaning here: each pitch has its octave, as `c5` above `c4`, and a chord commas, `note "
@@ -435,7 +436,7 @@ SLIPS = (
          "text stands behind `#`"),
     Slip("note c4 1/4, amp: 1;", "volume 80 { note c4 1/4; }", "1:12", 3,
          "here a `;` is expected, and there is `,`",
-         "the velocity is that of a block: write `volume 80 { note c4 1/4; }`"),
+         "the velocity is that of a block, as in `volume 80 { note c4 1/4; }`"),
     Slip("d1 $ sound \"bd\"", "channel 9 { note c2 1/4; }", "1:1", 3,
          "`d1` begins no statement",
          "a statement begins with a word as `note`, `rest`, `repeat` or `do`, and other text stands behind `#`"),
@@ -444,7 +445,7 @@ SLIPS = (
          "silence is `skip;`, and a tie is one note with both lengths in one, as `note c4 5/8;`"),
     Slip("note c4(3,8) 1/8;", "note c4 1/8; rest 1/4; note c4 1/8; rest 1/4; note c4 1/8; rest 1/8;", "1:8", 3,
          "here a `,` or a length is expected, and there is `(`",
-         "a pitch has its length behind it, and a rhythm is its notes and rests: write `note c4 1/4; rest 1/4;`"),
+         "a pitch has its length behind it, and a rhythm is its notes and rests, as in `note c4 1/4; rest 1/4;`"),
     Slip("note c4. 1/4;", "gate 50 { note c4 1/4; }", "1:8", 1,
          "`.` begins no word of the language",
          "a pitch has no dot: staccato is `gate 50 { note c4 1/4; }`, and a dotted quarter has the length `3/8`"),
@@ -456,7 +457,7 @@ SLIPS = (
          "`pitchbend` is `bend` here: write `bend 2000;`"),
     Slip("control 0x07 100;", "control 7 100;", "1:9", 2,
          "`0x07` is no number",
-         "numbers are decimal: write `7`"),
+         "numbers are decimal: write `7` in place of `0x07`"),
     Slip("note a9 1/4;", "note g9 1/4;", "1:6", 7,
          "`a9` is out of its range",
          "named pitches go from `cb0`, key 11, to `g9`, key 127, the greatest: write one of them"),

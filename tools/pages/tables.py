@@ -7,11 +7,13 @@ from typing import Callable, Iterator, Mapping
 
 from formula_score.faults import FAULTS, FILE_FAULTS, RECORD_FAULTS, Fault
 from formula_score.index import INDEX
+from tests.hundreds import NAMES, hundred
 from tests.slips import SLIPS
 
 FAULTS_FROM = "python/formula_score/faults.py"
 INDEX_FROM = "python/formula_score/index.py"
 SLIPS_FROM = "python/tests/slips.py"
+HUNDREDS_FROM = "python/tests/fresh"
 
 
 class NotWritten(Exception):
@@ -69,11 +71,20 @@ def slips() -> Iterator[str]:
         yield f"| {code(slip.wrote)} | {slip.place}, {slip.fault} | {cell(slip.heading)} | {cell(slip.cure)} |"
 
 
+def hundreds() -> Iterator[str]:
+    """Slips that were written before their messages were seen, with what was meant."""
+    yield "| You wrote | What was meant | What to do |"
+    yield "|---|---|---|"
+    for name in NAMES:
+        for slip in hundred(name):
+            yield f"| {code(slip.text.strip())} | {cell(slip.meant)} | {cell(slip.told)} |"
+
+
 PAGES: Mapping[str, Mapping[str, tuple[str, Callable[[], Iterator[str]]]]] = {
     "LANGUAGE.md": {"words": (INDEX_FROM, words), "faults": (FAULTS_FROM, faults)},
     "MIDI_FILE.md": {"faults": (FAULTS_FROM, file_faults)},
     "SCHEDULER.md": {"faults": (FAULTS_FROM, record_faults)},
-    "SLIPS.md": {"slips": (SLIPS_FROM, slips)},
+    "SLIPS.md": {"slips": (SLIPS_FROM, slips), "hundreds": (HUNDREDS_FROM, hundreds)},
 }
 
 #: Files that are copies of others.

@@ -9,7 +9,7 @@ from ..index import musical
 from ..midi import DRUM_CHANNEL, DYNAMICS, INSTRUMENTS
 from ..nodes import KEYWORDS
 from ..pitch import Pitch
-from ..slips.statement import FORMS
+from ..slips.forms import FORMS
 from ..slips.tokens import INDEX, NAME, NUMBER, PITCH, REGISTER, Token, tokens
 from .names import Use, definition
 

@@ -3,14 +3,19 @@
 from __future__ import annotations
 
 import re
-from typing import NamedTuple, Optional
+from typing import Callable, NamedTuple, Optional
 
 from ..nodes import KEYWORDS
 from .bytes import at_byte, at_number
+from .calls import called
+from .checking import says_a_change, stands
+from .cures import Computed, Known
+from .forms import FORMS
 from .places import AT
 from .ranges import known_name, no_ticks, out_of_range, unknown_name
+from .smallest import meant, rearranged, smallest
 from .spot import Spot
-from .statement import FORMS, at_statement
+from .statement import at_statement
 from .tokens import END, INDEX, NAME, NUMBER, PITCH, REGISTER, kind_of
 
 __all__ = ["Told", "told"]
@@ -36,22 +41,43 @@ def told(data: bytes, line: int, column: int, number: int) -> Optional[Told]:
         found = _BY_NUMBER[number](spot)
         return Told(*found, place) if found else None
     if number == 1:
-        return Told(_heading_of_byte(spot), _word_in_parts(spot) or at_byte(spot) or _form(spot) or _ANY_BYTE, place)
+        return Told(_heading_of_byte(spot), _checked(spot, _word_in_parts, at_byte) or _form(spot) or _ANY_BYTE, place)
     if number == 2:
-        return Told(_heading_of_number(spot), at_number(spot) or "", place)
+        return Told(_heading_of_number(spot), _checked(spot, at_number), place)
     rule = at_statement if spot.where == "statement" else AT[spot.where]
-    cure = _doubled(spot) or _word_in_parts(spot) or rule(spot) or _unopened(spot)
+    cure = _checked(spot, _commented, _doubled, _word_in_parts, called, rule, _unopened)
     return Told(_heading(spot), cure or _form(spot), spot.last.end if spot.is_over_line else place)
 
 
+def _checked(spot: Spot, *rules: Rule) -> str:
+    """The cure of the first of these rules that has one which stands, else the smallest change; '' for none."""
+    for rule in rules:
+        cure = rule(spot)
+        if cure and stands(spot, cure):
+            if isinstance(cure, (Computed, Known)):
+                return cure
+            return (rearranged(spot) if says_a_change(spot, cure) else meant(spot)) or cure
+    return smallest(spot) or ""
+
+
+#: What is told of a place, by what stands there.
+Rule = Callable[[Spot], Optional[str]]
 _ANY_BYTE = "take it away, or put it and what follows behind `#`"
 _BY_NUMBER = {5: known_name, 6: unknown_name, 7: out_of_range, 8: no_ticks}
+
+
+def _commented(spot: Spot) -> Optional[str]:
+    """What to do where a `#` before a number makes a comment of it."""
+    found = re.match(r" ?#[0-9][^\n]*\n", spot.source[spot.last.end:spot.place])
+    return Known("a `#` begins a comment, which goes to the end of its line: take the `#` away") if found else None
 
 
 def _doubled(spot: Spot) -> Optional[str]:
     """What to do where a word of the language, a comma or a bracket stands twice."""
     here = spot.here
     is_written = here.kind == PITCH or here.kind == NUMBER and spot.next().text != "/"
+    if spot.where in ("entry", "entries", "pitch") and here.kind in (",", NUMBER):
+        return None
     if here.text == spot.last.text and (here.kind in KEYWORDS or here.text in (",", "[") or is_written) and (
             not spot.is_over_line):
         return f"one `{here.text}` is enough: take this one away"
@@ -75,7 +101,7 @@ def _word_in_parts(spot: Spot) -> Optional[str]:
     if word[1:] != word[1:].lower() and (begun < spot.place or word[:1].islower()):
         lower = word.lower()
         if lower in KEYWORDS or lower in spot.names or kind_of(lower) in (PITCH, REGISTER, INDEX):
-            return f"words have small letters alone: write `{lower}`"
+            return Known(f"words have small letters alone: write `{lower}`")
         if begun < spot.place:
             return f"words have small letters alone: write `{lower}` in place of `{word}`"
     parts = re.match(r"([a-z][a-z0-9_]*) ([a-z0-9_]+)", spot.rest)

@@ -6,12 +6,14 @@ import re
 from typing import Optional
 
 from ..midi import DYNAMICS
-from .common import FUNCTIONS, computed
+from .common import FUNCTIONS, computed, open_block
+from .cures import Computed
 from .foreign import length_at, sum_at
+from .forms import FORMS
+from .indexed import by_index
 from .near import near
 from .reading import STATEMENTS
 from .spot import Spot, is_statement
-from .statement import FORMS, by_index, open_block
 from .tokens import END, INDEX, NAME, NUMBER, PITCH, REGISTER
 from .values import at_operator
 
@@ -59,7 +61,7 @@ def at_block(spot: Spot) -> Optional[str]:
     if head in ("volume", "gate", "channel") and spot.last.kind == NUMBER and here.kind in ("+", "*", "/", "-", "("):
         if head == "volume" and here.kind == "-":
             return by_index("crescendo")
-        return f"the number of `{head}` is written, and never computed: write `{FORMS[head]}`"
+        return f"the number of `{head}` is written, and never computed, as in `{FORMS[head]}`"
     if head == "volume" and here.kind == "to":
         return by_index("crescendo")
     if head == "warp" and here.kind == "," and spot.next().kind == NAME:
@@ -77,11 +79,14 @@ def at_block(spot: Spot) -> Optional[str]:
 def _whole(spot: Spot) -> str:
     """A number with a decimal point, where a whole one stands."""
     found = re.match(r"[0-9]+[.,][0-9]+", spot.source[spot.last.start:])
-    value = float(found[0].replace(",", ".")) if found else 1.0
+    wrote = found[0] if found else "1.0"
+    value = float(wrote.replace(",", "."))
     if spot.head in ("gate", "artic") and 0 < value <= 4:
-        return f"numbers have no decimal point, and these are in percent: write `{round(100 * value)}`"
+        return Computed("numbers have no decimal point, and these are in percent: write "
+                        f"`{round(100 * value)}` in place of `{wrote}`")
     if spot.head in ("volume", "loud") and 0 < value <= 1:
-        return f"numbers have no decimal point, and a velocity goes from 1 to 127: write `{max(1, round(127 * value))}`"
+        return Computed("numbers have no decimal point, and a velocity goes from 1 to 127: write "
+                        f"`{max(1, round(127 * value))}` in place of `{wrote}`")
     return "numbers have no decimal point: write a whole number"
 
 
@@ -89,10 +94,14 @@ def _phrase_block(spot: Spot, shown: str) -> Optional[str]:
     here, name = spot.here, spot.last.text
     if here.kind == "=" or here.text == ":":
         return f"the block of a phrase stands directly behind its name: write `phrase {name} {{ .. }}`"
+    if here.kind == "(" and is_statement(spot.next()):
+        return f"the block stands between `{{` and `}}`: write `{shown} {{ .. }}`"
     if here.kind == "(":
         return f"a phrase has no arguments, and a register hands a value over: write `phrase {name} {{ .. }}`"
     if here.kind == "-":
         return "names have `_` in place of `-`"
+    if here.text == name:
+        return f"one `{name}` is enough: take this one away"
     if here.kind == NUMBER or here.kind == NAME and spot.next().text == "{":
         return f"a name is one word: write `phrase {name}_{here.text} {{ .. }}`"
     if here.text in ("'", "!", "."):
@@ -167,7 +176,7 @@ def at_name(spot: Spot) -> Optional[str]:
         return f"`do` plays a phrase by its name, and `{here.text}` stands by itself: take `do` away"
     if here.text.isalpha():
         return f"a name is no keyword, and `{here.text}` is one: give it another name"
-    return f"a name is missing: write `{form}`"
+    return f"a name is missing behind `{head}`, as in `{form}`"
 
 
 def at_new_name(spot: Spot) -> Optional[str]:
@@ -186,7 +195,7 @@ def at_new_name(spot: Spot) -> Optional[str]:
     if here.text in ('"', "'"):
         return f"a name has no quotes: write `{form}`"
     if here.text in ("{", "=", "flat", "slope"):
-        return f"a name is missing: write `{form}`"
+        return f"a name is missing behind `{head}`, as in `{form}`"
     return f"a name stands behind `{head}`: write `{form}`"
 
 
@@ -228,7 +237,7 @@ def at_setting(spot: Spot) -> Optional[str]:
         return f"a gate is in percent of the length, and {number} is {here.text}: write `gate {number} {{ .. }}`"
     if here.kind in ("(", REGISTER, INDEX, *FUNCTIONS):
         more = "; for a velocity from note to note, a `loud` list" if head == "volume" else ""
-        return f"the number of `{head}` is written, and never computed: write `{FORMS[head]}`{more}"
+        return f"the number of `{head}` is written, and never computed, as in `{FORMS[head]}`{more}"
     if here.kind == "-":
         return f"{_RANGE_OF[head]}: write `{FORMS[head]}`"
     if here.kind in ("=", "+") or here.text == ":":
@@ -237,7 +246,7 @@ def at_setting(spot: Spot) -> Optional[str]:
     if here.text == "[":
         word = {"volume": "loud", "gate": "artic"}.get(head)
         if word:
-            return f"a list is `{word}`: write `{FORMS[word]}`"
+            return f"a list is `{word}`: write `{word}` in place of `{head}`"
         return f"one channel holds for a block: write `{FORMS[head]}`"
     return f"a number and a block stand behind `{head}`: write `{FORMS[head]}`"
 
@@ -245,6 +254,10 @@ def at_setting(spot: Spot) -> Optional[str]:
 def at_list(spot: Spot) -> Optional[str]:
     """Behind `rhythm`, `artic` or `loud`."""
     here, head = spot.here, spot.head
+    bare = re.match(r"([(<{]?)\s*([0-9/ ]+(?:,[0-9/ ]+)*?)\s*([)>}]?)(?=\s*\{)", spot.rest)
+    if bare and (head == "rhythm" or "," in bare[2]) and bool(bare[1]) == bool(bare[3]):
+        end = spot.place + len(bare[0])
+        return spot.write("a list stands in brackets", spot.last.end, end, f" [{bare[2].strip()}]")
     if here.kind == NUMBER:
         other = {"loud": "volume", "artic": "gate"}.get(head)
         if other and spot.next().text == "{":
@@ -272,8 +285,8 @@ def at_entry(spot: Spot) -> Optional[str]:
         low, high = (1, 127) if head == "loud" else (0, 400)
         return f"the entries of `{head}` go from {low} to {high}: write `{FORMS[head]}`"
     if here.kind in ("(", REGISTER, INDEX, *FUNCTIONS):
-        return f"the entries of a list are written numbers, and never computed: write `{FORMS[head]}`"
-    return f"a list has numbers alone: write `{FORMS[head]}`"
+        return f"the entries of a list are written numbers, and never computed, as in `{FORMS[head]}`"
+    return f"a list has numbers alone, as in `{FORMS[head]}`"
 
 
 def at_entries(spot: Spot) -> Optional[str]:
@@ -289,7 +302,10 @@ def at_entries(spot: Spot) -> Optional[str]:
     if here.kind == "%":
         return "percentages are numbers alone: take the `%` away"
     if here.kind in (NUMBER, "ticks"):
-        return f"commas stand between the entries of a list: write `,` behind `{spot.last.text}`"
+        why = "commas stand between the entries of a list"
+        if here.text == spot.last.text and head != "rhythm":
+            return f"{why}: write `,` behind `{spot.last.text}`, or take one of the two away"
+        return f"{why}: write `,` behind `{spot.last.text}`"
     if re.match(r"[;:|<>.&_!?]\s*(?:[0-9]|ticks\b)", spot.rest) and not re.match(r"\.[0-9]", spot.rest):
         return f"commas stand between the entries of a list: write `,` in place of the `{here.text}`"
     if here.kind in ("{", ";", ")", "}") or is_statement(here) or here.kind == END:
@@ -298,7 +314,9 @@ def at_entries(spot: Spot) -> Optional[str]:
     if re.match(r"\.[0-9]", spot.rest):
         return _whole(spot)
     if here.kind in ("-", "to") or here.text == ".":
-        return f"a list has each entry for itself: write `{FORMS[head]}`"
+        return f"a list has each entry for itself, as in `{FORMS[head]}`"
+    if here.kind == "/" and spot.next().kind == NUMBER:
+        return f"the entries of `{head}` are whole numbers, as in `{FORMS[head]}`, and a list of lengths is `rhythm`"
     if here.kind in ("*", "+", "/"):
-        return f"the entries of a list are written, and never computed: write `{FORMS[head]}`"
+        return f"the entries of a list are written, and never computed, as in `{FORMS[head]}`"
     return None

@@ -9,13 +9,15 @@ from ..index import musical
 from ..midi import DYNAMICS
 from ..nodes import KEYWORDS
 from .common import FUNCTIONS
+from .cures import Computed, Known
 from .foreign import length_at, pitch_at, sum_at
+from .indexed import by_index
 from .near import near
 from .pitches import is_chord_name
 from .places import AT
 from .reading import STATEMENTS
 from .spot import Spot
-from .statement import at_statement, by_index, letters
+from .statement import at_statement, letters
 from .tokens import INDEX, NUMBER, PITCH, REGISTER, kind_of
 
 _TYPED = {"–": "-", "—": "-", "−": "-", "×": "*", "÷": "/", "⁄": "/", "；": ";", "，": ",", "｛": "{", "｝": "}", "（": "(",
@@ -63,7 +65,7 @@ def at_byte(spot: Spot) -> Optional[str]:
     if first in "♯♭♮𝄪𝄫":
         return "a sharp is `s`, as in `fs4`, a flat `b`, as in `bb4`, and a natural nothing: write `fs4`"
     if not first.isascii() and first.isalpha():
-        return f"words have the letters a to z alone: take the `{first}` away, or put it behind `#`"
+        return Known(f"words have the letters a to z alone: take the `{first}` away, or put it behind `#`")
     return None
 
 
@@ -93,19 +95,20 @@ def _capital(spot: Spot) -> Optional[str]:
         if spot.where == "statement":
             if not re.match(r"[A-H](?:[#b]|is|es)?(?:[0-9]|\s+[0-9])", spot.rest):
                 return by_index(lower) or letters(spot)
-            return f"a note begins with `note`, and pitches have small letters: write `note {meant.write} 1/4;`"
+            return spot.write("a note begins with `note`, and pitches have small letters", spot.place,
+                              spot.place + len(meant.wrote.encode()), f"note {meant.write}", spot.place)
         if spot.where in ("length", "end") and spot.head in ("note", "play"):
             return ("words have small letters alone, and commas stand between the pitches of a chord: write `, "
                     f"{meant.write}`")
         write = meant.write
         return spot.write(meant.why, spot.place, spot.place + len(meant.wrote.encode()), write)
     if lower in KEYWORDS or kind_of(lower) == PITCH or lower in spot.names:
-        return f"words have small letters alone: write `{lower}`"
+        return Known(f"words have small letters alone: write `{lower}`")
     line = by_index(lower) if spot.where == "statement" or lower in DYNAMICS else None
     if line:
         return line
     if spot.where == "pitch" and is_chord_name(spot.rest):
-        return "a chord is written by its pitches: write `note c4, e4, g4 1/4;`"
+        return Known("a chord is written by its pitches, as in `note c4, e4, g4 1/4;`")
     if spot.where == "statement" and letters(spot):
         return letters(spot)
     nearest = near(lower, [*STATEMENTS, "shape", "phrase", *spot.names]) if spot.where == "statement" else []
@@ -161,6 +164,8 @@ def _backslash(spot: Spot) -> Optional[str]:
 
 
 def _mark_of_statement(spot: Spot, first: str) -> Optional[str]:
+    if first == "&":
+        return Known("what sounds together is a chord, `note c4, e4 1/2;`, or the branches of a `par`")
     if spot.rest.startswith(("<<", ">>")):
         return by_index("voice")
     if first == "<":
@@ -185,7 +190,7 @@ def _mark(spot: Spot, first: str) -> Optional[str]:
     if first == "|":
         if re.match(r"\|+:|:\|", rest):
             return by_index("volta")
-        if spot.where == "operator" or spot.head in ("if", "set"):
+        if spot.where in ("operator", "slash") or spot.head in ("if", "set"):
             return None
         if spot.where == "length" and pitch_at(spot.text[1:].lstrip()):
             return None
@@ -194,6 +199,9 @@ def _mark(spot: Spot, first: str) -> Optional[str]:
         bars = re.match(r"\|[]|:]?", rest)
         line = musical("bar")
         note = line.note.replace("*", "") if line else ""
+        if spot.where == "end":
+            return (f"a statement ends with `;`: write `;` in place of the `{bars[0] if bars else '|'}`; a bar line is "
+                    f"{note}")
         return f"take the `{bars[0] if bars else '|'}` away: a bar line is {note}"
     if rest.startswith(":|"):
         return by_index("volta")
@@ -220,7 +228,7 @@ def at_number(spot: Spot) -> Optional[str]:
     digits, word = (found[1], found[2] or "") if found else ("", "")
     hexadecimal = re.match(r"0x([0-9a-f]{1,6})(?![a-z0-9_])", spot.rest)
     if hexadecimal:
-        return f"numbers are decimal: write `{int(hexadecimal[1], 16)}`"
+        return Computed(f"numbers are decimal: write `{int(hexadecimal[1], 16)}` in place of `{hexadecimal[0]}`")
     if not word:
         return f"a number has at most nine digits, and this one {len(digits)}: write a smaller one"
     if spot.where in ("length", "denominator"):
@@ -252,6 +260,12 @@ def at_number(spot: Spot) -> Optional[str]:
         return f"a blank stands between a number and a word: write `{digits} {word}`"
     if spot.where in ("length", "denominator") and word in ("ms", "s", "sec", "seconds"):
         return "a length is a part of a whole note, and no time: at 120 a minute a quarter, `1/4`, is half a second"
-    if word in ("ms", "s", "sec", "bpm", "hz", "st", "cents", "percent", "db"):
-        return f"numbers have no unit: write `{digits}`"
-    return f"a number has digits alone: write `{digits}`, or a blank behind it"
+    if word == "bpm" and spot.where == "stretch" and 2 <= int(digits[:6]) <= 1000:
+        return spot.write("a stretch is 120,000 divided by the tempo", spot.place, spot.place + len(digits + word),
+                          str(round(120_000 / int(digits))))
+    if word == "bpm":
+        return by_index("tempo", digits)
+    if word in ("percent", "pct") and spot.head in ("gate", "artic"):
+        return f"percentages are numbers alone: write `{digits}` in place of `{digits}{word}`"
+    return (f"a number has digits alone, and a blank stands before a word: take `{word}` away, or write a blank before "
+            "it")

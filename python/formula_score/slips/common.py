@@ -6,6 +6,7 @@ import re
 from typing import Optional
 
 from .spot import Spot
+from .tokens import tokens
 
 #: The words of functions.
 FUNCTIONS = ("pick", "min", "max", "less", "same")
@@ -44,3 +45,15 @@ def parenthesized(spot: Spot, start: int, before: str = "") -> str:
     inner = computed(spot.source[start:start + 200])
     why = "what is computed stands in parentheses" + (f", behind `{before.strip()}`" if before else "")
     return spot.write(why, start, start + len(inner), f"{before}({inner})") if inner else why
+
+
+def open_block(spot: Spot) -> str:
+    """The brace that is open longest, for a person."""
+    block = spot.reading.blocks[0]
+    return f"the `{{` at {spot.spelled(block.token.start)}, behind `{block.word}`"
+
+
+def lacks_brace(spot: Spot) -> bool:
+    """Whether the whole text has more `{` than `}`."""
+    each = [token.text for token in tokens(spot.source)]
+    return each.count("{") > each.count("}")

@@ -5,22 +5,31 @@ from __future__ import annotations
 import re
 from typing import Callable, Optional
 
-from .common import ended, insert, parenthesized, statement_text, token_before
+from ..index import musical
+from .checking import stands
+from .common import ended, open_block, parenthesized, statement_text, token_before
+from .cures import Computed, Known
 from .foreign import length_at, pitch_at, sum_at
+from .forms import FORMS
+from .indexed import by_index
 from .marks import mark_behind
 from .near import near
 from .pitches import chord_plus
 from .reading import STATEMENTS
 from .shapes import end_of_shape
 from .spot import Spot, is_statement
-from .statement import FORMS, by_index, open_block
-from .tokens import END, NAME, NUMBER, OTHER, PITCH
+from .tokens import END, NAME, NUMBER, PITCH, Token
 from .values import at_operator
 
 
 def at_end(spot: Spot) -> Optional[str]:
     """What to do where a `;` is expected."""
     here, head = spot.here, spot.head
+    if here.text in (",", ":", ".", "|") and is_statement(spot.next()) and head not in ("note", "rest", "shape"):
+        return f"each statement ends with `;`: write `;` in place of the `{here.text}`"
+    between = _before_statement(spot)
+    if between and stands(spot, between):
+        return between
     special = _END.get(head)
     found = special(spot) if special else None
     if found:
@@ -49,6 +58,21 @@ def at_end(spot: Spot) -> Optional[str]:
     return None
 
 
+def _before_statement(spot: Spot) -> Optional[str]:
+    """What to do about marks or a word that part a statement from the next one in its line."""
+    count = next((at for at in (1, 2) if is_statement(spot.next(at))), 0)
+    parts = spot.after[:count]
+    if not count or spot.is_over_line or "\n" in spot.source[spot.place:spot.next(count).start]:
+        return None
+    if not all(each.text in _BETWEEN or each.kind == NAME and not musical(each.text) for each in parts):
+        return None
+    if any(pitch_at(each.text) or each.text in spot.names or near(each.text, STATEMENTS) for each in parts):
+        return None
+    wrote = spot.source[spot.place:parts[-1].end]
+    return f"each statement ends with `;`: write `;` in place of `{wrote}`"
+
+
+_BETWEEN = ("-", "/", "+", ",", "&", "then", "and", "=", "*", "%", "]", ")")
 _ROUND = ("volume", "gate", "channel")
 _LOUDNESS = ("amp", "amplitude", "gain", "loudness", "v", "vel", "velocity")
 
@@ -56,7 +80,7 @@ _LOUDNESS = ("amp", "amplitude", "gain", "loudness", "v", "vel", "velocity")
 def _block_round(spot: Spot) -> Optional[str]:
     """What to do about the word of a block that stands behind what it should hold."""
     behind = spot.after[1:4]
-    values = [each.text for each in behind if each.kind == NUMBER]
+    values = [each.text for each in behind if each.kind == (NAME if spot.here.kind == "warp" else NUMBER)]
     if any(each.text == "{" for each in behind) or not values:
         return None
     word = spot.here.kind
@@ -72,22 +96,22 @@ def _end_of_sound(spot: Spot) -> Optional[str]:
         begun = spot.statement[[each.start for each in spot.statement].index(slash) - 1].start
     if begun is not None and not spot.is_over_line:
         text = spot.source[begun:begun + 200].lower()
-        if re.match(r"\.(?:\s*\Z|\s+[a-z])", spot.rest):
+        if re.match(r"\.(?:\s*\Z|\s+[a-z}])", spot.rest):
             length = length_at(text)
             return f"a statement ends with `;`: {ended(spot)}" + (
                 f", or `{length.write}` for the length if it is dotted" if length else "")
         for meant in (sum_at(text), length_at(text)):
             if meant and begun + len(meant.wrote) > spot.place:
                 return spot.write(meant.why, begun, begun + len(meant.wrote), meant.write)
-    if here.kind in _ROUND and not spot.is_over_line and _block_round(spot):
+    if here.kind in (*_ROUND, "warp") and not spot.is_over_line and _block_round(spot):
         return _block_round(spot)
     if spot.is_over_line:
         return None
     if here.kind in ("loud", "volume") and spot.next().kind in (";", "}", END):
         return by_index("dynamics")
     if here.text in ("<", ">"):
-        return (f"`{here.text}` has no meaning here: a dotted rhythm is its lengths, `note c4 3/8; note d4 1/8;`, and "
-                "an accent or a crescendo a list, `loud [100, 64] { .. }`")
+        return Known(f"`{here.text}` has no meaning here, and `;` ends a statement: a dotted rhythm is its lengths, "
+                     "`note c4 3/8; note d4 1/8;`, and an accent or a crescendo a list, `loud [100, 64] { .. }`")
     if here.text in ("+", "&", "and", "then", "|", "-") and is_statement(spot.next()):
         return f"each statement ends with `;`: {ended(spot)}, and take the `{here.text}` away"
     if re.match(r"x ?[0-9]+(?![a-z0-9_])|(?:twice|times)\b", spot.rest):
@@ -109,27 +133,43 @@ def _end_of_sound(spot: Spot) -> Optional[str]:
         after = spot.next()
         if after.kind == NAME and not pitch_at(spot.source[after.start:]):
             if after.text in _LOUDNESS:
-                return f"the velocity is that of a block: write `volume 80 {{ {statement_text(spot)} }}`"
+                return f"the velocity is that of a block, as in `volume 80 {{ {statement_text(spot)} }}`"
             return f"a {head} has one length, and nothing behind it but `;`"
         if after.kind in (PITCH, NAME) and head == "note":
             found = pitch_at(spot.source[after.start:])
             pitch = found.write if found and found.write else after.text
-            return spot.write("each note is a statement of its own", spot.last.end,
-                              after.start + len(found.wrote if found else after.text), f"; note {pitch}")
+            end = after.start + len(found.wrote if found else after.text)
+            apart = spot.write("each note is a statement of its own", spot.last.end, end, f"; note {pitch}")
+            chord = re.match(r"note ([^;]*?) ([0-9]+/[0-9]+|ticks [0-9]+);", statement_text(spot))
+            return Computed(f"{apart}, or `note {chord[1]}, {pitch} {chord[2]};` for a chord") if chord else apart
         if after.kind == "rest" or after.kind == "note":
             return "each statement ends with `;`: write `;` in place of the `,`"
         if after.kind == NUMBER and head == "note" and spot.next(2).kind != "/" and 1 <= int(after.text) <= 127:
             return f"the velocity is that of a block: write `volume {after.text} {{ {statement_text(spot)} }}`"
         if after.kind == NUMBER:
-            return f"a {head} has one length, and `;` behind it: take the second one away"
+            return _two_lengths(spot, after)
         return f"a {head} has one length, and `;` behind it: write `;` in place of the `,`"
     if here.kind in (NUMBER, "ticks"):
         if here.kind == "ticks" or spot.next().kind == "/":
-            return f"a {head} has one length, and `;` behind it: take the second one away"
+            return _two_lengths(spot, here)
         if head == "note" and 1 <= int(here.text) <= 127:
             return f"the velocity is that of a block: write `volume {here.text} {{ {statement_text(spot)} }}`"
         return f"a {head} has one length, and `;` behind it: take the `{here.text}` away"
     return by_index("slur") if here.kind == "(" else None
+
+
+def _two_lengths(spot: Spot, second: Token) -> str:
+    """What to do about a second length, which begins with this token."""
+    why = f"a {spot.head} has one length, and `;` behind it"
+    slash = token_before(spot, "/")
+    found = re.match(r"([0-9]+) ?/ ?([0-9]+)", spot.source[second.start:])
+    if slash is None or found is None or spot.statement[-2].start != slash or spot.statement[-3].kind != NUMBER:
+        return f"{why}: take the second one away"
+    first = spot.statement[-3]
+    both = sum_at(f"{first.text}/{spot.last.text}+{found[1]}/{found[2]}")
+    text = spot.mended(first.start, second.start + len(found[0]), both.write) if both else None
+    return Computed(f"{why}: write `{text}` for both together, or take the second one away") if text else (
+        f"{why}: take the second one away")
 
 
 def _end_of_play(spot: Spot) -> Optional[str]:

@@ -17,7 +17,7 @@ _ACCIDENTALS = {
 }
 _SYLLABLES = {"do": "c", "re": "d", "mi": "e", "fa": "f", "sol": "g", "la": "a", "si": "b", "ti": "b"}
 _MARKS = "|".join(sorted((re.escape(each) for each in _ACCIDENTALS if each), key=len, reverse=True))
-_PITCH = re.compile(rf"([A-Ha-h])(?:[-_]?({_MARKS}))?_?(?:([0-9]+)|('+|,+|’+)|)(?![A-Za-z0-9'’])")
+_PITCH = re.compile(rf"([A-Ha-h])(?:[-_]?({_MARKS}))?[-_]?(?:([0-9]+)|('+|,+|’+)|)(?![A-Za-z0-9'’])")
 
 
 class Foreign(NamedTuple):
@@ -99,6 +99,8 @@ def _why_pitch(letter: str, mark: str, digits: Optional[str], marks: str, is_dou
         return f"a `#` begins a comment, and {named}" if "#" in mark else named
     if letter.isupper():
         return "words have small letters alone"
+    if digits and len(digits) == 1:
+        return "no mark stands within a pitch"
     if not digits:
         return "a pitch has its octave, and `c4` is middle C"
     return "a pitch has one digit of octave, and `g9` is the highest"

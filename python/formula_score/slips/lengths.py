@@ -7,12 +7,13 @@ from typing import Optional
 
 from ..midi import DYNAMICS
 from .common import FUNCTIONS, insert, parenthesized, statement_text
+from .cures import Computed
 from .foreign import length_at, pitch_at, sum_at
+from .indexed import by_index
 from .marks import mark_behind, sounding
 from .near import near
 from .pitches import all_commas, chord_plus
 from .spot import Spot, is_statement
-from .statement import by_index
 from .tokens import END, INDEX, NAME, NUMBER, OTHER, PITCH, REGISTER
 
 #: Words that others write before a length.
@@ -56,7 +57,7 @@ def at_length(spot: Spot) -> Optional[str]:
 def _without_number(spot: Spot) -> str:
     """A length that begins with its `/`."""
     digits = spot.next().text
-    if re.fullmatch(r"[1-9](?:1|2|4|8|16|32|64)", digits):
+    if re.fullmatch(r"[1-9](?:1|2|4|8|16|32|64)", digits) and digits not in ("12", "24", "32", "48", "64"):
         return spot.write("a length has a number before its `/` too", spot.place, spot.next().end,
                           f"{digits[0]}/{digits[1:]}")
     return spot.write("a length has a number before its `/` too", spot.place, spot.place, "1")
@@ -73,7 +74,7 @@ def length_in_parentheses(spot: Spot) -> str:
         return spot.write("a written length has no parentheses", spot.place, spot.place + len(found[0]),
                           meant.write if meant else found[1])
     if re.match(r"\(\s*[^(),;{}]*,", spot.rest):
-        return "a pitch has its length behind it, and a rhythm is its notes and rests: write `note c4 1/4; rest 1/4;`"
+        return "a pitch has its length behind it, and a rhythm is its notes and rests, as in `note c4 1/4; rest 1/4;`"
     added = sum_at(re.sub(r"^\(\s*", "", spot.rest))
     close = spot.rest.find(")")
     if added and close > 0 and len(added.wrote) <= close:
@@ -88,7 +89,7 @@ def _behind_pitch(spot: Spot) -> Optional[str]:
     if spot.source[spot.last.end:spot.last.end + 1] == "#" and spot.last.kind == PITCH:
         meant = pitch_at(f"{pitch}#")
         if meant:
-            return f"{meant.why}: write `{meant.write}` in place of `{meant.wrote}`"
+            return Computed(f"{meant.why}: write `{meant.write}` in place of `{meant.wrote}`")
     if here.kind in (";", "}", END, "rest", "note", "play", "do", "repeat", "par", "rhythm") or (
             is_statement(here) and spot.is_over_line):
         if spot.is_inside("rhythm"):
@@ -109,13 +110,13 @@ def _behind_pitch(spot: Spot) -> Optional[str]:
         end = spot.place + len((meant.wrote if meant else here.text).encode())
         text = all_commas(spot)
         if text:
-            return f"commas stand between the pitches of a chord: write `{text}`"
+            return Computed(f"commas stand between the pitches of a chord: write `{text}`")
         return spot.write("commas stand between the pitches of a chord", spot.last.end, end,
                           f", {meant.write if meant and meant.write else here.text}")
     if here.text in ("♯", "♭", "♮") or here.kind == OTHER and spot.text[:1] in "♯♭♮":
         meant = pitch_at(f"{pitch}{spot.text[:1]}")
         if meant:
-            return f"{meant.why}: write `{meant.write}` in place of `{meant.wrote}`"
+            return Computed(f"{meant.why}: write `{meant.write}` in place of `{meant.wrote}`")
     if here.kind == "/" and spot.statement[-2].text == "key" and spot.next(2).kind in (";", "}", END):
         return "a number is missing behind `key`: write `note key 60 1/4;`"
     signed = re.match(r"[-+*=]\s*([0-9]+ ?/ ?[0-9]+|ticks [0-9]+)\s*[;}]", spot.rest)
@@ -139,7 +140,7 @@ def _behind_pitch(spot: Spot) -> Optional[str]:
         if pitch_at(re.sub(r"^[-/&|^.]+\s*", "", spot.text)):
             text = all_commas(spot)
             why = "commas stand between the pitches of a chord"
-            return f"{why}: write `{text}`" if text else spot.write(why, spot.place, spot.place + 1, ",")
+            return Computed(f"{why}: write `{text}`") if text else spot.write(why, spot.place, spot.place + 1, ",")
         if here.kind == "-" and spot.next().kind == NUMBER:
             return "a computed pitch is `key` and parentheses: write `note key (60 - 2) 1/4;`"
     if here.text == "'" or here.text == "’":
@@ -207,21 +208,31 @@ def _length_of_rhythm(spot: Spot) -> Optional[str]:
                 "`rhythm [1/4, 1/8] { play c4; skip; }`")
     if here.kind in ("(", REGISTER, INDEX, *FUNCTIONS, "pick"):
         return "the lengths of a rhythm are written, and never computed: write `rhythm [1/4, 1/8] { .. }`"
-    return "a rhythm has lengths alone: write `rhythm [1/4, 1/8] { .. }`"
+    if here.kind == "/" and spot.next().kind == NUMBER:
+        return _without_number(spot)
+    return "a rhythm has lengths alone, as in `rhythm [1/4, 1/8] { .. }`"
 
 
 def _length_of_part(spot: Spot) -> str:
     kind = spot.last.text
     form = {"flat": "flat 1/1 by 1000", "slope": "slope 1/1 by 1000 to 2000"}.get(kind, f"{kind} 1/8")
     if spot.here.kind in ("(", REGISTER, INDEX, *FUNCTIONS):
-        return f"the length of a part is written, and never computed: write `{form}`"
-    return f"a length stands behind `{kind}`: write `{form}`"
+        return f"the length of a part is written, and never computed, as in `{form}`"
+    return f"a length stands behind `{kind}`, as in `{form}`"
 
 
 def at_slash(spot: Spot) -> Optional[str]:
     """Behind the first number of a length."""
     here = spot.here
     start = spot.last.start
+    mixed = re.match(r"([0-9]{1,3}) ([0-9]{1,3})/([0-9]{1,3})(?![0-9/])", spot.source[start:])
+    if mixed and int(mixed[3]) and int(mixed[2]) < int(mixed[3]):
+        whole, over, under = map(int, mixed.groups())
+        cure = write_length(spot, start, mixed[0], f"{whole * under + over}/{under}", "a length is one fraction")
+        if whole == over and cure:
+            return Computed(f"{cure}, or take one `{whole}` away")
+        times = spot.mended(start, start + len(mixed[0]), f"{whole * over}/{under}")
+        return Computed(f"{cure} for the sum, or `{times}` for the product") if cure and times else cure
     if here.kind == NUMBER:
         return spot.write("a length has a `/` between its two numbers", spot.last.end, spot.place, "/")
     if here.kind == "ticks":
@@ -249,6 +260,12 @@ def at_slash(spot: Spot) -> Optional[str]:
     if spot.head == "shape" and here.kind in ("by", ",", ";", "}", END):
         number = spot.last.text
         return f"a length is a part of a whole note: write `{number}/1` for {number} of them, or `1/{number}`"
+    both = re.fullmatch(r"([1-9])(2|4|8|12|16|24|32|48|64)", spot.last.text)
+    if both and int(spot.last.text) > 128 and spot.head in ("note", "rest"):
+        text = spot.mended(start, spot.last.end, f"{both[1]}/{both[2]}")
+        if text:
+            return Computed(f"a length is a part of a whole note, or ticks: write `{text}`, or `ticks "
+                            f"{spot.last.text}` for its length")
     if meant and start + len(meant.wrote) >= spot.last.end:
         if spot.head == "shape" and here.kind == "by" or here.kind != OTHER or len(meant.wrote) > len(spot.last.text):
             return write_length(spot, start, meant.wrote, meant.write, meant.why)
@@ -295,6 +312,9 @@ def at_max(spot: Spot) -> Optional[str]:
     what = "count" if spot.head == "repeat" else "length"
     most = "16" if what == "count" else "1920"
     why = f"a computed {what} has its `max`, the greatest that it may be"
+    plain = [each.text for each in spot.statement[-3:]]
+    if what == "count" and len(plain) == 3 and plain[1].isdigit() and plain[0] == "(":
+        return spot.write("a written count has no parentheses", spot.statement[-3].start, spot.last.end, f" {plain[1]}")
     if here.kind in ("+", "-", "*", "/", "%"):
         return "what is computed stands in parentheses, all of it: move the `)` behind it"
     if here.kind == NUMBER:

@@ -7,8 +7,8 @@ from typing import Optional
 
 from ..midi import DYNAMICS
 from .common import statement_text
+from .indexed import by_index
 from .spot import Spot
-from .statement import by_index
 from .tokens import NUMBER
 
 _LENGTH = re.compile(r"[0-9]+ ?/ ?[0-9]+|ticks [0-9]+")

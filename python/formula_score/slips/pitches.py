@@ -7,11 +7,13 @@ from typing import Optional
 
 from ..pitch import Pitch
 from .common import FUNCTIONS, parenthesized, token_before
+from .cures import Computed, Known
 from .foreign import length_at, pitch_at
+from .forms import FORMS
+from .indexed import by_index, instrument
 from .near import near
 from .reading import STATEMENTS, reads
 from .spot import Spot, is_statement
-from .statement import FORMS, by_index, instrument
 from .tokens import END, INDEX, NAME, NUMBER, OTHER, PITCH, REGISTER, tokens
 
 _WORDS = {"on": 127, "off": 0, "down": 127, "up": 0, "max": 127, "full": 127, "half": 64, "center": 64, "left": 0,
@@ -58,14 +60,14 @@ def at_pitch(spot: Spot) -> Optional[str]:
         if pitch and pitch.write and length:
             text = spot.mended(spot.place, spot.place + len(both[0]), f"{pitch.write} {length.write}")
             if text:
-                return f"the octave is a digit, and the length a part of a whole note: write `{text}`"
+                return Computed(f"the octave is a digit, and the length a part of a whole note: write `{text}`")
     found = pitch_at(spot.text, with_comma=_is_octave(spot))
     if found and here.kind in (NAME, OTHER, "="):
         if not found.write:
-            return found.why
+            return Known(found.why)
         end = spot.place + len(found.wrote.encode())
         text = spot.mended(spot.place, end, found.write) or all_commas(spot)
-        return f"{found.why}: write `{text}`" if text else spot.write(found.why, spot.place, end, found.write)
+        return Computed(f"{found.why}: write `{text}`") if text else spot.write(found.why, spot.place, end, found.write)
     return _no_pitch(spot)
 
 
@@ -84,7 +86,7 @@ def _rest_for_note(spot: Spot) -> str:
     if found and found[1] and not found[2]:
         meant = length_at(found[1])
         length = meant.write if meant and int(found[1].strip(".")) <= 64 else length
-    return f"silence is a statement of its own: write `rest {length};`"
+    return Computed(f"silence is a statement of its own: write `rest {length};`")
 
 
 def _number_for_pitch(spot: Spot, commas: bool) -> str:
@@ -117,7 +119,7 @@ def _no_pitch(spot: Spot) -> Optional[str]:
     here, head = spot.here, spot.head
     form = f"`{FORMS[head]}`" if head in FORMS else "`note c4 1/4;`"
     if here.kind in (";", "}", END) or is_statement(here):
-        return f"a pitch is missing: write {form}"
+        return f"a pitch is missing, as in {form}"
     if here.text in ("(", "[", "{", "<"):
         return _chord(spot)
     if here.kind == OTHER and re.match(r"[:@$&.]\s*[a-g][sb]?[0-9](?![a-z0-9])", spot.rest):
@@ -127,7 +129,11 @@ def _no_pitch(spot: Spot) -> Optional[str]:
         if found:
             return spot.write("a pitch has no quotes", spot.place, spot.place + len(found[0]), found[2])
         return f"a pitch has no quotes: write {form}"
-    if here.kind in ("+", "-", "*", "/", "%", "=", ","):
+    if head == "note" and re.match(r"[-_.xX*~=0]\s+(?:[0-9]+ ?/ ?[0-9]+|ticks [0-9]+)\s*;", spot.rest):
+        return Known("a note has a pitch, as in `note c4 1/4;`, and silence is a `rest`, as in `rest 1/4;`")
+    if here.kind == ",":
+        return "a pitch is missing before this `,`: write it, or take the `,` away"
+    if here.kind in ("+", "-", "*", "/", "%", "="):
         return (f"a pitch stands behind `{spot.last.text}`: write {form}, or `note key (60 + 2) 1/4;` where it is "
                 "computed")
     if here.kind == NAME:
@@ -135,7 +141,7 @@ def _no_pitch(spot: Spot) -> Optional[str]:
             number = spot.next() if spot.next().kind == NUMBER else spot.next(2)
             return spot.write("a key by its number has `key` before it", spot.place, number.start, "key ")
         line = _chord_name(spot) or by_index(here.text)
-        return line or "a pitch is a letter a to g, then perhaps `s` or `b`, then the octave: write `note c4 1/4;`"
+        return line or "a pitch is a letter a to g, then perhaps `s` or `b`, then the octave, as in `note c4 1/4;`"
     return None
 
 
@@ -147,7 +153,7 @@ def is_chord_name(text: str) -> bool:
 
 def _chord_name(spot: Spot) -> Optional[str]:
     if is_chord_name(spot.rest) and len(spot.here.text) > 1:
-        return "a chord is written by its pitches: write `note c4, e4, g4 1/4;`"
+        return Known("a chord is written by its pitches, as in `note c4, e4, g4 1/4;`")
     return None
 
 
@@ -249,13 +255,16 @@ def at_amount(spot: Spot) -> Optional[str]:
     if here.kind == ";" and head == "control":
         return spot.write("a `control` has a controller and a value", spot.last.end, spot.last.end, " 100")
     if here.kind in (";", "}", END):
-        return f"a number is missing: write `{form}`"
-    inner = re.match(r"[\[{]\s*([^\[\]{};]*?)\s*[\]})](?! *[-+*/%)])", spot.rest)
-    if inner and not inner[1].isdigit() and spot.mended(spot.place, spot.place + len(inner[0]), f"({inner[1]})"):
+        return f"a number is missing, as in `{form}`"
+    inner = re.match(r"\[\s*([^\[\]{};]*?)\s*\]|\{\s*([^\[\]{};]*?)\s*\}|[\[{]\s*([^\[\]{};()]*?)\s*\)", spot.rest)
+    value = next((each for each in inner.groups() if each), "") if inner else ""
+    if inner and value.isdigit():
+        return spot.write("a number has no brackets", spot.last.end, spot.place + len(inner[0]), f" {value}")
+    if inner and value and spot.mended(spot.place, spot.place + len(inner[0]), f"({value})"):
         return spot.write("what is computed stands in parentheses", spot.place, spot.place + len(inner[0]),
-                          f"({inner[1]})")
+                          f"({value})")
     if here.kind == "[" or here.kind == "{":
-        return f"one number stands there, without brackets: write `{form}`"
+        return f"one number stands there, without brackets, as in `{form}`"
     return None
 
 
@@ -269,14 +278,14 @@ def _named_number(spot: Spot, found: Optional[re.Match[str]]) -> Optional[str]:
         return f"a pitch by its name has no `key`, and no quotes: write `note {quoted.write} 1/4;`"
     name = found[1].lower().replace("_", " ").strip()
     if head == "program":
-        return instrument(name) or "an instrument is its number in General MIDI, counted from 0: write `program 73;`"
+        return instrument(name) or "an instrument is its number in General MIDI, counted from 0, as in `program 73;`"
     if head == "control":
         value = _WORDS.get(name.split(" ")[0])
         if value is not None:
             return spot.write("a value is a number, 0 to 127", spot.place, spot.place + len(found[0]), str(value))
-        return "a value is a number, 0 to 127: write `control 7 100;`"
+        return "a value is a number, 0 to 127, as in `control 7 100;`"
     if head == "bend":
-        return "a bend is a number from -8192 to 8191, and 4096 is one semitone on most instruments: write `bend 4096;`"
+        return "a bend is a number from -8192 to 8191, and 4096 is one semitone on most instruments, as in `bend 4096;`"
     return None
 
 
@@ -295,7 +304,7 @@ def at_controller(spot: Spot) -> Optional[str]:
         text = spot.mended(spot.place, spot.place + len(found[0]), number)
         return f"a controller is its number, and {number} is the {found[1]}: write `{text or f'control {number} 100;'}`"
     if here.kind in ("(", REGISTER, INDEX, *FUNCTIONS):
-        return "the controller is a written number, and its value alone may be computed: write `control 7 (60 + n0);`"
+        return "the controller is a written number, and its value alone may be computed, as in `control 7 (60 + n0);`"
     if here.kind == "-":
         return "controllers go from 0 to 127: write `control 7 100;`"
-    return "a controller and its value stand there: write `control 7 100;`"
+    return "a controller and its value stand there, as in `control 7 100;`"

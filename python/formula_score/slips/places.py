@@ -7,13 +7,13 @@ from typing import Callable, Optional
 
 from .blocks import at_block, at_branch, at_count, at_entries, at_entry, at_list, at_name, at_new_name, at_setting
 from .ends import at_end
+from .forms import FORMS
 from .lengths import at_denominator, at_length, at_max, at_most, at_slash, at_ticks
 from .near import near
 from .pitches import at_amount, at_controller, at_key, at_pitch
 from .shapes import at_by, at_part, at_stretch, at_to
 from .spot import Spot, is_statement
-from .statement import FORMS
-from .tokens import END, NUMBER, OTHER
+from .tokens import END, NAME, NUMBER, OTHER
 from .values import at_equals, at_function, at_operator, at_register, at_value
 
 
@@ -36,7 +36,10 @@ def at_head(spot: Spot) -> Optional[str]:
             return "the head stands first: take away what stands before it, or write `#` before that"
         return f"the head stands first: move `formula {later[1]};` before {spot.shown(here)}"
     if spot.where == "version":
-        return "the version stands behind `formula`: write `formula 1;`"
+        version = re.match(r"[^0-9;\n]{0,12}([12])(?![0-9])", spot.rest)
+        if version is None and here.kind == NAME:
+            return "the version is a number, 1 or 2, as in `formula 1;`"
+        return f"the version stands behind `formula`: write `formula {version[1] if version else 1};`"
     if here.kind == END:
         return "the text holds nothing, and a score begins with its head: write `formula 1;`"
     found = re.match(r"[A-Za-z]+\s*[:=]?\s*[vV]?([12])\b(?:\.[0-9]+)*\s*;?", spot.rest)

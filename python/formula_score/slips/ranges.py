@@ -3,47 +3,15 @@
 from __future__ import annotations
 
 from fractions import Fraction
-from typing import NamedTuple, Optional
+from typing import Optional
 
+from .limits import MILLION, range_at
 from .near import near
 from .spot import Spot
 from .tokens import NUMBER, PITCH
 
-_MILLION = 1_000_000
 _TOO_MANY_PITCHES = ("this is the 17th pitch of a note",
                      "a note has at most 16 pitches: write a second voice for the others")
-
-
-class Range(NamedTuple):
-    """The numbers that a place takes, and what they are."""
-
-    low: int
-    high: int
-    what: str
-
-
-_RANGES = {
-    "version": Range(1, 2, "the version of the language"), "division": Range(24, 960, "the ticks of a quarter note"),
-    "key": Range(0, 127, "a key, and 60 is middle C"), "controller": Range(0, 127, "a controller"),
-    "channel": Range(0, 15, "channels count from 0"), "volume": Range(1, 127, "a velocity, and 80 is mf"),
-    "gate": Range(0, 400, "in percent of the length"), "loud": Range(1, 127, "a velocity, and 80 is mf"),
-    "artic": Range(0, 400, "in percent of the length"), "control": Range(0, 127, "the value of a controller"),
-    "program": Range(0, 127, "programs count from 0, and 73 is the flute"),
-    "bend": Range(-8192, 8191, "8192 is two semitones on most instruments"), "repeat": Range(0, _MILLION, "a count"),
-    "stretch": Range(1, _MILLION, "in thousandths, and 1000 is as written"), "most": Range(0, _MILLION, "behind `max`"),
-    "ticks": Range(0, _MILLION, "ticks, 1,920 a whole note"), "value": Range(0, _MILLION, "a number of an expression"),
-}
-
-
-def _range_at(spot: Spot) -> Optional[Range]:
-    where, head = spot.where, spot.head
-    if where in ("amount", "setting", "entry"):
-        return _RANGES.get(head)
-    if where == "count":
-        return _RANGES["repeat"]
-    if where in ("value", "operator", "function"):
-        return _RANGES["value"]
-    return _RANGES.get(where)
 
 
 def whole_note(spot: Spot) -> int:
@@ -70,7 +38,7 @@ def out_of_range(spot: Spot) -> Optional[tuple[str, str]]:
         return _length(spot, number.text)
     if spot.where in ("entry", "key", "part") and _count(spot):
         return _count(spot)
-    found = _range_at(spot)
+    found = range_at(spot.where, spot.head)
     if found is None:
         return None
     value = int(sign + number.text)
@@ -107,9 +75,9 @@ def _length(spot: Spot, over: str) -> Optional[tuple[str, str]]:
         return f"`{over}/{under}` is no length", "the number behind the `/` is not 0: write `1/4`"
     whole = whole_note(spot)
     ticks = Fraction(int(over), int(under)) * whole
-    if ticks > _MILLION:
+    if ticks > MILLION:
         return (f"`{over}/{under}` is {int(ticks):,} ticks",
-                f"a length has at most 1,000,000 ticks, which is {_MILLION // whole}/1: write `{_MILLION // whole}/1`")
+                f"a length has at most 1,000,000 ticks, which is {MILLION // whole}/1: write `{MILLION // whole}/1`")
     return (f"`{over}/{under}` is {ticks} ticks",
             "a length of `flat` and `slope` is at least 1 tick: write `1/1`, or take the part away")
 

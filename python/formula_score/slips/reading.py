@@ -2,6 +2,7 @@
 
 from __future__ import annotations
 
+from collections import deque
 from typing import NamedTuple, Sequence
 
 from .tokens import INDEX, NAME, NUMBER, PITCH, REGISTER, Token
@@ -10,6 +11,8 @@ from .tokens import INDEX, NAME, NUMBER, PITCH, REGISTER, Token
 STATEMENTS = ("note play rest skip control program bend set if repeat do warp par channel volume gate rhythm artic "
               "loud").split()
 OUTSIDE = ("shape", "phrase")
+#: How many of the last statements are remembered by where they begin.
+REMEMBERED = 12
 
 
 class Open(NamedTuple):
@@ -38,6 +41,13 @@ class Reading:
         self.named: dict[str, Token] = {}           # shapes and phrases by their names
         self.phrases: set[str] = set()
         self.version = 1
+        #: where the last statements begin, each with the words of the blocks that are open there
+        self.starts: deque[tuple[int, tuple[str, ...]]] = deque(maxlen=REMEMBERED)
+
+    def begin(self) -> None:
+        """A statement or an entry begins here."""
+        self.begun = self.read
+        self.starts.append((self.read, tuple(each.word for each in self.blocks)))
 
     def at(self, where: str, label: str, *kinds: str) -> bool:
         """Whether the next token is of one of these kinds; else they are noted as expected."""
@@ -81,7 +91,7 @@ class Reading:
         return self.version == 2 and bool(here) and here[0].text == "division"
 
     def entry(self) -> None:
-        self.begun = self.read
+        self.begin()
         self.expected.clear()
         if self.at("statement", "a statement", *OUTSIDE):
             word = self.tokens[self.read]
@@ -180,7 +190,7 @@ class Reading:
     def block(self, word: str) -> None:
         self.blocks.append(Open(word, self.symbol("block", "{")))
         while not self.at("statement", "`}`", "}"):
-            self.begun = self.read
+            self.begin()
             self.statement()
         self.close("}")
 

@@ -87,15 +87,15 @@ def at_by(spot: Spot) -> Optional[str]:
                 return write_length(spot, start, meant.wrote, meant.write, meant.why)
     kind = next((each.text for each in reversed(spot.statement) if each.text in ("flat", "slope")), "flat")
     form = "flat 1/1 by 1000" if kind == "flat" else "slope 1/1 by 1000 to 1500"
-    return f"a stretch stands behind the length: write `{form}`"
+    return f"a stretch stands behind the length, as in `{form}`"
 
 
 def at_stretch(spot: Spot) -> Optional[str]:
     """Behind `by` or `to`."""
     here = spot.here
     if here.kind in ("(", REGISTER, INDEX, *FUNCTIONS):
-        return "a stretch is a written number of thousandths, and never computed: write `by 1000`"
-    return f"a stretch is a number of thousandths, and 1000 is as written: write `{spot.last.text} 1000`"
+        return "a stretch is a written number of thousandths, and never computed, as in `by 1000`"
+    return f"a stretch is a number of thousandths, and 1000 is as written, as in `{spot.last.text} 1000`"
 
 
 def at_to(spot: Spot) -> Optional[str]:

@@ -6,6 +6,7 @@ import re
 from functools import cached_property
 from typing import Optional, Sequence
 
+from .cures import Computed
 from .reading import STATEMENTS, Reading, There, read_to_place, reads
 from .tokens import END, NAME, OTHER, Token, tokens
 
@@ -141,15 +142,14 @@ class Spot:
         """The reason, and the statement as it is to be written, where it reads then; else the part of it."""
         text = self.mended(start, end, new, begun)
         if text:
-            return f"{why}: write `{text}`"
+            return Computed(f"{why}: write `{text}`")
         if not self._goes_on(start, end, new, begun):
-            return why
+            return ""
         old = self.data[start:end].decode("utf-8", "replace").strip()
         place = f"in place of `{old}`" if old else f"behind `{self.last.text}`"
         if not new.strip():
-            return f"{why}: take `{old}` away"
-        return f"{why}: write `{new.strip()}` {place}"
-
+            return Computed(f"{why}: take `{old}` away")
+        return Computed(f"{why}: write `{new.strip()}` {place}")
 
     def _goes_on(self, start: int, end: int, new: str, begun: Optional[int]) -> bool:
         """Whether the token behind what is written anew may stand there then."""

@@ -7,11 +7,13 @@ from typing import Optional
 
 from ..pitch import Pitch
 from .common import FUNCTIONS, insert
+from .cures import Known
 from .foreign import pitch_at
+from .forms import FORMS
+from .indexed import by_index
 from .near import near
 from .reading import STATEMENTS
 from .spot import Spot, is_statement
-from .statement import FORMS, by_index
 from .tokens import END, INDEX, NAME, NUMBER, PITCH, REGISTER
 
 _COMPARES = {"<": "less(a, b)", ">": "less(b, a)", "<=": "1 - less(b, a)", ">=": "1 - less(a, b)", "==": "same(a, b)",
@@ -72,7 +74,7 @@ def at_equals(spot: Spot) -> Optional[str]:
     if here.kind in ("+", "-", "*", "/", "%"):
         return spot.write("a register gets its value by `=`", spot.place, spot.place, f"= {spot.last.text} ")
     return insert(spot, "a register gets its value by `=`", " =") if here.kind != ";" else (
-        f"a register gets its value by `=`: write `set {spot.last.text} = 60;`")
+        f"a register gets its value by `=`, as in `set {spot.last.text} = 60;`")
 
 
 def _compare(spot: Spot) -> Optional[str]:
@@ -128,7 +130,7 @@ def at_operator(spot: Spot) -> Optional[str]:
     elif here.kind == ")":
         return "there is no open `(` for this `)`: take it away"
     if here.text == "?":
-        return "a value has no two cases: write `if E { set r0 = 5; } else { set r0 = 6; }`"
+        return Known("a value has no two cases, and an `if` has: `if r1 { set r0 = 5; } else { set r0 = 6; }`")
     if here.text == ".":
         return _DECIMAL if spot.next().text != "." else _RANGE
     if here.kind == NAME and _logic(here.text, spot):
@@ -150,21 +152,23 @@ def at_operator(spot: Spot) -> Optional[str]:
 
 
 def _logic(word: str, spot: Spot) -> Optional[str]:
-    return {
-        "and": "both are true where their product is above 0: write `*` for `and`",
-        "&": "both are true where their product is above 0: write `*` for `&&`",
-        "or": "one is true where their sum is above 0: write `+` for `or`",
-        "|": "one is true where their sum is above 0: write `+` for `||`",
+    """What to do about a word or a sign of logic."""
+    said = {
+        "and": "both are true where their product is above 0: write `*` in place of `and`",
+        "&": "both are true where their product is above 0: write `*` in place of `&&`",
+        "or": "one is true where their sum is above 0: write `+` in place of `or`",
+        "|": "one is true where their sum is above 0: write `+` in place of `||`",
         "not": "`not a` is `1 - a` for a condition, and `same(r0, 0)` asks for 0",
         "!": "`!a` is `1 - a` for a condition, and `same(r0, 0)` asks for 0",
-        "is": "`same` compares: write `same(a, b)`", "equals": "`same` compares: write `same(a, b)`",
-        "eq": "`same` compares: write `same(a, b)`", "lt": "`a < b` is written `less(a, b)`",
+        "is": "`same` compares, as in `same(r0, 3)`", "equals": "`same` compares, as in `same(r0, 3)`",
+        "eq": "`same` compares, as in `same(r0, 3)`", "lt": "`a < b` is written `less(a, b)`",
         "gt": "`a > b` is written `less(b, a)`",
-        "mod": "the remainder is `%`: write `%` for `mod`",
-        "div": "a quotient is `/`, rounded down: write `/` for `div`",
+        "mod": "the remainder is `%`: write `%` in place of `mod`",
+        "div": "a quotient is `/`, rounded down: write `/` in place of `div`",
         "then": "the block stands directly behind the condition: write `{` in place of `then`",
         "^": "there is no power: write the product, as `2 * 2 * 2`",
     }.get(word)
+    return said if said is None or "in place of" in said else Known(said)
 
 
 def _behind_condition(spot: Spot) -> Optional[str]:
@@ -190,16 +194,18 @@ def at_value(spot: Spot) -> Optional[str]:
             return "registers are `r0` to `r7`"
         if re.fullmatch(r"n[0-9]+", here.text):
             return "the indices of loops are `n0`, of the innermost one, to `n15`"
-        if here.text in ("random", "rand", "rnd", "rrand", "randint", "choose", "dice", "rand_i", "irand", "one_in"):
-            return "a number at random is `pick(12)`, from 0 to 11"
+        if here.text in ("choose", "choice", "oneof", "one_of", "sample", "shuffle", "wchoose"):
+            return Known("`pick(3)` draws 0, 1 or 2, and an `if` chooses by it, as in `if same(pick(3), 0) { .. }`")
+        if here.text in ("random", "rand", "rnd", "rrand", "randint", "dice", "rand_i", "irand", "one_in"):
+            return Known("a number at random is `pick(12)`, from 0 to 11")
         if here.text in ("mod", "and", "or", "not", "div"):
             return _logic(here.text, spot)
         if here.text in ("lt", "lesser", "smaller", "below"):
-            return "`less(a, b)` is 1 where a is below b"
+            return Known("`less(a, b)` is 1 where a is below b")
         if here.text in ("eq", "equal", "equals", "is"):
-            return "`same(a, b)` is 1 where they are equal"
+            return Known("`same(a, b)` is 1 where they are equal")
         if here.text in ("gt", "greater", "more", "above"):
-            return "`less(b, a)` is 1 where a is above b"
+            return Known("`less(b, a)` is 1 where a is above b")
         if here.text in ("abs",):
             return "`max(E, -E)` is the value without its sign"
         if here.text in ("i", "j", "k", "index", "count", "n", "counter"):
@@ -214,7 +220,7 @@ def at_value(spot: Spot) -> Optional[str]:
         if last.text == "=" or here.kind == "=":
             return _compare(spot)
         if last.text == "*" and here.text == "*":
-            return "there is no power: write the product, as `2 * 2 * 2`"
+            return Known("there is no power: write the product, as `2 * 2 * 2`")
         return "one operator stands between two values: take one away"
     if here.kind == "=" and last.kind == "=":
         return spot.write("a register gets its value by one `=`", spot.place, spot.place + 1, "")
@@ -228,11 +234,13 @@ def at_value(spot: Spot) -> Optional[str]:
     if here.kind in (";", "{", END, "}"):
         return f"a value is missing behind `{last.text}`: write a number, or an expression as `r0 + 2`"
     if here.kind == "+":
-        return "a number has no `+` before it: take it away"
+        return "a number has no `+` before it: take it away, or write the value that is missing before it"
     if here.kind == "ticks":
         return "a value is a number of no unit: take `ticks` away"
     if here.kind == "[":
-        return "an expression has no brackets: write parentheses" if spot.next().kind == NUMBER else None
+        if re.match(r"\[[^\];]*,", spot.rest):
+            return Known("a value is one number, and no list: a phrase or a loop has a statement for each")
+        return "an expression has no brackets, and parentheses in their place"
     return None
 
 

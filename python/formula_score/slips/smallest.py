@@ -1,0 +1,191 @@
+"""The smallest changes that mend a text: a token put in, taken away, exchanged or spelled otherwise."""
+
+from __future__ import annotations
+
+import re
+from typing import Iterator, NamedTuple, Optional, Sequence
+
+from ..nodes import KEYWORDS
+from .near import near
+from .spot import Spot
+from .tokens import END, INDEX, NAME, NUMBER, OTHER, PITCH, REGISTER, Token, kind_of
+from .trying import Change, Changes, changed, mends
+
+_SYMBOLS = re.compile(r"`?([;,{}()\[\]=/]|formula|by|to|max|branch)`?")
+
+
+_CLOSES = {"(": ")", "[": "]", "{": "}"}
+
+
+class Edit(NamedTuple):
+    """Changes, and the words that ask for them; those of a kind exclude one another."""
+
+    kind: str
+    changes: Changes
+    cure: str
+
+
+def smallest(spot: Spot, wanted: Sequence[str] = ()) -> Optional[str]:
+    """The cure by the smallest change that mends, or by two of them; None where there is none, many, or none wanted."""
+    found: dict[str, Edit] = {}
+    for edit in _edits(spot):
+        if mends(spot, edit.changes, once=True):
+            text = changed(spot, edit.changes, max(0, spot.place - 200), spot.place + 200)
+            found.setdefault(" ".join(text.split()), edit)
+    edits = list(found.values())
+    kinds = {each.kind for each in edits}
+    if spot.last.text == spot.here.text and "away" in kinds:
+        edits = [each._replace(kind="twice") for each in edits if each.kind == "away"][:1]
+    elif "exchanged" in kinds or "near" in kinds or "apart" in kinds:
+        edits = [each for each in edits if each.kind in ("exchanged", "near", "apart")]
+    if not 1 <= len(edits) <= 2 or wanted and any(each.kind not in wanted for each in edits):
+        return None
+    return ", or ".join(each.cure for each in edits).replace("?, or did you mean", " or")
+
+
+def meant(spot: Spot) -> Optional[str]:
+    """The smallest change, where it is a word that was meant, tokens in another order or one that stands twice."""
+    return smallest(spot, ("exchanged", "near", "apart", "joined", "twice"))
+
+
+def rearranged(spot: Spot) -> Optional[str]:
+    """The cure by two tokens in the other order, or by a blank in a word, where one alone of these mends."""
+    if spot.here.kind == END:
+        return None
+    edits = [*_exchanged(spot, spot.last, spot.here), *_exchanged(spot, spot.here, spot.next()), *_apart(spot),
+             *_one_number(spot)]
+    found = [each.cure for each in edits if mends(spot, each.changes, once=True)]
+    return found[0] if len(found) == 1 else None
+
+
+def _edits(spot: Spot) -> Iterator[Edit]:
+    here, last = spot.here, spot.last
+    if here.kind != END:
+        yield from _exchanged(spot, last, here)
+        yield from _exchanged(spot, here, spot.next())
+        yield from _spelled(spot)
+        yield from _apart(spot)
+        yield from _joined(spot, last, here)
+        yield from _joined(spot, here, spot.next())
+        yield from _away(spot, here)
+        yield from _other_brackets(spot)
+    if last.kind not in (END, ";", "{", "}"):
+        yield from _away(spot, last)
+    for symbol in _expected(spot):
+        if symbol != last.text or symbol in ("{", "}", "(", ")"):
+            yield Edit("put in", (Change(last.end, last.end, f" {symbol} "),),
+                       f"write `{symbol}` behind `{last.text}`")
+        if here.kind not in (END, NAME, NUMBER, PITCH, *KEYWORDS):
+            yield Edit("exchanged for", (Change(here.start, here.end, f" {symbol} "),),
+                       f"write `{symbol}` in place of the {spot.shown(here)}")
+
+
+def _expected(spot: Spot) -> list[str]:
+    found = [_SYMBOLS.fullmatch(each) for each in spot.reading.expected]
+    return [each[1] for each in found if each]
+
+
+def _away(spot: Spot, token: Token) -> Iterator[Edit]:
+    """A token that is one too many, a bracket with the one that closes it."""
+    away = Change(token.start, token.end, " ")
+    closes = _CLOSES.get(token.text)
+    if closes is None:
+        is_said = token.kind in (NUMBER, PITCH, REGISTER, INDEX, *KEYWORDS) or token.text in spot.names
+        if token.text != "}" and (not is_said or spot.last.text == spot.here.text) and spot.where != "statement":
+            yield Edit("away", (away,), f"take the {spot.shown(token)} away")
+        return
+    close = _closing(spot, token)
+    if close is not None:
+        yield Edit("away", (away, Change(close, close + 1, " ")),
+                   f"take the `{token.text}` and its `{closes}` away")
+
+
+def _closing(spot: Spot, token: Token) -> Optional[int]:
+    """Where the bracket stands that closes this one, of its own kind."""
+    depth = 0
+    for each in spot.after:
+        if each.start >= token.start:
+            depth += (each.text == token.text) - (each.text == _CLOSES[token.text])
+            if depth == 0 and each.start > token.start:
+                return each.start
+    return None
+
+
+def _other_brackets(spot: Spot) -> Iterator[Edit]:
+    """Brackets of another kind, where one is expected."""
+    here = spot.here
+    for begin in _expected(spot):
+        if begin in _CLOSES and here.text in _CLOSES and begin != here.text:
+            close = _closing(spot, here)
+            if close is not None:
+                changes = Change(here.start, here.end, begin), Change(close, close + 1, _CLOSES[begin])
+                yield Edit("exchanged", changes, f"write `{begin}` and `{_CLOSES[begin]}` in place of `{here.text}` "
+                                                 f"and `{_CLOSES[here.text]}`")
+
+
+def _exchanged(spot: Spot, one: Token, other: Token) -> Iterator[Edit]:
+    """Two tokens in the other order."""
+    if END in (one.kind, other.kind) or OTHER in (one.kind, other.kind) or one.text == other.text:
+        return
+    between = spot.source[one.end:other.start]
+    if "\n" in between or "#" in between:
+        return
+    blank = " " if kind_of(one.text) != one.text or one.is_word else between
+    yield Edit("exchanged", (Change(one.start, other.end, f"{other.text}{blank}{one.text}"),),
+               f"write `{other.text}{between or blank}{one.text}` in place of `{one.text}{between}{other.text}`")
+
+
+def _spelled(spot: Spot) -> Iterator[Edit]:
+    """A word that was meant by the one here."""
+    here = spot.here
+    if not here.is_word:
+        return
+    for word in near(here.text, [each for each in (*KEYWORDS, *spot.names) if each != here.text]):
+        yield Edit("near", (Change(here.start, here.end, word),), f"did you mean `{word}`?")
+    if here.kind == NAME:
+        for pitch in _pitches_near(here.text):
+            yield Edit("near", (Change(here.start, here.end, pitch),), f"did you mean `{pitch}`?")
+
+
+def _apart(spot: Spot) -> Iterator[Edit]:
+    """Two words that lack a blank between them."""
+    here = spot.here
+    if here.kind != NAME:
+        return
+    for at in range(1, len(here.text)):
+        one, other = here.text[:at], here.text[at:]
+        begins = one in ("phrase", "shape") and kind_of(other) == NAME and len(one) > 3
+        if one in KEYWORDS and (kind_of(other) != NAME or other in spot.names or other.isdigit() or begins):
+            yield Edit("apart", (Change(here.start + at, here.start + at, " "),),
+                       f"a blank is missing: write `{one} {other}` in place of `{here.text}`")
+
+
+def _pitches_near(word: str) -> Iterator[str]:
+    """Pitches of which one letter was left out, doubled or exchanged with the next one."""
+    for at in range(len(word)):
+        for each in (word[:at] + word[at + 1:], word[:at] + word[at + 1:at + 2] + word[at:at + 1] + word[at + 2:]):
+            if kind_of(each) in (PITCH, REGISTER, INDEX):
+                yield each
+
+
+def _one_number(spot: Spot) -> Iterator[Edit]:
+    """A number with a blank in it, but for one behind a `/`, since a second number may be a velocity there."""
+    one, other = spot.last, spot.here
+    if one.kind != NUMBER or other.kind != NUMBER or one.text == other.text or len(spot.before) < 2:
+        return
+    if spot.before[-2].text != "/" and spot.source[one.end:other.start] == " ":
+        yield Edit("joined", (Change(one.start, other.end, one.text + other.text),),
+                   f"write `{one.text + other.text}` as one number, or take one of the two away")
+
+
+def _joined(spot: Spot, one: Token, other: Token) -> Iterator[Edit]:
+    """Two words or numbers that a blank parts."""
+    between = spot.source[one.end:other.start]
+    if between.strip(" ") or not between or not (one.is_word or one.kind == NUMBER):
+        return
+    if not (other.is_word or other.kind == NUMBER) or one.kind == NUMBER and other.is_word:
+        return
+    word = one.text + other.text
+    if one.kind == NUMBER or kind_of(word) != NAME or word in spot.names:
+        yield Edit("joined", (Change(one.start, other.end, word),),
+                   f"no blank stands there: write `{word}` in place of `{one.text}{between}{other.text}`")

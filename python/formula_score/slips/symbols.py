@@ -1,0 +1,89 @@
+"""What is meant by a symbol or a number where a statement should begin."""
+
+from __future__ import annotations
+
+import re
+from typing import Optional
+
+from .common import lacks_brace
+from .cures import Known
+from .foreign import pitch_at
+from .indexed import by_index
+from .reading import OUTSIDE, STATEMENTS
+from .spot import Spot
+from .tokens import NUMBER, PITCH, kind_of
+
+
+
+def at_symbol(spot: Spot) -> Optional[str]:
+    text, last = spot.here.text, spot.last.text
+    if text == ";":
+        if last == "}":
+            return "a block has no `;` behind it: take it away"
+        behind = re.match(r"; *([a-z][a-z0-9_]*)[^;\n]*(?:\n|\Z)", spot.rest)
+        is_apart = "\n" in spot.source[spot.last.end:spot.place] or last == ";"
+        if is_apart and behind and kind_of(behind[1]) not in (*STATEMENTS, *OUTSIDE) and behind[1] not in spot.names:
+            return Known("a comment begins with `#`: write `#` in place of the `;`")
+        return ("one `;` is enough: take this one away" if last == ";" else
+                "no statement stands before this `;`: take it away")
+    if text == "}":
+        return "there is no open `{` for this `}`: take it away"
+    if text == "{":
+        if last == "{":
+            return f"one `{{` is enough: take this one{'' if lacks_brace(spot) else ' and its `}`'} away"
+        if spot.next().text == "{":
+            return by_index("voice")
+        return "a block belongs to a word, as in `repeat 2 { .. }`: write that word, or take this `{` and its `}` away"
+    if text in (")", "]") and spot.reading.blocks and lacks_brace(spot):
+        block = spot.reading.blocks[-1]
+        return f"the `{{` at {spot.spelled(block.token.start)}, behind `{block.word}`, ends with `}}`: write `}}` here"
+    if text in (")", "]"):
+        return f"there is no open `{'(' if text == ')' else '['}` for this `{text}`: take it away"
+    if text == "/" and spot.rest[:2] in ("//", "/*"):
+        return Known("a comment begins with `#`, and ends with its line: write `#`")
+    if text == "-" and spot.rest.startswith("--"):
+        return Known("a comment begins with `#`, and ends with its line: write `#`")
+    if text == "%":
+        return Known("a comment begins with `#`, and ends with its line: write `#` in place of the `%`")
+    if text == "(" and spot.next().kind == NUMBER and int(spot.next().text) in (2, 3, 4, 5, 6, 7):
+        return by_index("triplet")
+    words = re.match(r"\(([A-Za-z_ ]+)\)\s*(?:\n|\Z|[a-z]+ )", spot.rest)
+    if words and kind_of(words[1].split(" ")[0]) not in STATEMENTS:
+        line = by_index(words[1].strip())
+        return Known("other text stands behind `#`: write `#` before it" + (f"; {line}" if line else ""))
+    inside = re.match(r"\(\s*([a-z_]+)\s*([0-9]*)", spot.rest)
+    if inside and by_index(inside[1]):
+        return by_index(inside[1], inside[2])
+    if inside and kind_of(inside[1]) in STATEMENTS:
+        return "a statement has no parentheses round it: take the `(` and its `)` away"
+    if text == "(":
+        return by_index("slur") if spot.last.text == ";" and pitch_at(spot.text[1:].lstrip()) is None else None
+    if spot.rest.startswith("[:"):
+        return by_index("volta")
+    if text == "[":
+        return ("a chord has no brackets: write `note c4, e4 1/4;`" if pitch_at(spot.text[1:].lstrip()) else
+                "a list stands behind `rhythm`, `artic` or `loud`: write one of them before the `[`")
+    if text == ",":
+        return "a `;` ends each statement, and no `,` follows it: take the `,` away"
+    return None
+
+
+def at_number_of_statement(spot: Spot) -> Optional[str]:
+    number = spot.here.text
+    if spot.next().kind == "/" and spot.next(2).kind == NUMBER:
+        length = f"{number}/{spot.next(2).text}"
+        if spot.next(3).kind == PITCH:
+            return f"the pitch stands before the length: write `note {spot.next(3).text} {length};`"
+        return (f"a length stands in a statement, and a time signature is not in the file: write `rest {length};` for "
+                f"silence, or `note c4 {length};`")
+    if re.match(r"[0-9]+ ?(x|\.?times|\*)(?![a-z0-9_])", spot.rest):
+        return f"a loop begins with its word: write `repeat {number} {{ .. }}`"
+    if spot.next().kind in ("repeat", "channel", "volume", "gate", "program", "bend"):
+        return f"the number stands behind its word: write `{spot.next().text} {number}`"
+    if spot.next().kind in STATEMENTS or spot.next().text in spot.phrases:
+        return f"a loop plays something more than once: write `repeat {number} {{ .. }}`"
+    if spot.next().text == "{":
+        return f"a loop begins with its word: write `repeat {number} {{`"
+    if spot.next(1).kind == "/" or 0 <= int(number[:6]) <= 127 and spot.next().kind in (NUMBER, "ticks", ","):
+        return f"a key by its number is a note of `key`: write `note key {number} 1/4;`"
+    return "a statement begins with its word, as `note` or `rest`"
