@@ -35,6 +35,8 @@ class Mutant:
     place: str
     change: str
     clauses: tuple[Clause, ...]
+    # the last constructor among the patterns of the clause, where there is one
+    of: str = ""
 
 
 # ---- changes of a term
@@ -330,6 +332,11 @@ def text_of(term: Any) -> str:
     return str(term)
 
 
+def constructor_of(clause: Clause) -> str:
+    kinds = ("variable", "any")
+    return next((it.word.text for it in reversed(clause.patterns) if it.kind not in kinds), "")
+
+
 def mutants_of(translator: Translator, target: Target) -> list[Mutant]:
     """Each change of one definition."""
     file, item = translator.found(target)
@@ -340,7 +347,8 @@ def mutants_of(translator: Translator, target: Target) -> list[Mutant]:
     for k, clause in enumerate(clauses):
         place = f"{file.path}:{clause.body.word.line}"
         for change, body in changes.of(clause.body):
-            found.append(Mutant(target, place, change, (*clauses[:k], replace(clause, body=body), *clauses[k + 1:])))
+            made = (*clauses[:k], replace(clause, body=body), *clauses[k + 1:])
+            found.append(Mutant(target, place, change, made, constructor_of(clause)))
         if k + 1 < len(clauses) and bound(clause.patterns) == bound(clauses[k + 1].patterns) \
                 and text_of(clause.body) != text_of(clauses[k + 1].body):
             found.append(Mutant(target, place, f"the bodies of clauses {k + 1} and {k + 2} exchanged", tuple(exchanged(clauses, k))))

@@ -3,6 +3,7 @@ of the grammar's limits, words at random, and the texts and words of rows. Each 
 uses the definition the outcome is compared with what it was, for what went in before."""
 from __future__ import annotations
 
+import gc
 import glob
 import os
 import random
@@ -15,7 +16,7 @@ from types import FrameType
 from typing import Any
 
 import running
-from beside import words_drawn
+from beside import command_line, words_drawn
 from forms import form_of
 from limits import TooLong, within
 from products import Definitions, fuzz
@@ -36,7 +37,7 @@ BLOCKS = ("if 1 { }", "if 1 { } else { }", "if 1 { } else { skip; }", "repeat 2 
           "channel 1 { }", "volume 1 { }", "gate 1 { }", "rhythm [1/4] { }", "artic [1] { }", "loud [1] { }",
           "par { branch { } }", "par { branch { } branch { } }", "par { branch { } branch { skip; } branch { } }",
           "channel 1 { skip; channel 2 { } }", "if 1 { } else { channel 1 { } }",
-          "par { branch { } branch { channel 1 { } } }")
+          "par { branch { } branch { channel 1 { } } }", "par { branch { } branch { } branch { channel 1 { } } }")
 EXPRESSIONS = ("set r0 = X;", "if X { }", "repeat (X) max 2 { }", "note key (X) 1/4;", "note c4, key (X) 1/4;",
                "note c4, d4, key (X) 1/4;", "play key (X);", "play c4, key (X);", "note c4 ticks (X) max 5;",
                "rest ticks (X) max 5;", "control 7 (X);", "program (X);", "bend (X);", "if 1 { set r0 = X; }",
@@ -59,6 +60,13 @@ def texts_at(braces: int, tokens: int) -> Iterator[tuple[str, bytes]]:
                 expression = "-" * (size - count) + factor
                 text = f"formula 1; repeat 1 {{ {statement.replace('X', expression)} }}"
                 yield f"{statement} with {size} tokens, {factor} at the end", text.encode()
+
+
+def words_at() -> Iterator[tuple[str, list[bytes]]]:
+    """The words of each option at both ends of its range, and beside them."""
+    for option, (low, high) in command_line.RANGES.items():
+        for number in (max(0, low - 1), low, high, high + 1):
+            yield f"{option} {number}", [b"a", b"b", option.encode(), str(number).encode()]
 
 
 # ---- stages
@@ -148,9 +156,14 @@ class Scores:
             self.parts += self.look_at(f"text 1/{number}", texts.text(number)[0], stages_of)
             words = [word.encode() for word in words_drawn(random.Random(number))]
             self.parts.append(self.run(f"number {number}", "words", {"words": words}))
+        for told, words in words_at():
+            self.parts.append(self.run(told, "words", {"words": words}))
         for told, text in texts_at(FEW_BRACES, FEW_TOKENS):
             self.parts += self.look_at(told, text, stages_of)
             self.parts += self.look_at(f"{told}, of few", text, stages_of_few)
+        # what stays is not gone through again: that takes longer than most parts may
+        gc.collect()
+        gc.freeze()
 
     def look_at(self, name: str, text: bytes, stages: Callable[[dict[str, Any]], Iterator[str]]) -> list[Part]:
         if len(text) > MOST_TEXT:
@@ -185,7 +198,7 @@ class Scores:
 
     def differs(self, part: Part) -> bool:
         running.forget()
-        within(1 + 20 * part.seconds)
+        within(3 + 20 * part.seconds)
         try:
             return not STAGES[part.stage](self.definitions, part.known) == part.outcome
         except Exception:  # noqa: BLE001, what does not compute is another outcome

@@ -57,6 +57,12 @@ EQUAL = {
 }
 
 
+# Those of one clause, by its constructor: a branch has a block, which is one brace deeper than the fork.
+DEEPER = "a branch has a block, which is one brace deeper"
+EQUAL_OF = {("StmtWithin", "par", change): DEEPER
+            for change in ("≤ is <", "most.braces is most.tokens", "the left side of × left out")}
+
+
 # What rows give texts to, of which the law `table_is_the_grammar` says whether a form within the limits spells them; and
 # what they give words to, of which the law `words_obey_rules` says that the rules ask for the same.
 VERDICT = global_name(Target("definition", "Rattle.fm_grammar.proofs.Verdicts", "verdict"))
@@ -195,7 +201,7 @@ def tried(trial: Trial, scores: Scores | None, mutant: Mutant) -> tuple[str, str
                 text = scores.found_by(global_name(mutant.target), parts)
                 if text is not None:
                     return kind, text
-    reason = EQUAL.get((mutant.target.name, mutant.change))
+    reason = EQUAL.get((mutant.target.name, mutant.change)) or EQUAL_OF.get((mutant.target.name, mutant.of, mutant.change))
     return ("equal", reason) if reason else ("alive", "")
 
 
