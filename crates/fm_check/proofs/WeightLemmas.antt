@@ -1,11 +1,23 @@
 -- Totals of statements in turn and of branches, one more at the end.
 use Rattle.std.proofs.Common.{◌≡◌, ℕ, Bool, true, false, List, [], ◌∷◌, ◌++◌}
 use Rattle.std.proofs.Common.{refl, ap, ◌∙◌, arith}
-use Rattle.std.specs.Prelude.{◌||◌}
+use Rattle.std.specs.Prelude.{◌||◌, map}
+use Rattle.fm_meaning.specs.Resolved.{Fork}
 use Rattle.fm_expansion.specs.Outline.{Tables, Block, play_in, passage_in, fork_in}
 use Rattle.fm_outline.specs.declared.step.Step.{Step}
 use Rattle.fm_outline.specs.View.{Look, step_view, block_view, arms_of_blocks}
 use Rattle.fm_meaning.specs.Bounds.{Totals, totals, plus, beside, bounds_of, bounds_in, bounds_beside, forks, forks_in}
+use Rattle.fm_check.specs.declared.totals.sums.Sums.{Sums}
+use Rattle.fm_check.specs.Saturation.{saturated}
+use Rattle.fm_check.specs.Weight.{weight_in}
+
+-- of branches
+abbrev pub weight_beside : (longest : ℕ) → Fork → Sums
+weight_beside longest branches = saturated (bounds_beside longest branches) true
+
+-- of blocks, each by itself
+abbrev pub weights_of_blocks : Tables → (longest : ℕ) → List Block → List Sums
+weights_of_blocks t longest blocks = map (λ b. weight_in longest (passage_in t b)) blocks
 
 -- totals with equal columns
 pub same_totals : {p q o m l k e d s t : ℕ} → p ≡ q → o ≡ m → l ≡ k → e ≡ d → s ≡ t → totals p o l e s ≡ totals q m k d t

@@ -1,11 +1,9 @@
 -- What goes on in a pass: which process holds the floor back, and how it is brought on.
-use Rattle.std.specs.Prelude.{◌≡◌, ◌⊎◌, ℕ, ◌+◌, ◌-◌, ◌*◌, ◌^◌, ◌<◌, ◌≤◌, length, map, true, false, not, Some, slice_index_or}
-use Rattle.fm_line.specs.Line.{greatest, line, sum_below}
-use Rattle.fm_line.specs.Piece.{piece}
-use Rattle.fm_core.specs.Numbers.{bit}
+use Rattle.std.specs.Prelude.{◌≡◌, ◌⊎◌, ℕ, ◌-◌, ◌<◌, ◌≤◌, length, map, true, false, not, Some, slice_index_or}
+use Rattle.fm_line.specs.Line.{greatest, line}
 use Rattle.fm_core.specs.Sweep.{sight}
 use Rattle.fm_core.specs.declared.due.Due.{Due}
-use Rattle.fm_core.specs.declared.due.Due.TheVariants.{Nothing, Pair, Everything}
+use Rattle.fm_core.specs.declared.due.Due.TheVariants.{Pair}
 use Rattle.fm_program.specs.Parts.{PlanParts}
 use Rattle.fm_strand.specs.Course.{steps_of}
 use Rattle.fm_strand.specs.Strand.{steps_left}
@@ -85,12 +83,6 @@ BringsAny due limit n old new =
     (tick p : ℕ) → due ≡ Pair tick p → p < n → tick ≤ limit → IsFull old.seat.mind → HoldsBack old.seat.mind tick p
     → GoesOn p old new
 
--- the process that the due pair names holds the floor back at the pair's tick, which is within the limit
-abbrev pub IsHeldBack : Due → ℕ → Mind → Type 0
-IsHeldBack Nothing limit m = Unit {0}
-IsHeldBack (Pair tick p) limit m = (tick ≤ limit) × HoldsBack m tick p
-IsHeldBack Everything limit m = Unit {0}
-
 -- no seat was made besides this one, which is the conductor's
 abbrev pub IsLone : Mind → Type 0
 IsLone m = m.made ≡ 1
@@ -110,20 +102,3 @@ pub record IsSeen (m : Mind) (j : ℕ) : Type 0 where
 -- and so of each of the first n
 abbrev pub AreSeen : Mind → ℕ → Type 0
 AreSeen m n = (j : ℕ) → j < n → IsSeen m j
-
--- ---- what is left of the passes
-
--- what may still come of a process, as a seat knows it: its steps, the ticks of its clock, and its end
-abbrev pub worth : Mind → ℕ → ℕ
-worth m p =
-    slice_index_or m.left p 0 + (LAST_TICK - slice_index_or m.known p 0) + bit (not (slice_index_or m.over p false))
-
--- what may still come of all processes, and the events that are to be released
-abbrev pub to_come : Mind → ℕ
-to_come m = sum_below (processes m.view) (worth m) + (length (piece (lines_of m.view)) - m.view.released)
-
--- the most passes that are still made
-abbrev pub passes_left : Due → Mind → ℕ
-passes_left Nothing m = 2 * to_come m + 2
-passes_left (Pair tick p) m = 2 * to_come m + 1
-passes_left Everything m = 0

@@ -3,10 +3,15 @@ use Rattle.std.proofs.Common.{◌≡◌, ℕ, zero, suc, ◌+◌, ◌≤◌, Lis
 use Rattle.std.specs.Prelude.{if◌then◌else◌, nat_le, nat_lt}
 use Rattle.std.proofs.lemmas.Bool.{leb-true, leb-false, le-leb, ltb-true, eq-eqb}
 use Rattle.fm_line.specs.Validity.{run_valid}
-pub use Rattle.fm_line.specs.Runs.{RisesFrom, RunsFrom, BeginsFrom, AllFrom}
+pub use Rattle.fm_line.specs.Runs.{RunsFrom, BeginsFrom, AllFrom}
 use Rattle.fm_line.specs.Sounds.{Sound, is_note_off, put_in, in_order, due_by, later_than, too_many, moved_to, out_before, left_waiting, most_waiting, ons_ahead, come_out_after, come_out, numbered}
 
 -- ---- the order of what waits
+
+-- sounds whose times never fall, from a tick on
+abbrev pub RisesFrom : ℕ → List Sound → Type 0
+RisesFrom low [] = Unit {0}
+RisesFrom low (x ∷ xs) = (low ≤ x.time) × RisesFrom x.time xs
 
 lower : (low t : ℕ) → low ≤ t → (xs : List Sound) → RisesFrom t xs → RisesFrom low xs
 lower low t l [] r = tt

@@ -7,11 +7,6 @@ use Rattle.fm_line.specs.Sounds.{Sound, is_note_off}
 
 -- ---- time
 
--- sounds whose times never fall, from a tick on
-abbrev pub RisesFrom : ℕ → List Sound → Type 0
-RisesFrom low [] = Unit {0}
-RisesFrom low (x ∷ xs) = (low ≤ x.time) × RisesFrom x.time xs
-
 -- the same, to a last tick
 abbrev pub RunsFrom : (low e : ℕ) → List Sound → Type 0
 RunsFrom low e [] = low ≤ e

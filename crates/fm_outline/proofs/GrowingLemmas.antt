@@ -13,8 +13,12 @@ use Rattle.fm_grammar.specs.declared.number.Number.{Number}
 use Rattle.fm_meaning.specs.Resolved.{Quality}
 use Rattle.fm_outline.specs.declared.step.Step.{Step}
 use Rattle.fm_outline.specs.View.{Look, Placed, before, arms_before, instruction_view, step_view}
-use Rattle.fm_outline.specs.Growing.{followed, joined_behind}
+use Rattle.fm_outline.specs.Growing.{followed}
 use Rattle.fm_outline.proofs.SeenLemmas.{step_seen}
+
+-- branches before those that are left
+abbrev pub joined_behind : List plain.Block → Numbered plain.Arms → Numbered plain.Arms
+joined_behind bs rest = numbered (arms_before bs rest.value) rest.tables
 
 -- a statement more in front of the others
 before_more : (ps : List Placed) (p : Placed) (b : plain.Block)

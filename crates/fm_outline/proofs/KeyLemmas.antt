@@ -11,8 +11,11 @@ use Rattle.fm_meaning.specs.Ranges.{pitch_faults, pitch_spot, pitches_faults}
 use Rattle.fm_expansion.specs.Outline as plain
 use Rattle.fm_expansion.specs.Numbering.{Numbered, numbered, key_numbered, keys_numbered}
 use Rattle.fm_outline.specs.InRange.{PitchFits}
-use Rattle.fm_outline.specs.Growing.{with_keys}
 use Rattle.fm_outline.proofs.RangeLemmas.{entry_seen}
+
+-- keys before those that are left
+abbrev pub with_keys : List Draw → Numbered (List Draw) → Numbered (List Draw)
+with_keys keys rest = numbered (keys ++ rest.value) rest.tables
 
 -- the keys from one on
 keys_from : (xs : List Pitch) (i : ℕ) (x : Pitch) (t : plain.Tables) → i < length xs → x ≡ get_or xs i x

@@ -12,7 +12,12 @@ use Rattle.fm_smf.proofs.Tracks.{length-end}
 use Rattle.fm_read.specs.Reading.{Pair}
 use Rattle.fm_read.specs.Decoded.{decoded, message_from, and_message}
 use Rattle.fm_read.specs.Written.{time_after}
-use Rattle.fm_parts.specs.Format1.{RisesTo, track_behind}
+use Rattle.fm_parts.specs.Format1.{track_behind}
+
+-- no message is before the one in front of it, and the end is not before the last
+abbrev pub RisesTo : ℕ → List (ℕ × Msg) → ℕ → Type 0
+RisesTo last [] end = last ≤ end
+RisesTo last (x ∷ list) end = (last ≤ x.0) × RisesTo x.0 list end
 
 -- from a lower tick on
 pub rises_lower : (low last : ℕ) (list : List (ℕ × Msg)) (end : ℕ) → low ≤ last → RisesTo last list end → RisesTo low list end

@@ -1,5 +1,5 @@
 -- A file of format 1: the tempo in a track of its own, and a track for each channel that has an event.
-use Rattle.std.specs.Prelude.{ℕ, zero, suc, ◌≤◌, ◌-◌, ◌/◌, ◌%◌, ◌==◌, Bool, true, false, List, [], ◌∷◌, ◌++◌, length}
+use Rattle.std.specs.Prelude.{ℕ, zero, suc, ◌-◌, ◌/◌, ◌%◌, ◌==◌, Bool, true, false, List, [], ◌∷◌, ◌++◌, length}
 use Rattle.std.specs.List.{filter, flat_map}
 use Rattle.fm_msg.specs.declared.msg.Msg.{Msg}
 use Rattle.fm_msg.specs.declared.msg.Msg.TheVariants.{On, Off, Control, Program, Bend}
@@ -28,11 +28,6 @@ on_channel c list = filter (is_on_channel c) list
 abbrev pub track_behind : ℕ → List (ℕ × Msg) → ℕ → List ℕ
 track_behind last [] end = end_bytes last end
 track_behind last (x ∷ list) end = (delta (x.0 - last) ++ message_bytes x.1) ++ track_behind x.0 list end
-
--- no message is before the one in front of it, and the end is not before the last
-abbrev pub RisesTo : ℕ → List (ℕ × Msg) → ℕ → Type 0
-RisesTo last [] end = last ≤ end
-RisesTo last (x ∷ list) end = (last ≤ x.0) × RisesTo x.0 list end
 
 -- the track of the tempo alone
 abbrev pub tempo_track : ℕ → List ℕ

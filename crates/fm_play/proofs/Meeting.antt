@@ -3,7 +3,12 @@ use Rattle.std.proofs.Common.{◌≡◌, List, [], ◌∷◌, ◌++◌, Bool, tr
 use Rattle.std.specs.Prelude.{nat_lt, if◌then◌else◌}
 use Rattle.fm_nest.specs.declared.place.Place.{Place}
 use Rattle.fm_strand.specs.Course.{latest_place, later_place, meeting_place, first_place}
-use Rattle.fm_play.specs.Places.{HasLevelsOf, latest_of, met_place}
+use Rattle.fm_play.specs.Places.{HasLevelsOf, met_place}
+
+-- the latest of some places, where there are some
+abbrev pub latest_of : List Place → Option Place
+latest_of [] = None
+latest_of (a ∷ bs) = Some (latest_place a bs)
 
 latest-append : (a : Place) (bs : List Place) (e : Place) → latest_place a (bs ++ e ∷ []) ≡ later_place (latest_place a bs) e
 latest-append a [] e = refl

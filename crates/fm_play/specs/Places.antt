@@ -2,7 +2,7 @@
 use Rattle.std.specs.Prelude.{◌≡◌, ℕ, zero, suc, List, [], ◌∷◌, ◌++◌, Option, Some, None}
 use Rattle.fm_nest.specs.declared.place.Place.{Place}
 use Rattle.fm_program.specs.Parts.{PlanParts}
-use Rattle.fm_strand.specs.Course.{end_place, later_place, latest_place}
+use Rattle.fm_strand.specs.Course.{end_place, later_place}
 
 -- two places lie in the same levels
 pub record HasLevelsOf (a b : Place) : Type 0 where
@@ -13,11 +13,6 @@ pub record HasLevelsOf (a b : Place) : Type 0 where
 abbrev pub met_place : Option Place → Place → Place
 met_place None end = end
 met_place (Some a) end = later_place a end
-
--- the latest of some places, where there are some
-abbrev pub latest_of : List Place → Option Place
-latest_of [] = None
-latest_of (a ∷ bs) = Some (latest_place a bs)
 
 -- where the first n processes end
 abbrev pub ends_below : PlanParts → ℕ → List Place

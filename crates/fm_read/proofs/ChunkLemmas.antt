@@ -7,8 +7,18 @@ use Rattle.fm_read.specs.Reading.{Read, cut, ◌>>=◌, Pair}
 use Rattle.fm_read.specs.Tracks.{entries, IsRead}
 use Rattle.fm_read.specs.Kept.{parts_read, chunks_of, joined_parts}
 use Rattle.fm_read.specs.Files.{Part, has_kind, body_from, chunk_fault, held, past_chunk, passes, chunk_of, read_chunk, chunks_from, chunks, is_track, tracked}
-use Rattle.fm_read.specs.Seen.{track_found, flagged, with_found}
+use Rattle.fm_read.specs.Seen.{track_found}
 use Rattle.fm_read.proofs.EndsLemmas.{Ends, bind_ok, ok_is, ends_shorter, ends_rest, failed, failed_is}
+
+-- a flag and what follows, where there is no fault
+abbrev pub flagged : Bool → List ℕ → Read (Unit {0}) → Read (Bool × List ℕ)
+flagged flag rest (Ok u) = Ok (flag, rest)
+flagged flag rest (Err s) = Err s
+
+-- whether a track was found before or is among the chunks
+abbrev pub with_found : Bool → Read Bool → Read Bool
+with_found before (Ok here) = Ok (before || here)
+with_found before (Err s) = Err s
 
 -- the kind is in the chunk's head
 kind_in_head : (kind bytes : List ℕ) → 8 ≤ length bytes → has_kind kind (take 8 bytes) ≡ has_kind kind bytes

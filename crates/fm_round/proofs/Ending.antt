@@ -9,7 +9,8 @@ use Rattle.fm_program.specs.Process.{plan_lines}
 use Rattle.fm_strand.specs.declared.strand.Strand.{Strand}
 use Rattle.fm_strand.specs.Strand.{clock_of}
 use Rattle.fm_round.specs.declared.lane.Lane.{Lane}
-use Rattle.fm_round.specs.Lefts.{Playing, joined}
+use Rattle.fm_round.specs.Lefts.{joined}
+use Rattle.fm_round.proofs.Halfway.{Playing}
 use Rattle.fm_round.specs.Lanes.{AllLanes, AllStarted, IsAtEnd, IsRun, LeastOf, due, lefts, live_clock, lane, without_due, yet}
 use Rattle.fm_round.proofs.Parting.{FrontsFirst, back_of}
 use Rattle.fm_round.proofs.Order.{none_stays_at_all}

@@ -1,4 +1,5 @@
 pub mod StrandFacts
+pub mod Halfway
 pub mod Parting
 pub mod Order
 pub mod Births

@@ -13,7 +13,8 @@ use Rattle.fm_program.specs.Process.{plan_lines}
 use Rattle.fm_strand.specs.declared.strand.Strand.{Strand}
 use Rattle.fm_strand.specs.Strand.{InCourse, clock_of, rest}
 use Rattle.fm_round.specs.declared.lane.Lane.{Lane}
-use Rattle.fm_round.specs.Lefts.{IsOwn, OwnFrom, Playing, joined}
+use Rattle.fm_round.specs.Lefts.{IsOwn, OwnFrom, joined}
+use Rattle.fm_round.proofs.Halfway.{Playing}
 use Rattle.fm_round.specs.Lanes.{AllLanes, AllStarted, IsLeast, IsNotPast, IsRun, due, left, lefts, lane, without_due, yet}
 use Rattle.fm_play.proofs.InTime.{before_time}
 use Rattle.fm_round.proofs.Parting.{Parted, FrontsFirst, back_of, front_of, own_back, own_backs, own_front, sorted_parts, whole_of}

@@ -1,8 +1,7 @@
 -- What is left of each process: lists of events, one for each process.
 use Rattle.std.specs.Prelude.{◌≡◌, ℕ, suc, List, [], ◌∷◌, ◌++◌}
 use Rattle.fm_msg.specs.Event.{TimedMessage}
-use Rattle.fm_line.specs.declared.line.Line.{Line}
-use Rattle.fm_line.specs.Piece.{In, Rises, piece, sorted}
+use Rattle.fm_line.specs.Piece.{In, Rises}
 
 -- lists one after the other
 abbrev pub joined : List (List TimedMessage) → List TimedMessage
@@ -18,8 +17,3 @@ pub record IsOwn (k : ℕ) (xs : List TimedMessage) : Type 0 where
 abbrev pub OwnFrom : ℕ → List (List TimedMessage) → Type 0
 OwnFrom k [] = Unit {0}
 OwnFrom k (xs ∷ xss) = IsOwn k xs × OwnFrom (suc k) xss
-
--- `done` was released of the lines, and these lists are left: what is left in its order is the rest of the piece
-pub record Playing (ls : List Line) (done : List TimedMessage) (lefts : List (List TimedMessage)) : Type 0 where
-  pub whole : done ++ sorted (joined lefts) ≡ piece ls
-  pub own : OwnFrom 0 lefts

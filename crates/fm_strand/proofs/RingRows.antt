@@ -8,7 +8,16 @@ use Rattle.fm_program.specs.Parts.{StockParts, ProgramParts, PlanParts, plan_par
 use Rattle.fm_program.specs.Process.{plan_played, plan_lines}
 use Rattle.fm_program.specs.Fit.{PartsFit, all_steps}
 use Rattle.fm_program.proofs.Rows.{fits_by}
-use Rattle.fm_strand.specs.Worked.{ring_plan, ring_program, ring_stock}
+use Rattle.fm_strand.specs.Worked.{ring_program, ring_stock}
+
+-- the plan
+abbrev ring_plan : PlanParts
+ring_plan = record {
+  stock = ring_stock;
+  programs = ring_program ∷ [];
+  seed = 0;
+  profile = record { running = false; division = 480 };
+}
 
 -- it takes so many steps
 ring_steps : all_steps (plan_played ring_plan) ≡ 40

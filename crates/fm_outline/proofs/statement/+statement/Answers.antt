@@ -16,14 +16,14 @@ use Rattle.fm_ranges.specs.Own.{own_faults}
 use Rattle.fm_rules.proofs.RangeLemmas.{none_first, none_second}
 use Rattle.fm_outline.specs.Knows.{names_of, shape_index}
 use Rattle.fm_outline.specs.View.{tables_view, block_view, instruction_view, step_view}
-use Rattle.fm_outline.specs.Growing.{followed, joined_behind}
+use Rattle.fm_outline.specs.Growing.{followed}
 use Rattle.fm_outline.specs.declared.step.Step.{Step}
 use Rattle.fm_outline.proofs.ItemLemmas.{note_what, play_what, rest_what, control_what, program_what, bend_what, set_what, choice_what, repeat_what, again_what, par_what, warp_what, channel_what, volume_what, gate_what, rhythm_what, artic_what, loud_what}
 use Rattle.fm_outline.proofs.InsideLemmas.{own_clean, own_told, leaf_clean, behind_own, first_block, second_block, under_known}
 use Rattle.fm_outline.proofs.RefusalLemmas.{handed, before, behind, failed, made_holds, made_told}
 use Rattle.fm_outline.proofs.NameLemmas.{number_of}
 use Rattle.fm_outline.proofs.SeenLemmas.{choice_seen, loop_seen, par_seen, warp_seen, channel_seen, steady_seen, under_seen}
-use Rattle.fm_outline.proofs.GrowingLemmas.{items_from, arms_from, steps_more, arms_more, choice_numbered, again_numbered, under_numbered}
+use Rattle.fm_outline.proofs.GrowingLemmas.{joined_behind, items_from, arms_from, steps_more, arms_more, choice_numbered, again_numbered, under_numbered}
 use Rattle.fm_outline.proofs.statement.+statement.Goals as goal
 
 -- ---- statements without blocks

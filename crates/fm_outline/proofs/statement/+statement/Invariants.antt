@@ -5,7 +5,8 @@ use Rattle.fm_meaning.specs.Ranges.{body_faults, branches_faults}
 use Rattle.fm_expansion.specs.Numbering.{Catalogue, block_of, arms_of}
 use Rattle.fm_outline.specs.View.{Look, tables_view, step_view, block_view}
 use Rattle.fm_outline.specs.Knows.{Knows, names_of}
-use Rattle.fm_outline.specs.Growing.{followed, joined_behind}
+use Rattle.fm_outline.specs.Growing.{followed}
+use Rattle.fm_outline.proofs.GrowingLemmas.{joined_behind}
 use Rattle.fm_outline.proofs.statement.+statement.Given as goal
 
 -- the first fault is that of the branches that are left, and the branches so far stand before these

@@ -2,7 +2,7 @@ use Rattle.std.proofs.Common.{◌≡◌, map, drop}
 use Rattle.fm_grammar.specs.View.{pitch_view}
 use Rattle.fm_expansion.specs.Numbering.{keys_numbered}
 use Rattle.fm_outline.specs.View.{tables_view}
-use Rattle.fm_outline.specs.Growing.{with_keys}
+use Rattle.fm_outline.proofs.KeyLemmas.{with_keys}
 use Rattle.fm_outline.proofs.value.outline_keys.Given as goal
 
 -- the keys so far, before those that are left

@@ -4,8 +4,8 @@ use Rattle.std.proofs.lemmas.List.{take_all, take_more}
 use Rattle.fm_nest.specs.declared.place.Place.{Place}
 use Rattle.fm_program.specs.Parts.{process_program}
 use Rattle.fm_strand.specs.Course.{end_place, start_place}
-use Rattle.fm_play.specs.Places.{HasLevelsOf, latest_of, met_place}
-use Rattle.fm_play.proofs.Meeting.{later_levels, latest_meets, latest_of-append, levels_of_end, none_meets}
+use Rattle.fm_play.specs.Places.{HasLevelsOf, met_place}
+use Rattle.fm_play.proofs.Meeting.{later_levels, latest_meets, latest_of, latest_of-append, levels_of_end, none_meets}
 use Rattle.fm_play.proofs.PlanFacts.{ends_in_levels, starts_where_ends_meet}
 use Rattle.fm_play.proofs.EndLemmas.{known_end, length-ends, map-push, predecessor_less}
 use Rattle.fm_play.proofs.ends.start_from.Goals as goal

@@ -2,7 +2,8 @@
 use Rattle.std.proofs.Common.{◌≡◌, map, take, IfSome}
 use Rattle.fm_program.specs.Parts.{process_program}
 use Rattle.fm_strand.specs.Course.{end_place, start_place}
-use Rattle.fm_play.specs.Places.{HasLevelsOf, latest_of}
+use Rattle.fm_play.specs.Places.{HasLevelsOf}
+use Rattle.fm_play.proofs.Meeting.{latest_of}
 use Rattle.fm_play.proofs.ends.start_from.Given as goal
 
 -- the latest of the ends in front, which lies in the levels of the start

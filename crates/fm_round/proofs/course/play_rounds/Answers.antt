@@ -1,7 +1,8 @@
 use Rattle.std.proofs.Common.{◌+◌, ◌-◌, ◌^◌, ◌<◌, ℕ, List, map, min, Some, None, length, refl, sym, ap, ◌∙◌, subst, arith}
 use Rattle.fm_edge.proofs.Chains.{on_err}
 use Rattle.fm_round.specs.Lanes.{AllAtEnd, loads}
-use Rattle.fm_round.specs.Rounds.{Between, first_room}
+use Rattle.fm_round.specs.Rounds.{first_room}
+use Rattle.fm_round.proofs.Halfway.{Between}
 use Rattle.fm_round.proofs.Between.{Interval, few_events, first_between, interval, last_count, last_ends, last_first, last_writes, may_release, next_first, next_round, release_breaks}
 use Rattle.fm_round.proofs.Turning.{first_watched, is_round, stays_awaited, stays_watched}
 use Rattle.fm_round.proofs.course.play_rounds.Given.{Over}

@@ -1,5 +1,6 @@
 use Rattle.std.proofs.Common.{◌≡◌}
-use Rattle.fm_round.specs.Rounds.{Between, first_room}
+use Rattle.fm_round.specs.Rounds.{first_room}
+use Rattle.fm_round.proofs.Halfway.{Between}
 use Rattle.fm_round.specs.Lanes.{loads}
 use Rattle.fm_round.specs.Watching.{Watched}
 use Rattle.fm_round.proofs.course.play_rounds.Given as goal

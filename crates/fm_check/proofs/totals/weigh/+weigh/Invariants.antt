@@ -2,7 +2,8 @@ use Rattle.std.proofs.Common.{◌≡◌, ℕ, take, map}
 use Rattle.fm_expansion.specs.Outline.{passage_in, fork_in}
 use Rattle.fm_outline.specs.View.{Look, tables_view, block_view, arms_of_blocks}
 use Rattle.fm_check.specs.Saturation.{capped}
-use Rattle.fm_check.specs.Weight.{weight_in, weight_beside, KnowsWeights}
+use Rattle.fm_check.specs.Weight.{weight_in, KnowsWeights}
+use Rattle.fm_check.proofs.WeightLemmas.{weight_beside}
 use Rattle.fm_check.proofs.totals.weigh.+weigh.Given as goal
 
 -- the statements so far

@@ -11,16 +11,16 @@ invariant_of-result c =
     let value = c.processes-processes.ensures.value in
     let there = c.processes-processes.ensures.fits.some in
     let some : 0 < c.processes-processes.result = omega (arith, value, there) in
-    let first = first_fresh c.processes-processes.result c.args.room c.in_ok-lanes.lanes.items lanes some in record {
+    let first = first_fresh c.processes-processes.result _ c.in_ok-lanes.lanes.items lanes some in record {
       opened = record {
         fits = c.processes-processes.ensures.fits;
         some = let least = c.requires.room.0 in omega (arith, first, least);
         count = lanes.count ∙ value;
-        fresh = fresh_as_first c.processes-processes.result c.args.room c.in_ok-lanes.lanes.items lanes some;
+        fresh = fresh_as_first c.processes-processes.result _ c.in_ok-lanes.lanes.items lanes some;
         empty = ap (λ (g : EventGather). g.events) gather;
         space =
-            let sums = room_sum-fresh c.args.room _ lanes in
+            let sums = room_sum-fresh _ _ lanes in
             let capacity = ap (λ (g : EventGather). g.capacity) gather in omega arith;
       };
-      watched = watched_fresh c.args.plan c.in_ok-watch.watch c.args.room c.in_ok-lanes.lanes.items c.in_ok-watch.ensures lanes.fresh;
+      watched = watched_fresh c.args.plan c.in_ok-watch.watch _ c.in_ok-lanes.lanes.items c.in_ok-watch.ensures lanes.fresh;
     }
