@@ -1,5 +1,5 @@
 """What the command's refusals mean: the tables behind `scripts/formula`, this library's exceptions
-and those of docs/LANGUAGE.md, docs/MIDI_FILE.md and docs/SCHEDULER.md (which `scripts/pages` writes)."""
+and those of docs/LANGUAGE.md, docs/MIDI_FILE.md and docs/RECORDS.md (which `scripts/pages` writes)."""
 
 from __future__ import annotations
 
