@@ -14,8 +14,9 @@ from prose import Passage, passages, without_code
 #: The most words of a sentence, the most in the mean, and the most characters of a cell.
 MOST_WORDS, MOST_IN_THE_MEAN, MOST_OF_A_CELL = 30, 18, 250
 
-HELD = ("README.md", "docs/PROOF.md", "docs/POSITIONS.md", "docs/MIDI_FILE.md", "docs/SCHEDULER.md", "docs/RECORDS.md")
-NOT_YET = ("CONTRIBUTING.md", "docs/ARCHITECTURE.md", "docs/GUARANTEES.md",
+HELD = ("README.md", "docs/PROOF.md", "docs/POSITIONS.md", "docs/MIDI_FILE.md", "docs/SCHEDULER.md", "docs/RECORDS.md",
+        "docs/ARCHITECTURE.md")
+NOT_YET = ("CONTRIBUTING.md", "docs/GUARANTEES.md",
            "docs/LANGUAGE.md", "docs/TUTORIAL.md", "docs/STUDIO.md", "docs/SLIPS.md",
            "docs/GLOSSARY.md", "docs/DECISIONS.md", "CHANGELOG.md", "python/README.md", "python/COOKBOOK.md",
            "editors/README.md", "examples/README.md")
