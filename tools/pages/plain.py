@@ -15,8 +15,8 @@ from prose import Passage, passages, without_code
 MOST_WORDS, MOST_IN_THE_MEAN, MOST_OF_A_CELL = 30, 18, 250
 
 HELD = ("README.md", "docs/PROOF.md", "docs/POSITIONS.md", "docs/MIDI_FILE.md", "docs/SCHEDULER.md", "docs/RECORDS.md",
-        "docs/ARCHITECTURE.md", "CONTRIBUTING.md")
-NOT_YET = ("docs/GUARANTEES.md", "docs/LANGUAGE.md", "docs/TUTORIAL.md", "docs/STUDIO.md", "docs/SLIPS.md",
+        "docs/ARCHITECTURE.md", "CONTRIBUTING.md", "docs/GUARANTEES.md", "docs/CLAIMS.md")
+NOT_YET = ("docs/LANGUAGE.md", "docs/TUTORIAL.md", "docs/STUDIO.md", "docs/SLIPS.md",
            "docs/GLOSSARY.md", "docs/DECISIONS.md", "CHANGELOG.md", "python/README.md", "python/COOKBOOK.md",
            "editors/README.md", "examples/README.md")
 
