@@ -1,5 +1,5 @@
 """What the command's refusals mean: the tables behind `scripts/formula`, this library's exceptions
-and those of docs/LANGUAGE.md, docs/MIDI_FILE.md and docs/SCHEDULER.md (which `scripts/pages` writes)."""
+and those of docs/LANGUAGE.md, docs/MIDI_FILE.md and docs/RECORDS.md (which `scripts/pages` writes)."""
 
 from __future__ import annotations
 
@@ -61,7 +61,7 @@ FAULTS = {fault.number: fault for fault in (
 
 #: Of a file that is read, with `--list`; places are bytes, counted from 0.
 FILE_FAULTS = {fault.number: fault for fault in (
-    Fault(21, "the bytes begin with `RIFF`: a wrapper (RMID) stands around the file", "0",
+    Fault(21, "the bytes begin with `RIFF`: a wrapper (RMID) encloses the file", "0",
           "take the `data` chunk out of the wrapper; most players save a plain file"),
     Fault(22, "the bytes begin otherwise than with `MThd`", "0",
           "check the name: it is another kind of file, an empty one, or a compressed one"),

@@ -1,5 +1,5 @@
 """The record of a run, which `formula` writes with `--record` and checks with `--audit`: its parts, and its steps
-as lines. docs/SCHEDULER.md has the format, and says what the steps do. Nothing is checked here but the bytes."""
+as lines. docs/RECORDS.md has the format, docs/SCHEDULER.md says what the steps do. Nothing is checked here but the bytes."""
 
 from __future__ import annotations
 

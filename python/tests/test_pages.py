@@ -57,7 +57,8 @@ class Prose(unittest.TestCase):
             ("It goes over all.", "`goes over` means too much"), ("Want\nof memory.", "`Want of memory` means too much"),
         ):
             self.assertIn(told, "\n".join(it.told for it in plain.faults_of(text)), text)
-        for text in ("word " * 18 + ".", f"| {'c' * 250} |", "`stands` and ```stood``` are names. A standard.", "Storytelling"):
+        for text in ("word " * 18 + ".", f"| {'c' * 250} |", "`stands` and ```stood``` are names. A standard.", "Storytelling",
+                     "[A link](#what-stands-here) says its target apart."):
             self.assertEqual(plain.faults_of(text), [], text)
 
 

@@ -1,4 +1,4 @@
-"""Records of runs as text: those that docs/SCHEDULER.md shows, and others."""
+"""Records of runs as text: those that docs/RECORDS.md shows, and others."""
 
 import re
 import unittest
@@ -21,7 +21,7 @@ def read(name: str) -> Record:
 
 class Records(unittest.TestCase):
     def test_the_page_shows_them(self) -> None:
-        page = (TOP / "docs" / "SCHEDULER.md").read_text()
+        page = (TOP / "docs" / "RECORDS.md").read_text()
         self.assertIn("```\n" + "\n".join(lines(read("least"))) + "\n```\n", page)
         shown = [(str(step.number), str(step)) for step in steps(read("two_seats").steps)]
         self.assertEqual(re.findall(r"^\| ([0-9]+) `([A-Z][^`]*)` \|", page, re.M), shown)

@@ -1,7 +1,7 @@
 """Whether pages are in plain English: how long their sentences and the cells of their tables are, and words that mean too much.
 
-The pages of HELD keep the limits. Those of NOT_YET do not yet: they are measured, and not judged. A page that is
-rewritten goes from one list to the other."""
+The pages of HELD keep the limits, and so do the beginnings of those of HELD_TO. Those of NOT_YET do not yet: they are
+measured, and not judged. A page that is rewritten goes from one list to the other."""
 
 from __future__ import annotations
 
@@ -14,13 +14,16 @@ from prose import Passage, passages, without_code
 #: The most words of a sentence, the most in the mean, and the most characters of a cell.
 MOST_WORDS, MOST_IN_THE_MEAN, MOST_OF_A_CELL = 30, 18, 250
 
-HELD = ("README.md",)
-NOT_YET = ("CONTRIBUTING.md", "docs/ARCHITECTURE.md", "docs/SCHEDULER.md", "docs/GUARANTEES.md", "docs/POSITIONS.md",
-           "docs/MIDI_FILE.md", "docs/PROOF.md", "docs/LANGUAGE.md", "docs/TUTORIAL.md", "docs/STUDIO.md", "docs/SLIPS.md",
-           "docs/GLOSSARY.md", "docs/DECISIONS.md", "CHANGELOG.md", "python/README.md", "python/COOKBOOK.md",
+HELD = ("README.md", "docs/PROOF.md", "docs/POSITIONS.md", "docs/MIDI_FILE.md", "docs/SCHEDULER.md", "docs/RECORDS.md",
+        "docs/ARCHITECTURE.md", "CONTRIBUTING.md", "docs/GUARANTEES.md", "docs/CLAIMS.md")
+NOT_YET = ("docs/LANGUAGE.md", "docs/TUTORIAL.md", "docs/STUDIO.md", "docs/SLIPS.md",
+           "docs/GLOSSARY.md", "CHANGELOG.md", "python/README.md", "python/COOKBOOK.md",
            "editors/README.md", "examples/README.md")
 
-#: Words that stand for too many things, each with words that say one.
+#: Pages of which the beginning keeps the limits, each with the heading at which it ends. An entry of DECISIONS is never changed.
+HELD_TO = {"docs/DECISIONS.md": "## 1. "}
+
+#: Words that mean too many things, each with words that say one.
 VAGUE = {
     r"st(?:and(?:s|ing)?|ood)": "is, are, lies, begins",
     r"(?:come(?:s)?|came|coming) out": "results, returns, is written",
@@ -82,21 +85,28 @@ def measure(page: str) -> Measure:
                    sum(each > MOST_OF_A_CELL for each in cells), sum(1 for each in whole for _ in _vague_in(each)))
 
 
+def _judged_text(top: pathlib.Path, name: str) -> str:
+    """A page, or the beginning of it that is held."""
+    page = (top / name).read_text(encoding="utf-8")
+    return page.split("\n" + HELD_TO[name])[0] if name in HELD_TO else page
+
+
 def judged(top: pathlib.Path) -> list[str]:
-    """What is wrong with the pages that are held, and pages that stand in neither list."""
-    problems = [f"{name}:{fault.line}: {fault.told}" for name in HELD
-                for fault in faults_of((top / name).read_text(encoding="utf-8"))]
+    """What is wrong with the pages that are held, and pages that are in no list."""
+    problems = [f"{name}:{fault.line}: {fault.told}" for name in (*HELD, *HELD_TO)
+                for fault in faults_of(_judged_text(top, name))]
     there = {path.relative_to(top).as_posix() for folder in (".", "docs", "python", "editors", "examples")
              for path in (top / folder).glob("*.md")}
-    problems += [f"{name}: tools/pages/plain.py names it in no list" for name in sorted(there - {*HELD, *NOT_YET})]
-    problems += [f"{name}: tools/pages/plain.py names it, and it is not there" for name in sorted({*HELD, *NOT_YET} - there)]
+    listed = {*HELD, *HELD_TO, *NOT_YET}
+    problems += [f"{name}: tools/pages/plain.py names it in no list" for name in sorted(there - listed)]
+    problems += [f"{name}: tools/pages/plain.py names it, and it is not there" for name in sorted(listed - there)]
     return problems
 
 
 def table(top: pathlib.Path) -> Iterator[str]:
     """A line for each page with what it measures."""
     yield f"{'page':<24}{'sentences':>10}{'mean':>7}{'most':>6}{'> ' + str(MOST_WORDS):>6}{'cells':>7}{'words':>7}"
-    for name in (*HELD, *NOT_YET):
-        it = measure((top / name).read_text(encoding="utf-8"))
-        yield (f"{name:<24}{it.sentences:>10}{it.mean:>7.1f}{it.most:>6}{it.long:>6}{it.long_cells:>7}{it.vague:>7}"
-               + ("" if name in HELD else "  not yet"))
+    for name in (*HELD, *HELD_TO, *NOT_YET):
+        found = measure(_judged_text(top, name))
+        yield (f"{name:<24}{found.sentences:>10}{found.mean:>7.1f}{found.most:>6}{found.long:>6}{found.long_cells:>7}"
+               f"{found.vague:>7}" + ("  not yet" if name in NOT_YET else "  its beginning" if name in HELD_TO else ""))

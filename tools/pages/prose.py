@@ -34,8 +34,8 @@ def words_of(text: str) -> list[str]:
 
 
 def without_code(text: str) -> str:
-    """A text without the names in it that are code."""
-    return _CODE.sub("``", text)
+    """A text without the names in it that are code, and without the targets of its links."""
+    return _CODE.sub("``", _LINK.sub(r"\1", text))
 
 
 def cells_of(row: str) -> list[str]:

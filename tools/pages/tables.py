@@ -83,7 +83,7 @@ def hundreds() -> Iterator[str]:
 PAGES: Mapping[str, Mapping[str, tuple[str, Callable[[], Iterator[str]]]]] = {
     "LANGUAGE.md": {"words": (INDEX_FROM, words), "faults": (FAULTS_FROM, faults)},
     "MIDI_FILE.md": {"faults": (FAULTS_FROM, file_faults)},
-    "SCHEDULER.md": {"faults": (FAULTS_FROM, record_faults)},
+    "RECORDS.md": {"faults": (FAULTS_FROM, record_faults)},
     "SLIPS.md": {"slips": (SLIPS_FROM, slips), "hundreds": (HUNDREDS_FROM, hundreds)},
 }
 
