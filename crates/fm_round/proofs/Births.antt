@@ -46,9 +46,9 @@ pub record IsAhead (p : PlanParts) (ss : List Lane) (j : ℕ) : Type 0 where
   pub early : clock ≤ start (plan_lines p) j
 
 module _ (p : PlanParts) (ss : List Lane) (valid : ValidLines (plan_lines p)) (lanes : AllLanes p ss)
-    (started : AllStarted p ss (length ss)) where
+    (m : ℕ) (within_all : m ≤ length ss) (started : AllStarted p ss m) where
   -- a predecessor that has not ended is ahead, or waits itself
-  through : (j q : ℕ) → q < j → q < length ss → (line (plan_lines p) q).end ≤ start (plan_lines p) j
+  through : (j q : ℕ) → q < j → q < m → (line (plan_lines p) q).end ≤ start (plan_lines p) j
       → (ended : Bool) (strand : Option Strand) → (lane ss q).ended ≡ ended → (lane ss q).strand ≡ strand → ended ≡ false
       → IsRun p q ended (lane ss q).outbox.events strand → ((lane ss q).strand ≡ None → IsAhead p ss q) → IsAhead p ss j
   through j q less there before true strand is_ended is_strand live run further = absurd (cc)
@@ -63,7 +63,7 @@ module _ (p : PlanParts) (ss : List Lane) (valid : ValidLines (plan_lines p)) (l
       subst (λ (i : ℕ). clock_of p t ≤ (line (plan_lines p) i).end) run.process (clock_to_end p t run.course) in
       record { at = q; less = less; clock = clock_of p t; live = rw (is_ended, is_strand) refl; early = omega arith }
 
-  ahead_in : (n j : ℕ) → j < n → j < length ss → (lane ss j).strand ≡ None → IsAhead p ss j
+  ahead_in : (n j : ℕ) → j < n → j < m → (lane ss j).strand ≡ None → IsAhead p ss j
   ahead_in zero j lt there unborn = absurd (omega arith)
   ahead_in (suc n) j lt there unborn =
       let waiting = started j there unborn in
@@ -81,7 +81,7 @@ module _ (p : PlanParts) (ss : List Lane) (valid : ValidLines (plan_lines p)) (l
       (λ none. ahead_in n (get_or (predecessors p j) waiting.at 0) (omega arith) (omega arith) none)
 
   -- some live process is before j, with a clock not past j's start
-  pub ahead : (j : ℕ) → j < length ss → (lane ss j).strand ≡ None → IsAhead p ss j
+  pub ahead : (j : ℕ) → j < m → (lane ss j).strand ≡ None → IsAhead p ss j
   ahead j there unborn = ahead_in (suc j) j (omega arith) there unborn
 
 -- each predecessor is an earlier process

@@ -10,7 +10,7 @@ use Rattle.fm_strand.specs.declared.strand.Strand.{Strand}
 use Rattle.fm_strand.specs.Strand.{clock_of}
 use Rattle.fm_round.specs.declared.lane.Lane.{Lane}
 use Rattle.fm_round.specs.Lefts.{joined}
-use Rattle.fm_round.proofs.Halfway.{Playing}
+use Rattle.fm_round.specs.Halfway.{Playing}
 use Rattle.fm_round.specs.Lanes.{AllLanes, AllStarted, IsAtEnd, IsRun, LeastOf, due, lefts, live_clock, lane, without_due, yet}
 use Rattle.fm_round.proofs.Parting.{FrontsFirst, back_of}
 use Rattle.fm_round.proofs.Order.{none_stays_at_all}
@@ -19,7 +19,7 @@ use Rattle.fm_round.proofs.Releasing.{parts, parts-back, parts_stay, released, s
 use Rattle.fm_round.proofs.StrandFacts.{rest_ended}
 
 -- a list without a member is empty
-empty_list : (xs : List TimedMessage) → ((e : TimedMessage) → In e xs → ⊥) → xs ≡ []
+pub empty_list : (xs : List TimedMessage) → ((e : TimedMessage) → In e xs → ⊥) → xs ≡ []
 empty_list [] none = refl
 empty_list (x ∷ xs) none = absurd (none x (inl refl))
 
@@ -31,7 +31,7 @@ module _ (p : PlanParts) (ss : List Lane) (valid : ValidLines (plan_lines p)) (c
   by_state j there true (Some t) is_ended is_strand run =
       record { strand = t; is = is_strand; course = run.course; process = run.process; over = run.at_end refl }
   by_state j there false None is_ended is_strand run =
-      let before = ahead p ss valid lanes started j there is_strand in
+      let before = ahead p ss valid lanes (length ss) (omega arith) started j there is_strand in
       let less = before.less in
       let never : Some before.clock ≡ None = sym before.live ∙ none before.at (omega arith) in cc
   by_state j there false (Some t) is_ended is_strand run =

@@ -1,5 +1,4 @@
 pub mod StrandFacts
-pub mod Halfway
 pub mod Parting
 pub mod Order
 pub mod Births
@@ -10,6 +9,7 @@ pub mod Running
 pub mod Chaining
 pub mod Quanta
 pub mod Between
+pub mod NextRound
 pub mod Starting
 pub mod Gathering
 pub mod Finding
@@ -19,4 +19,9 @@ pub mod Listing
 pub mod Following
 pub mod Watched
 pub mod Turning
+pub mod OneDue
+pub mod Serving
+pub mod Reaching
+pub mod Goings
+pub mod OneServed
 mod Numerals

@@ -11,7 +11,7 @@ use Rattle.fm_line.proofs.Rising.{in_above}
 use Rattle.fm_program.specs.Parts.{PlanParts}
 use Rattle.fm_round.specs.declared.lane.Lane.{Lane}
 use Rattle.fm_round.specs.Lefts.{IsOwn, OwnFrom, joined}
-use Rattle.fm_round.proofs.Halfway.{Playing}
+use Rattle.fm_round.specs.Halfway.{Playing}
 use Rattle.fm_round.specs.Lanes.{IsFresh, lefts, lane}
 
 -- ---- lines one after the other

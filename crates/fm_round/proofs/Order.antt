@@ -1,5 +1,5 @@
 -- What is due up to a key is before all that is behind it.
-use Rattle.std.proofs.Common.{◌≡◌, ◌⊎◌, ℕ, suc, ◌<◌, ◌≤◌, Bool, true, false, List, [], ◌∷◌, take, drop, refl, sym, subst, ◌∙◌, inl, inr, arith}
+use Rattle.std.proofs.Common.{◌≡◌, ◌⊎◌, ℕ, suc, ◌+◌, ◌<◌, ◌≤◌, Bool, true, false, List, [], ◌∷◌, take, drop, refl, sym, subst, ◌∙◌, inl, inr, arith}
 use Rattle.std.specs.Prelude.{Some, None, ◌&&◌, nat_lt, nat_le, nat_eq, if◌then◌else◌}
 use Rattle.std.proofs.lemmas.Bool.{both_ways, cases_lt, cases_order, ltb-true, eqb-true, leb-true, lt-ltb, eq-eqb, le-leb, and_parts, and_from, or_cases, or_left, or_right}
 use Rattle.fm_msg.specs.Event.{TimedMessage}
@@ -29,18 +29,18 @@ is_due : (c m : ℕ) (e : TimedMessage) → IsDue c m e → is_through (Some (c,
 is_due c m e (inl less) = or_left _ _ (lt-ltb e.time c less)
 is_due c m e (inr (same, below)) = or_right _ _ (and_from _ _ (eq-eqb e.time c same) (le-leb e.process m below))
 
--- an event past the key is not before it
-past_is : (c m : ℕ) (e : TimedMessage) → is_through (Some (c, m)) e ≡ false → IsNotPast c m e.time e.process
+-- an event past the key is behind it
+past_is : (c m : ℕ) (e : TimedMessage) → is_through (Some (c, m)) e ≡ false → IsNotPast c (m + 1) e.time e.process
 past_is c m e past = by_time (cases_order e.time c)
   where
     never : IsDue c m e → ⊥
     never due = both_ways (is_through (Some (c, m)) e) past (is_due c m e due)
 
-    by_process : e.time ≡ c → (m < e.process) ⊎ (e.process ≤ m) → IsNotPast c m e.time e.process
+    by_process : e.time ≡ c → (m < e.process) ⊎ (e.process ≤ m) → IsNotPast c (m + 1) e.time e.process
     by_process same (inl above) = inr (sym same, omega arith)
     by_process same (inr below) = absurd (never (inr (same, below)))
 
-    by_time : (e.time ≡ c) ⊎ ((e.time < c) ⊎ (c < e.time)) → IsNotPast c m e.time e.process
+    by_time : (e.time ≡ c) ⊎ ((e.time < c) ⊎ (c < e.time)) → IsNotPast c (m + 1) e.time e.process
     by_time (inl same) = by_process same (cases_lt m e.process)
     by_time (inr (inl less)) = absurd (never (inl less))
     by_time (inr (inr more)) = inl more
@@ -99,23 +99,33 @@ taken_due c m (x ∷ xs) e i = by_test (is_through (Some (c, m)) x) refl i (λ j
     by_test true test (inr j) more = more j
     by_test false test j more = absurd j
 
--- what stays of a rising queue is not before the key
-pub stays_past : (c m : ℕ) (xs : List TimedMessage) (e : TimedMessage) → Rises xs
-    → In e (drop (count_through (Some (c, m)) xs) xs) → IsNotPast c m e.time e.process
-stays_past c m [] e rises i = absurd (no_event i)
+-- what stays of a rising queue is behind the key
+pub stays_behind : (c m : ℕ) (xs : List TimedMessage) (e : TimedMessage) → Rises xs
+    → In e (drop (count_through (Some (c, m)) xs) xs) → IsNotPast c (m + 1) e.time e.process
+stays_behind c m [] e rises i = absurd (no_event i)
   where
     no_event : In e (drop 0 []) → ⊥
     no_event j = j
-stays_past c m (x ∷ xs) e rises i = by_test (is_through (Some (c, m)) x) refl i (λ j. stays_past c m xs e rises.1 j)
+stays_behind c m (x ∷ xs) e rises i = by_test (is_through (Some (c, m)) x) refl i (λ j. stays_behind c m xs e rises.1 j)
   where
     by_test : (b : Bool) → is_through (Some (c, m)) x ≡ b
         → In e (drop (if b then suc (count_through (Some (c, m)) xs) else 0) (x ∷ xs))
-        → (In e (drop (count_through (Some (c, m)) xs) xs) → IsNotPast c m e.time e.process)
-        → IsNotPast c m e.time e.process
+        → (In e (drop (count_through (Some (c, m)) xs) xs) → IsNotPast c (m + 1) e.time e.process)
+        → IsNotPast c (m + 1) e.time e.process
     by_test true test j more = more j
     by_test false test (inl same) more =
-        subst (λ (y : TimedMessage). IsNotPast c m y.time y.process) (sym same) (past_is c m x test)
-    by_test false test (inr j) more = past_later c m x e (past_is c m x test) (above_in x e xs rises.0 j)
+        subst (λ (y : TimedMessage). IsNotPast c (m + 1) y.time y.process) (sym same) (past_is c m x test)
+    by_test false test (inr j) more = past_later c (m + 1) x e (past_is c m x test) (above_in x e xs rises.0 j)
+
+-- an earlier process gives an earlier pair
+pub past_lower : (c m k t j : ℕ) → m ≤ k → IsNotPast c k t j → IsNotPast c m t j
+past_lower c m k t j up (inl above) = inl above
+past_lower c m k t j up (inr at) = let from = at.1 in inr (at.0, omega arith)
+
+-- and so is not before it
+pub stays_past : (c m : ℕ) (xs : List TimedMessage) (e : TimedMessage) → Rises xs
+    → In e (drop (count_through (Some (c, m)) xs) xs) → IsNotPast c m e.time e.process
+stays_past c m xs e rises i = past_lower c m (m + 1) e.time e.process (omega arith) (stays_behind c m xs e rises i)
 
 -- nothing stays where all are due
 pub none_stays : (c m : ℕ) (xs : List TimedMessage) → ((e : TimedMessage) → In e xs → IsDue c m e)

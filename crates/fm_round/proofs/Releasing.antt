@@ -14,8 +14,9 @@ use Rattle.fm_strand.specs.declared.strand.Strand.{Strand}
 use Rattle.fm_strand.specs.Strand.{InCourse, clock_of, rest}
 use Rattle.fm_round.specs.declared.lane.Lane.{Lane}
 use Rattle.fm_round.specs.Lefts.{IsOwn, OwnFrom, joined}
-use Rattle.fm_round.proofs.Halfway.{Playing}
-use Rattle.fm_round.specs.Lanes.{AllLanes, AllStarted, IsLeast, IsNotPast, IsRun, due, left, lefts, lane, without_due, yet}
+use Rattle.fm_round.specs.Halfway.{Playing}
+use Rattle.fm_round.specs.Lanes.{AllLanes, AllStarted, IsLeast, IsNotPast, IsRun, due, left, lefts, lane, live_clock, without_due, yet}
+use Rattle.fm_round.specs.Turns.{AllFrom}
 use Rattle.fm_play.proofs.InTime.{before_time}
 use Rattle.fm_round.proofs.Parting.{Parted, FrontsFirst, back_of, front_of, own_back, own_backs, own_front, sorted_parts, whole_of}
 use Rattle.fm_round.proofs.Order.{IsDue, due_first, past_time, stays_past, taken_due}
@@ -122,35 +123,36 @@ past_process c m t i j (inl above) later = inl above
 past_process c m t i j (inr at) later = let from = at.1 in inr (at.0, omega arith)
 
 module _ (p : PlanParts) (ss : List Lane) (valid : ValidLines (plan_lines p)) (count : length ss ≡ length (plan_lines p))
-    (lanes : AllLanes p ss) (started : AllStarted p ss (length ss)) (own : OwnFrom 0 (lefts p (plan_lines p) ss))
-    (c m : ℕ) (least : IsLeast p ss (length ss) c m) where
-  -- what a process has still to compute is not before the least pair
-  yet_past : (j : ℕ) → j < length ss → (e : TimedMessage) → (ended : Bool) (strand : Option Strand)
+    (lanes : AllLanes p ss) (n : ℕ) (within_all : n ≤ length ss) (started : AllStarted p ss n)
+    (own : OwnFrom 0 (lefts p (plan_lines p) ss)) (c m : ℕ)
+    (least : (j t : ℕ) → j < n → live_clock p (lane ss j) ≡ Some t → IsNotPast c m t j) where
+  -- what a process has still to compute is not before the pair that none of the first clocks is before
+  pub yet_past : (j : ℕ) → j < n → (e : TimedMessage) → (ended : Bool) (strand : Option Strand)
       → (lane ss j).ended ≡ ended → (lane ss j).strand ≡ strand → IsRun p j ended (lane ss j).outbox.events strand
       → Rises (yet p (line (plan_lines p) j).events strand) → In e (yet p (line (plan_lines p) j).events strand)
       → IsNotPast c m e.time j
   yet_past j there e ended None is_ended is_strand run rises i =
-      let before = ahead p ss valid lanes started j there is_strand in
+      let before = ahead p ss valid lanes n within_all started j there is_strand in
       let less = before.less in
-      let at = least.least before.at before.clock (omega arith) before.live in
+      let at = least before.at before.clock (omega arith) before.live in
       let start = start_below (plan_lines p) valid j e i in
       let early = before.early in
       past_process c m e.time before.at j (past_time c m before.clock e.time before.at at (omega arith)) (omega arith)
   yet_past j there e true (Some t) is_ended is_strand run rises i =
       let none : rest p t ≡ [] = rest_ended p t run.course (run.at_end refl) in absurd (subst (In e) none i)
   yet_past j there e false (Some t) is_ended is_strand run rises i =
-      let at = least.least j (clock_of p t) there (rw (is_ended, is_strand) refl) in
+      let at = least j (clock_of p t) there (rw (is_ended, is_strand) refl) in
       past_time c m (clock_of p t) e.time j at (clock_below p t e run.course rises i)
 
-  -- what stays of a process is not before the least pair
-  pub stay_past : (j : ℕ) → j < length ss → (e : TimedMessage)
+  -- what stays of a process is not before it
+  pub stay_past : (j : ℕ) → j < n → (e : TimedMessage)
       → In e (stay p (Some (c, m)) (line (plan_lines p) j).events (lane ss j)) → IsNotPast c m e.time e.process
   stay_past j there e i =
       let s = lane ss j in
       let events = (line (plan_lines p) j).events in
       let all : IsOwn j (left p (line (plan_lines p) j).events (lane ss j)) =
       subst (λ (n : ℕ). IsOwn n (left p (line (plan_lines p) j).events (lane ss j))) zero_add
-      (own_at p 0 (plan_lines p) ss j own (omega arith) there) in
+      (own_at p 0 (plan_lines p) ss j own (omega arith) (omega arith)) in
       let front = own_front j (lane ss j).outbox.events (yet p (line (plan_lines p) j).events (lane ss j).strand) all in
       let back = own_back j (lane ss j).outbox.events (yet p (line (plan_lines p) j).events (lane ss j).strand) all in
       ⊎_elim
@@ -158,7 +160,7 @@ module _ (p : PlanParts) (ss : List Lane) (valid : ValidLines (plan_lines p)) (c
       stays_past c m (lane ss j).outbox.events e front.rises k)
       (λ (k : In e (yet p (line (plan_lines p) j).events (lane ss j).strand)).
       subst (IsNotPast c m e.time) (sym (back.process e k))
-      (yet_past j there e (lane ss j).ended (lane ss j).strand refl refl (lanes j there) back.rises k))
+      (yet_past j there e (lane ss j).ended (lane ss j).strand refl refl (lanes j (omega arith)) back.rises k))
       (in_either e (drop (count_through (Some (c, m)) (lane ss j).outbox.events) (lane ss j).outbox.events)
       (yet p (line (plan_lines p) j).events (lane ss j).strand) i)
     where
@@ -168,7 +170,7 @@ module _ (p : PlanParts) (ss : List Lane) (valid : ValidLines (plan_lines p)) (c
 -- ---- all processes
 
 -- what is due of all processes is due
-parts_due : (p : PlanParts) (c m : ℕ) (ls : List Line) (ss : List Lane) (e : TimedMessage)
+pub parts_due : (p : PlanParts) (c m : ℕ) (ls : List Line) (ss : List Lane) (e : TimedMessage)
     → In e (joined (map front_of (parts p (Some (c, m)) ls ss))) → IsDue c m e
 parts_due p c m [] ss e i = absurd i
 parts_due p c m (l ∷ ls) [] e i = absurd i
@@ -189,11 +191,15 @@ parts_stay p key (l ∷ ls) (s ∷ ss) P each e i =
     parts_stay p key ls ss P (λ k below. each (suc k) (omega arith)) e j)
     (in_either e (stay p key l.events s) (joined (map back_of (parts p key ls ss))) i)
 
--- up to the least pair what is due is first
-pub least_first : (p : PlanParts) (ss : List Lane) → ValidLines (plan_lines p) → length ss ≡ length (plan_lines p)
+-- up to the least pair what is due is taken, and all that stays is not before it
+pub least_from : (p : PlanParts) (ss : List Lane) → ValidLines (plan_lines p) → length ss ≡ length (plan_lines p)
     → AllLanes p ss → AllStarted p ss (length ss) → OwnFrom 0 (lefts p (plan_lines p) ss)
-    → (c m : ℕ) → IsLeast p ss (length ss) c m → FrontsFirst (parts p (Some (c, m)) (plan_lines p) ss)
-least_first p ss valid count lanes started own c m least x y i j =
-    due_first c m x y (parts_due p c m (plan_lines p) ss x i)
-    (parts_stay p (Some (c, m)) (plan_lines p) ss (λ e. IsNotPast c m e.time e.process)
-    (stay_past p ss valid count lanes started own c m least) y j)
+    → (c m : ℕ) → IsLeast p ss (length ss) c m → AllFrom c m (map back_of (parts p (Some (c, m)) (plan_lines p) ss))
+least_from p ss valid count lanes started own c m least =
+    parts_stay p (Some (c, m)) (plan_lines p) ss (λ e. IsNotPast c m e.time e.process)
+    (stay_past p ss valid count lanes (length ss) (omega arith) started own c m least.least)
+
+-- where all that stays is not before the pair, what is due up to it is first
+pub from_first : (p : PlanParts) (ls : List Line) (ss : List Lane) (c m : ℕ) → AllFrom c m (map back_of (parts p (Some (c, m)) ls ss))
+    → FrontsFirst (parts p (Some (c, m)) ls ss)
+from_first p ls ss c m from x y i j = due_first c m x y (parts_due p c m ls ss x i) (from y j)

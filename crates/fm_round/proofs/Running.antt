@@ -21,7 +21,7 @@ any_default [] k c d lt = absurd (omega arith)
 any_default (x ∷ xs) zero c d lt = refl
 any_default (x ∷ xs) (suc k) c d lt = any_default xs k c d (omega arith)
 
-lefts_same : (p : PlanParts) (ls : List Line) (old new : List Lane) → length new ≡ length old
+pub lefts_same : (p : PlanParts) (ls : List Line) (old new : List Lane) → length new ≡ length old
     → ((k : ℕ) → k < length old → (events : List TimedMessage) → left p events (lane new k) ≡ left p events (lane old k))
     → lefts p ls new ≡ lefts p ls old
 lefts_same p [] old new same each = refl
@@ -60,7 +60,7 @@ loads_less p first (s ∷ old) (t ∷ new) same each =
     next : (k : ℕ) → first + suc k ≡ suc first + k
     next k = omega arith
 
-loads_fall : (p : PlanParts) (first : ℕ) (old new : List Lane) (j : ℕ) → length new ≡ length old → j < length old
+pub loads_fall : (p : PlanParts) (first : ℕ) (old new : List Lane) (j : ℕ) → length new ≡ length old → j < length old
     → ((k : ℕ) → k < length old → load p (first + k) (lane new k) ≤ load p (first + k) (lane old k))
     → load p (first + j) (lane new j) < load p (first + j) (lane old j)
     → loads p first new < loads p first old

@@ -1,10 +1,10 @@
 -- One round: what the hands may be given, and what is watched after it.
-use Rattle.std.proofs.Common.{◌≡◌, ℕ, ◌+◌, ◌-◌, ◌^◌, List, length, map, min, All, Option, Some, sym, ap, ◌∙◌, subst, arith}
+use Rattle.std.proofs.Common.{◌≡◌, ℕ, ◌+◌, ◌-◌, ◌^◌, List, length, map, min, All, Option, sym, ap, ◌∙◌, subst, arith}
 use Rattle.std.proofs.lemmas.List.{length-map}
 use Rattle.fm_edge.specs.Seen.{SinkSeen}
 use Rattle.fm_program.specs.Parts.{PlanParts}
 use Rattle.fm_round.specs.Hands.{IsRound, MayRun}
-use Rattle.fm_round.specs.Lanes.{IsLeast, RunsAll, lane, live_clock, room_of, without_due}
+use Rattle.fm_round.specs.Lanes.{AllStarted, IsLeast, RunsAll, lane, live_clock, without_due}
 use Rattle.fm_round.specs.Watching.{AllAwait, AreWatched, Watched}
 use Rattle.fm_round.specs.declared.lane.Lane.{Lane}
 use Rattle.fm_round.specs.declared.watch.Watch.{Watch}
@@ -71,6 +71,7 @@ module _ {K : Type 0} {seen : SinkSeen K} {p : PlanParts} (here : Interval seen 
       }
 
   -- and who waited for a process that ended is in its list
-  pub stays_awaited : {limit : ℕ} {ran : List Lane} → RunsAll p limit ss ran → length ran ≡ length ss → AllAwait p w 0 ran
-  stays_awaited {limit = limit} {ran = ran} runs same =
-      await_round p here.fits w key limit here.lanes ss ran watched here.between.count took runs same here.between.started
+  pub stays_awaited : AllStarted p here.lanes (length here.lanes) → {limit : ℕ} {ran : List Lane} → RunsAll p limit ss ran
+      → length ran ≡ length ss → AllAwait p w 0 ran
+  stays_awaited started {limit = limit} {ran = ran} runs same =
+      await_round p here.fits w key limit here.lanes ss ran watched here.between.count took runs same started

@@ -10,7 +10,7 @@ use Rattle.fm_program.specs.Parts.{PlanParts}
 use Rattle.fm_play.proofs.PlanFacts.{plan_valid}
 use Rattle.fm_round.specs.Chain.{IsIdle, Joins, link}
 use Rattle.fm_round.specs.Lanes.{AllLanes, AllStarted, IsFresh, IsWaiting, RunsAll, is_running, predecessors, run_is_live, lane, without_due}
-use Rattle.fm_round.specs.Starts.{Begins, StartsSome}
+use Rattle.fm_round.specs.Starts.{Begins, StartsBehind, StartsSome}
 use Rattle.fm_round.specs.Watching.{AllAwait, Awaits, IsOpenWatch, Takes, Watched, list_of, predecessor}
 use Rattle.fm_round.specs.declared.lane.Lane.{Lane}
 use Rattle.fm_round.specs.declared.watch.Watch.{Watch}
@@ -19,7 +19,7 @@ use Rattle.fm_round.proofs.Listing.{takes_kept}
 use Rattle.fm_round.proofs.Running.{lane-map}
 
 -- who has ended does not run
-ended_rests : (s : Lane) → s.ended ≡ true → is_running s ≡ false
+pub ended_rests : (s : Lane) → s.ended ≡ true → is_running s ≡ false
 ended_rests s is = ap (λ b. run_is_live b s.strand) is
 
 -- ---- at first
@@ -51,6 +51,21 @@ some_more p old now new before one = record {
   same = one.same ∙ before.same;
   rooms = one.rooms ∙ before.rooms;
   loads = one.loads ∙ before.loads;
+}
+
+-- none behind has
+pub behind_nothing : (p : PlanParts) (before : ℕ) (ss : List Lane) → AllLanes p ss → StartsBehind p before ss ss
+behind_nothing p before ss lanes = record {
+  some = record { lanes = lanes; ended = λ i. refl; same = refl; rooms = refl; loads = refl };
+  front = λ j up. refl;
+}
+
+-- one more has
+pub behind_more : (p : PlanParts) (before j : ℕ) (old now new : List Lane) → StartsBehind p before old now → Begins p j now new
+    → before < j → StartsBehind p before old new
+behind_more p before j old now new starts begins less = record {
+  some = some_more p old now new starts.some begins.some;
+  front = λ i up. begins.others i (λ same. absurd (omega arith)) ∙ starts.front i up;
 }
 
 -- it has joined the chain

@@ -6,4 +6,6 @@ pub mod Chain
 pub mod Watching
 pub mod Starts
 pub mod Hands
+pub mod Halfway
 pub mod Rounds
+pub mod Turns

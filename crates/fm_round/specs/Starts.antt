@@ -1,5 +1,5 @@
 -- What is left where each process that can start was started.
-use Rattle.std.specs.Prelude.{◌≡◌, ℕ, List, length, map}
+use Rattle.std.specs.Prelude.{◌≡◌, ℕ, ◌≤◌, List, length, map}
 use Rattle.fm_program.specs.Parts.{PlanParts}
 use Rattle.fm_program.specs.Process.{plan_lines}
 use Rattle.fm_round.specs.Lanes.{AllLanes, AllStarted, lefts, loads, room_of, lane}
@@ -20,6 +20,11 @@ pub record StartsSome (p : PlanParts) (old new : List Lane) : Type 0 where
   pub same : lefts p (plan_lines p) new ≡ lefts p (plan_lines p) old
   pub rooms : map room_of new ≡ map room_of old
   pub loads : loads p 0 new ≡ loads p 0 old
+
+-- processes behind `before` have, and nothing else is changed
+pub record StartsBehind (p : PlanParts) (before : ℕ) (old new : List Lane) : Type 0 where
+  pub some : StartsSome p old new
+  pub front : (j : ℕ) → j ≤ before → lane new j ≡ lane old j
 
 -- the process j may have started, and nothing else is changed
 pub record Begins (p : PlanParts) (j : ℕ) (old new : List Lane) : Type 0 where

@@ -4,10 +4,10 @@ ghost use Rattle.fm_program.specs.Fit.{PartsFit};
 ghost use Rattle.fm_strand.specs.Course.{end_place, start_place};
 ghost use Rattle.fm_round.specs.Chain.{link};
 ghost use Rattle.fm_round.specs.Lanes.{AllEnded, AreProcesses, IsLaneOf, IsWaiting, lane};
-ghost use Rattle.fm_round.specs.Starts.{Begins, Starts, StartsSome};
+ghost use Rattle.fm_round.specs.Starts.{Begins, Starts, StartsBehind};
 ghost use Rattle.fm_round.specs.Watching.{AllAwait, AreThere, AreWatched, ended_at};
 
-use crate::chain::{join, leave};
+use crate::chain::join;
 use crate::lane::Lane;
 use crate::watch::{Watch, take_follower};
 use fm_play::met;
@@ -24,29 +24,13 @@ pub fn begin_first(plan: &Plan, watch: &mut Watch, lanes: &mut [Lane])
     }
 }
 
-/// Starts each process that has not started and whose predecessors have all ended. Only those are
-/// asked that follow one in the chain that has ended.
-pub fn begin_next(plan: &Plan, watch: &mut Watch, lanes: &mut [Lane])
-    requires watched { AreWatched plan.now watch.old lanes.old }
-    requires awaited { AllAwait plan.now watch.old 0 lanes.old }
-    ensures starts { Starts plan.now lanes.old lanes.new }
-    ensures watched { AreWatched plan.now watch.new lanes.new }
-{
-    let mut at = 0;
-    while (at as usize) < lanes.len() {
-        visit(plan, at, watch, lanes);
-        at = watch.next[at as usize];
-    }
-    leave(&mut watch.next, lanes);
-}
-
-// Asks each process that follows one in the chain, if that has ended.
-fn visit(plan: &Plan, before: u32, watch: &mut Watch, lanes: &mut [Lane])
+/// Asks each process that follows one in the chain, if that has ended.
+pub fn visit(plan: &Plan, before: u32, watch: &mut Watch, lanes: &mut [Lane])
     requires watched { AreWatched plan.now watch.old lanes.old }
     requires before { before < length lanes.old }
     requires chained { 0 < link watch.old.next.items before }
     requires awaited { AllAwait plan.now watch.old before lanes.old }
-    ensures starts { StartsSome plan.now lanes.old lanes.new }
+    ensures starts { StartsBehind plan.now before lanes.old lanes.new }
     ensures watched { AreWatched plan.now watch.new lanes.new }
     ensures chained { 0 < link watch.new.next.items before }
     ensures awaited { AllAwait plan.now watch.new (before + 1) lanes.new }
@@ -63,7 +47,7 @@ fn ask_followers(plan: &Plan, before: u32, watch: &mut Watch, lanes: &mut [Lane]
     requires chained { 0 < link watch.old.next.items before }
     requires ended { (lane lanes.old before).ended ≡ true }
     requires awaited { AllAwait plan.now watch.old before lanes.old }
-    ensures starts { StartsSome plan.now lanes.old lanes.new }
+    ensures starts { StartsBehind plan.now before lanes.old lanes.new }
     ensures watched { AreWatched plan.now watch.new lanes.new }
     ensures chained { 0 < link watch.new.next.items before }
     ensures awaited { AllAwait plan.now watch.new (before + 1) lanes.new }

@@ -9,11 +9,12 @@ ghost use Rattle.fm_round.specs.Hands.{AreHands, CanRound};
 ghost use Rattle.fm_round.specs.Rounds.{AreOpened, first_room};
 ghost use Rattle.fm_round.specs.Lanes.{AllAtEnd, RunsAll};
 
-use crate::begin::{begin_first, begin_next};
+use crate::begin::begin_first;
 use crate::lane::Lane;
 use crate::least::least;
 use crate::release::release;
 use crate::stage::Stage;
+use crate::turn::take_turn;
 use fm_edge::Sink;
 use fm_smf::{SinkFault, Writer};
 use fm_strand::Plan;
@@ -46,7 +47,7 @@ pub fn play_rounds<H: Fn(&Plan, u64, &[u32], &mut [Lane]), K: Sink>(
         events += release(Some(next), &stage.watch.next, lanes, gather, writer, sink)?;
         let limit = next.0.saturating_add(stage.lead);
         run_round(hands, plan, limit, &stage.watch.next, lanes);
-        begin_next(plan, &mut stage.watch, lanes);
+        events += take_turn(plan, next.0, stage, lanes, writer, sink)?;
     }
     let gather = &mut stage.gather;
     events += release(None, &stage.watch.next, lanes, gather, writer, sink)?;

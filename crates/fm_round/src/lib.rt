@@ -17,6 +17,7 @@ mod release;
 mod rounds;
 mod run;
 mod stage;
+mod turn;
 mod watch;
 
 pub use fm_play::Played;

@@ -1,7 +1,7 @@
 use Rattle.std.proofs.Common.{◌∙◌, Some, None, refl, ap, [], ◌++◌, arith}
 use Rattle.fm_round.proofs.Following.{await_more, await_past}
 use Rattle.fm_round.proofs.Listing.{takes_there}
-use Rattle.fm_round.proofs.Watched.{some_more, watched_taken}
+use Rattle.fm_round.proofs.Watched.{behind_more, watched_taken}
 use Rattle.fm_round.proofs.begin.ask_followers.Goals as goal
 
 pub ask-requires-clause-watched : goal.ask-requires-clause-watched
@@ -9,7 +9,7 @@ ask-requires-clause-watched c = record {
   processes = c.loop-process.invariant.watched.processes;
   watch = watched_taken c.args.plan.now c.loop-process.watch (record (c.loop-process.watch) { followers = c.take_follower.new.lists })
       c.args.before (Some c.in-Some.process) c.loop-process.lanes c.loop-process.invariant.watched.watch refl refl c.in-Some.ensures
-      (c.loop-process.invariant.starts.ended c.args.before ∙ c.requires.ended);
+      (c.loop-process.invariant.starts.some.ended c.args.before ∙ c.requires.ended);
 }
 
 pub ask-requires-clause-process : goal.ask-requires-clause-process
@@ -27,8 +27,10 @@ ask-requires-clause-from c =
 pub loop-process-preserved : goal.loop-process-preserved
 loop-process-preserved c = record {
   size = c.ask.auto.lanes ∙ c.loop-process.invariant.size;
-  starts = some_more c.args.plan.now c.args.lanes.now c.loop-process.lanes c.ask.new.lanes c.loop-process.invariant.starts
-      c.ask.ensures.begins.some;
+  starts = behind_more c.args.plan.now c.args.before c.in-Some.process c.args.lanes.now c.loop-process.lanes c.ask.new.lanes
+      c.loop-process.invariant.starts c.ask.ensures.begins
+      (c.loop-process.invariant.watched.watch.later c.args.before c.in-Some.process
+      (takes_there c.args.before c.in-Some.process c.loop-process.watch.followers.items c.take_follower.new.lists.items c.in-Some.ensures)).0;
   watched = c.ask.ensures.watched;
   chained = c.ask.ensures.chain c.args.before c.loop-process.invariant.chained;
   awaited = await_more c.args.plan.now c.loop-process.watch c.ask.new.watch c.take_follower.new.lists c.args.before c.in-Some.process
@@ -41,7 +43,7 @@ returns-clause-watched c = record {
   processes = c.loop-process.invariant.watched.processes;
   watch = watched_taken c.args.plan.now c.loop-process.watch (record (c.loop-process.watch) { followers = c.take_follower.new.lists })
       c.args.before None c.loop-process.lanes c.loop-process.invariant.watched.watch refl refl c.in_default.ensures
-      (c.loop-process.invariant.starts.ended c.args.before ∙ c.requires.ended);
+      (c.loop-process.invariant.starts.some.ended c.args.before ∙ c.requires.ended);
 }
 
 pub returns-clause-awaited : goal.returns-clause-awaited

@@ -3,7 +3,12 @@ use Rattle.fm_round.specs.Lanes.{no_lane}
 use Rattle.fm_round.specs.declared.lane.Lane.{Lane}
 use Rattle.fm_round.proofs.Running.{any_default}
 use Rattle.fm_round.proofs.Following.{await_live}
+use Rattle.fm_round.proofs.Watched.{behind_nothing}
 use Rattle.fm_round.proofs.begin.visit.Goals as goal
+
+pub returns-then-not-lanes-before-clause-starts : goal.returns-then-not-lanes-before-clause-starts
+returns-then-not-lanes-before-clause-starts c =
+    behind_nothing c.args.plan.now c.args.before c.args.lanes.now c.requires.watched.processes.lanes
 
 pub returns-then-not-lanes-before-clause-awaited : goal.returns-then-not-lanes-before-clause-awaited
 returns-then-not-lanes-before-clause-awaited c =

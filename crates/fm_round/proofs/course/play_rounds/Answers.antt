@@ -1,12 +1,15 @@
-use Rattle.std.proofs.Common.{◌+◌, ◌-◌, ◌^◌, ◌<◌, ℕ, List, map, min, Some, None, length, refl, sym, ap, ◌∙◌, subst, arith}
+use Rattle.std.proofs.Common.{◌+◌, ◌-◌, ◌^◌, ℕ, length, map, min, Some, None, refl, sym, ap, ◌∙◌, subst, arith}
 use Rattle.fm_edge.proofs.Chains.{on_err}
-use Rattle.fm_round.specs.Lanes.{AllAtEnd, loads}
+use Rattle.fm_round.specs.Lefts.{joined}
+use Rattle.fm_round.specs.Lanes.{AllAtEnd, due}
 use Rattle.fm_round.specs.Rounds.{first_room}
-use Rattle.fm_round.proofs.Halfway.{Between}
-use Rattle.fm_round.proofs.Between.{Interval, few_events, first_between, interval, last_count, last_ends, last_first, last_writes, may_release, next_first, next_round, release_breaks}
+use Rattle.fm_round.specs.Halfway.{Between}
+use Rattle.fm_round.proofs.Between.{Interval, few_events, first_between, interval, last_count, last_ends, last_first, last_writes, may_release, next_first, release_breaks}
+use Rattle.fm_round.proofs.NextRound.{HasRan, has_ran}
+use Rattle.fm_round.proofs.Goings.{few_between, is_playing}
 use Rattle.fm_round.proofs.Turning.{first_watched, is_round, stays_awaited, stays_watched}
 use Rattle.fm_round.proofs.course.play_rounds.Given.{Over}
-use Rattle.fm_round.proofs.course.play_rounds.Goals.{In-Some, In_default, After-begin_next}
+use Rattle.fm_round.proofs.course.play_rounds.Goals.{After-take_turn-arg-in-Some-3-1, In-Some, In_default}
 use Rattle.fm_round.proofs.course.play_rounds.Goals as goal
 
 pub begin_first-requires : goal.begin_first-requires
@@ -15,6 +18,7 @@ begin_first-requires g c = record { watched = first_watched c.args.plan.now c.ar
 pub loop-next-init : goal.loop-next-init
 loop-next-init g c = record {
   between = first_between c.requires.opened.opened c.requires.at_end c.begin_first.ensures.starts c.begin_first.auto.lanes;
+  started = c.begin_first.ensures.starts.started;
   watched = c.begin_first.ensures.watched.watch;
   lead = refl;
 }
@@ -28,18 +32,21 @@ before g c = interval c.requires.opened c.requires.begun c.loop-next.invariant.b
 pub release-requires-clause-may : goal.release-requires-clause-may
 release-requires-clause-may g c =
     let here = before g (goal.at.release-requires-clause-may g c).In-Some in
-    may_release here (Some c.in-Some.next) (next_first here c.in-Some.next.0 c.in-Some.next.1 c.in-Some.ensures)
+    may_release here (Some c.in-Some.next)
+    (next_first here c.loop-next.invariant.started c.in-Some.next.0 c.in-Some.next.1 c.in-Some.ensures)
 
 pub returns-in_err-events-clause-err : goal.returns-in_err-events-clause-err
 returns-in_err-events-clause-err g c =
     let here = before g (goal.at.returns-in_err-events-clause-err g c).In-Some in
     on_err c.from_residual.result (release_breaks here (Some c.in-Some.next)
-    (next_first here c.in-Some.next.0 c.in-Some.next.1 c.in-Some.ensures) c.release.new.sink c.in_err-events.ensures.err)
+    (next_first here c.loop-next.invariant.started c.in-Some.next.0 c.in-Some.next.1 c.in-Some.ensures)
+    c.release.new.sink c.in_err-events.ensures.err)
 
 pub overflow_add-events : goal.overflow_add-events
 overflow_add-events g c =
     let here = before g (goal.at.overflow_add-events g c).In-Some in
-    let few = few_events here (Some c.in-Some.next) (next_first here c.in-Some.next.0 c.in-Some.next.1 c.in-Some.ensures) in
+    let few = few_events here (Some c.in-Some.next)
+    (next_first here c.loop-next.invariant.started c.in-Some.next.0 c.in-Some.next.1 c.in-Some.ensures) in
     let count = c.in_ok-events.ensures.count in omega arith
 
 pub run_round-requires : goal.run_round-requires
@@ -53,34 +60,64 @@ run_round-requires g c = record {
       (c.saturating_add-limit.ensures ∙ ap (λ l. min (c.in-Some.next.0 + l) (2 ^ 64 - 1)) c.loop-next.invariant.lead);
 }
 
-pub begin_next-requires-clause-watched : goal.begin_next-requires-clause-watched
-begin_next-requires-clause-watched g c =
-    stays_watched (before g (goal.at.begin_next-requires-clause-watched g c).In-Some) c.loop-next.invariant.watched
+pub take_turn-requires-clause-watched : goal.take_turn-requires-clause-watched
+take_turn-requires-clause-watched g c =
+    stays_watched (before g (goal.at.take_turn-requires-clause-watched g c).In-Some) c.loop-next.invariant.watched
     (Some c.in-Some.next) c.in_ok-events.ensures.lanes c.run_round.ensures c.run_round.auto.lanes
 
-pub begin_next-requires-clause-awaited : goal.begin_next-requires-clause-awaited
-begin_next-requires-clause-awaited g c =
-    stays_awaited (before g (goal.at.begin_next-requires-clause-awaited g c).In-Some) c.loop-next.invariant.watched
-    (Some c.in-Some.next) c.in_ok-events.ensures.lanes c.run_round.ensures c.run_round.auto.lanes
+pub take_turn-requires-clause-awaited : goal.take_turn-requires-clause-awaited
+take_turn-requires-clause-awaited g c =
+    stays_awaited (before g (goal.at.take_turn-requires-clause-awaited g c).In-Some) c.loop-next.invariant.watched
+    (Some c.in-Some.next) c.in_ok-events.ensures.lanes c.loop-next.invariant.started c.run_round.ensures c.run_round.auto.lanes
 
--- what it leaves: less to do, and the rest of the piece
-made : (g : Over) (c : After-begin_next g) → (loads c.args.plan.now 0 c.begin_next.new.lanes < loads c.args.plan.now 0 c.loop-next.lanes)
-    × Between g.K.Append.seen c.args.plan.now (first_room c.args.lanes.now) c.args.sink.now c.release.new.sink
-    c.args.writer.now c.release.new.writer c.begin_next.new.lanes c.release.new.gather (c.loop-next.events + c.in_ok-events.field-0)
-made g c = next_round (interval c.requires.opened c.requires.begun c.loop-next.invariant.between)
-    c.in-Some.next.0 c.in-Some.next.1 c.saturating_add-limit.result c.in-Some.ensures (omega arith)
-    c.in_ok-events.ensures.lanes c.in_ok-events.ensures.ok c.in_ok-events.ensures.gather
-    (ap (λ n. c.loop-next.events + n) c.in_ok-events.ensures.count) c.run_round.ensures c.run_round.auto.lanes
-    c.begin_next.ensures.starts c.begin_next.auto.lanes
+-- ---- the turn
+
+-- what is known before it: the events that were written and what is left
+around : (g : Over) (c : After-take_turn-arg-in-Some-3-1 g) → HasRan g.K.Append.seen c.args.plan.now (first_room c.args.lanes.now)
+    c.args.sink.now c.release.new.sink c.args.writer.now c.release.new.writer c.loop-next.lanes c.run_round.new.lanes
+    c.release.new.gather c.in-Some.next.0 (c.loop-next.events + length (joined (map (due (Some c.in-Some.next)) c.loop-next.lanes)))
+around g c =
+    has_ran (interval c.requires.opened c.requires.begun c.loop-next.invariant.between) c.loop-next.invariant.started
+    c.in-Some.next.0 c.in-Some.next.1 c.saturating_add-limit.result c.in-Some.ensures (omega arith) c.in_ok-events.ensures.lanes
+    c.in_ok-events.ensures.ok c.in_ok-events.ensures.gather c.run_round.ensures c.run_round.auto.lanes
+
+pub take_turn-requires-clause-may : goal.take_turn-requires-clause-may
+take_turn-requires-clause-may g c =
+    is_playing c.requires.opened.opened.fits c.requires.begun
+    (around g (goal.at.take_turn-requires-clause-may g c).After-take_turn-arg-in-Some-3-1).between
+
+pub take_turn-requires-clause-from : goal.take_turn-requires-clause-from
+take_turn-requires-clause-from g c = (around g (goal.at.take_turn-requires-clause-from g c).After-take_turn-arg-in-Some-3-1).from
+
+pub returns-in_err-events-2-clause-err : goal.returns-in_err-events-2-clause-err
+returns-in_err-events-2-clause-err g c =
+    on_err c.from_residual-in_err-events-2.result
+    (c.in_err-events-2.ensures.err (first_room c.args.lanes.now) c.args.sink.now c.args.writer.now _ c.requires.begun
+    (around g (goal.at.returns-in_err-events-2-clause-err g c).After-take_turn-arg-in-Some-3-1).between)
+
+pub overflow_add-events-in-Some : goal.overflow_add-events-in-Some
+overflow_add-events-in-Some g c =
+    let few = few_between c.requires.opened.opened.fits
+    (c.in_ok-events-2.ensures.goes (first_room c.args.lanes.now) c.args.sink.now c.args.writer.now _ c.requires.begun
+    (around g (goal.at.overflow_add-events-in-Some g c).After-take_turn-arg-in-Some-3-1).between) in
+    let count = c.in_ok-events.ensures.count in omega arith
 
 pub loop-next-smaller : goal.loop-next-smaller
-loop-next-smaller g c = (made g (goal.at.loop-next-smaller g c).After-begin_next).0
+loop-next-smaller g c =
+    (around g (goal.at.loop-next-smaller g c).After-take_turn-arg-in-Some-3-1).falls
+    c.take_turn.new.stage.watch c.take_turn.new.lanes c.in_ok-events-2.ensures.turned
 
 pub loop-next-preserved : goal.loop-next-preserved
 loop-next-preserved g c = record {
-  between = (made g (goal.at.loop-next-preserved g c).After-begin_next).1;
-  watched = c.begin_next.ensures.watched.watch;
-  lead = c.loop-next.invariant.lead;
+  between =
+      subst (λ (n : ℕ). Between g.K.Append.seen c.args.plan.now (first_room c.args.lanes.now) c.args.sink.now c.take_turn.new.sink
+      c.args.writer.now c.take_turn.new.writer c.take_turn.new.lanes c.take_turn.new.stage.gather n)
+      (let count = c.in_ok-events.ensures.count in omega arith)
+      (c.in_ok-events-2.ensures.goes (first_room c.args.lanes.now) c.args.sink.now c.args.writer.now _ c.requires.begun
+      (around g (goal.at.loop-next-preserved g c).After-take_turn-arg-in-Some-3-1).between);
+  started = c.in_ok-events-2.ensures.turned.started;
+  watched = c.in_ok-events-2.ensures.turned.watched.watch;
+  lead = c.in_ok-events-2.ensures.lead ∙ c.loop-next.invariant.lead;
 }
 
 -- ---- the end
@@ -92,30 +129,31 @@ last g c = interval c.requires.opened c.requires.begun c.loop-next.invariant.bet
 pub release-requires-2-clause-may : goal.release-requires-2-clause-may
 release-requires-2-clause-may g c =
     let here = last g (goal.at.release-requires-2-clause-may g c).In_default in
-    may_release here None (last_first here c.in_default.ensures)
+    may_release here None (last_first here c.loop-next.invariant.started c.in_default.ensures)
 
-pub returns-in_err-events-2-clause-err : goal.returns-in_err-events-2-clause-err
-returns-in_err-events-2-clause-err g c =
-    let here = last g (goal.at.returns-in_err-events-2-clause-err g c).In_default in
-    on_err c.from_residual-in_err-events-2.result
-    (release_breaks here None (last_first here c.in_default.ensures) c.release-2.new.sink c.in_err-events-2.ensures.err)
+pub returns-in_err-events-3-clause-err : goal.returns-in_err-events-3-clause-err
+returns-in_err-events-3-clause-err g c =
+    let here = last g (goal.at.returns-in_err-events-3-clause-err g c).In_default in
+    on_err c.from_residual-in_err-events-3.result
+    (release_breaks here None (last_first here c.loop-next.invariant.started c.in_default.ensures) c.release-2.new.sink
+    c.in_err-events-3.ensures.err)
 
 pub overflow_add-events-2 : goal.overflow_add-events-2
 overflow_add-events-2 g c =
     let here = last g (goal.at.overflow_add-events-2 g c).In_default in
-    let few = few_events here None (last_first here c.in_default.ensures) in
-    let count = c.in_ok-events-2.ensures.count in omega arith
+    let few = few_events here None (last_first here c.loop-next.invariant.started c.in_default.ensures) in
+    let count = c.in_ok-events-3.ensures.count in omega arith
 
 pub returns-clause-ended : goal.returns-clause-ended
-returns-clause-ended g c = subst (AllAtEnd c.args.plan.now) (sym c.in_ok-events-2.ensures.lanes)
-    (last_ends (last g (goal.at.returns-clause-ended g c).In_default) c.in_default.ensures)
+returns-clause-ended g c = subst (AllAtEnd c.args.plan.now) (sym c.in_ok-events-3.ensures.lanes)
+    (last_ends (last g (goal.at.returns-clause-ended g c).In_default) c.loop-next.invariant.started c.in_default.ensures)
 
 pub returns-clause-count : goal.returns-clause-count
 returns-clause-count g c =
-    ap (λ n. c.loop-next.events + n) c.in_ok-events-2.ensures.count
-    ∙ last_count (last g (goal.at.returns-clause-count g c).In_default) c.in_default.ensures
+    ap (λ n. c.loop-next.events + n) c.in_ok-events-3.ensures.count
+    ∙ last_count (last g (goal.at.returns-clause-count g c).In_default) c.loop-next.invariant.started c.in_default.ensures
 
 pub returns-clause-ok : goal.returns-clause-ok
 returns-clause-ok g c =
-    last_writes (last g (goal.at.returns-clause-ok g c).In_default) c.in_default.ensures
-    c.release-2.new.sink c.release-2.new.writer c.in_ok-events-2.ensures.ok
+    last_writes (last g (goal.at.returns-clause-ok g c).In_default) c.loop-next.invariant.started c.in_default.ensures
+    c.release-2.new.sink c.release-2.new.writer c.in_ok-events-3.ensures.ok

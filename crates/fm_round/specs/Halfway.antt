@@ -9,7 +9,7 @@ use Rattle.fm_program.specs.Parts.{PlanParts}
 use Rattle.fm_program.specs.Process.{plan_lines}
 use Rattle.fm_smf.specs.Writing.{Written, Writes}
 use Rattle.fm_round.specs.Lefts.{OwnFrom, joined}
-use Rattle.fm_round.specs.Lanes.{AllLanes, AllStarted, lefts, room_of, room_sum}
+use Rattle.fm_round.specs.Lanes.{AllLanes, lefts, room_of, room_sum}
 use Rattle.fm_round.specs.declared.lane.Lane.{Lane}
 
 -- `done` was released of the lines, and these lists are left: what is left in its order is the rest of the piece
@@ -29,7 +29,6 @@ module _ {K : Type 0} (seen : SinkSeen K) where
     pub at_end : IfSome (seen.content now) (λ c. length c ≡ writer.put)
     pub count : length ss ≡ length p.programs
     pub lanes : AllLanes p ss
-    pub started : AllStarted p ss (length ss)
     pub some : 1 ≤ room
     pub rooms : All (λ r. r ≡ room) (map room_of ss)
     pub empty : gather.events ≡ []
