@@ -21,11 +21,11 @@ FAULTS = {fault.number: fault for fault in (
           "that begins well, save it without a byte order mark"),
     Fault(2, "a number of ten digits or more, or one that a letter or `_` follows, as `1x`",
           "its first digit", "write at most nine digits, and a blank between a number and a word"),
-    Fault(3, "a token that cannot stand there in any score",
+    Fault(3, "a token that no score has there",
           "the token; the end of the text, where it ends too early",
           "look before it, often at the end of the line above, for a missing `;`, `,`, `{`, `}` or number; "
           "`formula 1;` comes first; at the end of the text a `}` is missing, perhaps far above"),
-    Fault(4, "a token that could stand there, but needs a 65th open brace or a 65th token of an expression",
+    Fault(4, "a token that a score may have there, but that needs a 65th open brace or a 65th token of an expression",
           "the token that needs it: the word of a block, the operator, the word of a function",
           "nest less deeply; take a part of the expression into a register"),
     Fault(5, "the name of a shape or phrase that an earlier one has", "the name", "choose another name"),
@@ -33,9 +33,9 @@ FAULTS = {fault.number: fault for fault in (
           "write its `phrase` or `shape` above; a phrase cannot bring in itself"),
     Fault(7, "a number out of its range, a 257th part or entry, a 17th pitch",
           "the number or its `-`, of `a/b` the a; of a 257th entry or part its number; the 17th pitch",
-          "velocities go from 1 to 127, channels from 0 to 15, gates from 0 to 400, keys, controllers, values and "
-          "programs from 0 to 127, stretches from 1 to 1,000,000, divisions from 24 to 960, lengths, counts and what "
-          "follows `max` from 0 to 1,000,000 (ticks, of lengths); the version is 1 or 2"),
+          "velocities are 1 to 127, channels 0 to 15, gates 0 to 400, keys, controllers, values and programs 0 to 127, "
+          "stretches 1 to 1,000,000, divisions 24 to 960, lengths (in ticks), counts and what follows `max` 0 to "
+          "1,000,000; the version is 1 or 2"),
     Fault(8, "a length `a/b` that is no whole number of ticks, as `1/7`", "the a",
           "let b divide the ticks of a whole note, 1,920 or four times the division, times a, as in `1/6`, `1/64` "
           "or `1/5`, or write `ticks N`"),

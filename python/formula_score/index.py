@@ -36,7 +36,7 @@ INDEX = (
          "arpeggios strum strummed arpeggiato broken_chord rolled"),
     Word("bar",
          "note c4 1/2; note g4 1/2; # bar 1",
-         "*not in the file*: a comment counts bars, and `scripts/score bars` checks it, and tells the tick of a bar",
+         "*not in the file*: a comment counts bars, and `scripts/score bars` checks it, and prints the tick of a bar",
          "barline bars measure measures takt"),
     Word("bend, glissando",
          "repeat 8 { bend (n0 * 512); note c4 1/32; } bend 0;",

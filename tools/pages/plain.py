@@ -1,7 +1,8 @@
 """Whether pages are in plain English: how long their sentences and the cells of their tables are, and words that mean too much.
 
 The pages of HELD keep the limits, and so do the beginnings of those of HELD_TO. Those of NOT_YET do not yet: they are
-measured, and not judged. A page that is rewritten goes from one list to the other."""
+measured, and not judged. A page that is rewritten goes from one list to the other. The README of a crate has limits of
+its own."""
 
 from __future__ import annotations
 
@@ -14,11 +15,14 @@ from prose import Passage, passages, without_code
 #: The most words of a sentence, the most in the mean, and the most characters of a cell.
 MOST_WORDS, MOST_IN_THE_MEAN, MOST_OF_A_CELL = 30, 18, 250
 
+#: The most lines of a crate's README, and the most characters of a line there.
+MOST_LINES, MOST_OF_A_LINE = 60, 160
+
 HELD = ("README.md", "docs/PROOF.md", "docs/POSITIONS.md", "docs/MIDI_FILE.md", "docs/SCHEDULER.md", "docs/RECORDS.md",
-        "docs/ARCHITECTURE.md", "CONTRIBUTING.md", "docs/GUARANTEES.md", "docs/CLAIMS.md")
-NOT_YET = ("docs/LANGUAGE.md", "docs/TUTORIAL.md", "docs/STUDIO.md", "docs/SLIPS.md",
-           "docs/GLOSSARY.md", "CHANGELOG.md", "python/README.md", "python/COOKBOOK.md",
-           "editors/README.md", "examples/README.md")
+        "docs/ARCHITECTURE.md", "CONTRIBUTING.md", "docs/GUARANTEES.md", "docs/CLAIMS.md", "docs/TUTORIAL.md", "docs/STUDIO.md",
+        "docs/GLOSSARY.md", "docs/LANGUAGE.md", "python/README.md", "python/COOKBOOK.md", "editors/README.md",
+        "examples/README.md")
+NOT_YET = ("docs/SLIPS.md", "CHANGELOG.md")
 
 #: Pages of which the beginning keeps the limits, each with the heading at which it ends. An entry of DECISIONS is never changed.
 HELD_TO = {"docs/DECISIONS.md": "## 1. "}
@@ -85,6 +89,16 @@ def measure(page: str) -> Measure:
                    sum(each > MOST_OF_A_CELL for each in cells), sum(1 for each in whole for _ in _vague_in(each)))
 
 
+def faults_of_readme(page: str) -> list[Fault]:
+    """What is wrong with a crate's README: too many lines, long ones, and vague words."""
+    lines = page.removesuffix("\n").split("\n")
+    found = [Fault(number, f"a line of {len(line)} characters: {line[:50]}..") for number, line in enumerate(lines, 1)
+             if len(line) > MOST_OF_A_LINE]
+    if len(lines) > MOST_LINES:
+        found.insert(0, Fault(1, f"{len(lines)} lines"))
+    return found + [fault for passage in passages(page) for fault in _vague_in(passage)]
+
+
 def _judged_text(top: pathlib.Path, name: str) -> str:
     """A page, or the beginning of it that is held."""
     page = (top / name).read_text(encoding="utf-8")
@@ -95,6 +109,8 @@ def judged(top: pathlib.Path) -> list[str]:
     """What is wrong with the pages that are held, and pages that are in no list."""
     problems = [f"{name}:{fault.line}: {fault.told}" for name in (*HELD, *HELD_TO)
                 for fault in faults_of(_judged_text(top, name))]
+    problems += [f"{path.relative_to(top)}:{fault.line}: {fault.told}" for path in sorted(top.glob("crates/*/README.md"))
+                 for fault in faults_of_readme(path.read_text(encoding="utf-8"))]
     there = {path.relative_to(top).as_posix() for folder in (".", "docs", "python", "editors", "examples")
              for path in (top / folder).glob("*.md")}
     listed = {*HELD, *HELD_TO, *NOT_YET}

@@ -39,7 +39,7 @@ def _rows(table: Mapping[int, Fault]) -> Iterator[str]:
 
 def faults() -> Iterator[str]:
     """The faults of texts."""
-    yield "| Number | Means | Stands at | Do |"
+    yield "| Number | Means | Place | Do |"
     yield from _rows(FAULTS)
 
 
