@@ -9,9 +9,9 @@ import unittest
 from typing import Iterator
 
 TOP = os.path.dirname(os.path.dirname(os.path.dirname(os.path.abspath(__file__))))
-VIM = os.path.join(TOP, "editors", "vim")
+VIM, VS_CODE = os.path.join(TOP, "editors", "vim"), os.path.join(TOP, "editors", "vscode")
 REFUSED = "formula: score refused: 2:12 fault 3"
-GRAMMAR = os.path.join(TOP, "editors", "vscode", "syntaxes", "formula.tmLanguage.json")
+GRAMMAR = os.path.join(VS_CODE, "syntaxes", "formula.tmLanguage.json")
 FOLDERS = [os.path.join(TOP, "examples", name) for name in ("scores", "tutorial", "long")]
 
 
@@ -26,6 +26,13 @@ def scopes(patterns: list[tuple[str, "re.Pattern[str]"]], line: str) -> Iterator
         _, number, match = min(found)
         yield patterns[number][0].split(".formula-score")[0], match.group()
         at = match.end()
+
+
+def refuses(path: str, body: str) -> None:
+    """Makes a command that refuses each score."""
+    with open(path, "w", encoding="utf-8") as file:
+        file.write(f"#!/bin/sh\n{body}\n")
+    os.chmod(path, 0o755)
 
 
 class Editors(unittest.TestCase):
@@ -55,14 +62,24 @@ class Editors(unittest.TestCase):
              "constant.other.pitch", "constant.numeric", "keyword.operator", "constant.numeric", "punctuation",
              "punctuation", "comment.line.number-sign"])
 
-    def test_vs_code_finds_the_place_in_the_line_of_a_refusal(self) -> None:
-        with open(os.path.join(TOP, "editors", "vscode", "package.json"), encoding="utf-8") as file:
+    def test_vs_code_finds_the_place_of_a_refusal(self) -> None:
+        with open(os.path.join(VS_CODE, "package.json"), encoding="utf-8") as file:
             pattern = json.load(file)["contributes"]["problemMatchers"][0]["pattern"]
-        shown = REFUSED.replace("formula: score refused", "/a b/tune.score")
-        match = re.match(pattern["regexp"], shown)
-        assert match is not None
-        self.assertEqual([match[pattern[it]] for it in ("file", "line", "column", "message")],
-                         ["/a b/tune.score", "2", "12", "fault 3"])
+        with open(os.path.join(VS_CODE, "tasks.json"), encoding="utf-8") as file:
+            task, = json.load(file)["tasks"]
+        self.assertEqual(task["type"], "process")
+        for name in "tune", "it's rock & roll|100% \\1":
+            with tempfile.TemporaryDirectory() as folder:
+                score = os.path.join(folder, f"{name}.score")
+                refuses(os.path.join(folder, "formula"), f'[ "$1 $2" = "$WANTED" ] || exit 9\necho "{REFUSED}"\nexit 3')
+                words = [word.replace("${file}", score).replace("${fileDirname}", folder)
+                         .replace("${fileBasenameNoExtension}", name) for word in (task["command"], *task["args"])]
+                done = subprocess.run(words, stdout=subprocess.PIPE, text=True, check=False, env={
+                    "PATH": f"{folder}:{os.environ['PATH']}", "WANTED": f"{score} {folder}/{name}.mid"})
+                match = re.match(pattern["regexp"], done.stdout)
+                assert match is not None
+                self.assertEqual([done.returncode, *(match[pattern[it]] for it in ("file", "line", "column", "message"))],
+                                 [3, score, "2", "12", "fault 3"])
 
     @unittest.skipUnless(shutil.which("vim"), "vim is not installed")
     def test_vim_jumps_to_the_place_of_a_refusal(self) -> None:
@@ -71,9 +88,7 @@ class Editors(unittest.TestCase):
             command = os.path.join(folder, "refuses")
             with open(score, "w", encoding="utf-8") as file:
                 file.write("formula 1;\nnote c4 1/4 oops\n")
-            with open(command, "w", encoding="utf-8") as file:
-                file.write(f'#!/bin/sh\n[ "$1" = "{score}" ] || exit 9\necho "{REFUSED}"\necho "and a caret under it" >&2\nexit 3\n')
-            os.chmod(command, 0o755)
+            refuses(command, f'[ "$1" = "{score}" ] || exit 9\necho "{REFUSED}"\necho "and a caret under it" >&2\nexit 3')
             subprocess.run(
                 ["vim", "-N", "-u", "NONE", "-es", f"+set runtimepath^={VIM}", f"+let g:formula_command = '{command}'",
                  "+filetype plugin on", "+set filetype=formula", "+silent make",

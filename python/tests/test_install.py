@@ -81,6 +81,13 @@ class Install(unittest.TestCase):
             self.assertIn(f"---- {row.crate}: {row.told}\n", said)
 
 
+class Packaged(unittest.TestCase):
+    def test_each_time_zone_makes_one_version(self) -> None:
+        shown = "import importlib.machinery as m; print(m.SourceFileLoader('package', 'scripts/package').load_module().facts_of_commit())"
+        said = {subprocess.run([sys.executable, "-B", "-W", "ignore", "-c", shown], cwd=TOP, stdout=subprocess.PIPE, check=True,
+                               env={**os.environ, "TZ": zone}).stdout for zone in ("UTC", "Asia/Tokyo", "America/Lima")}
+        self.assertEqual(len(said), 1, said)
+
 
 class Suggested(unittest.TestCase):
     def test_what_the_companion_asks_for_is_suggested(self) -> None:

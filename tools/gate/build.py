@@ -19,6 +19,7 @@ from __future__ import annotations
 
 import contextlib
 import fcntl
+import math
 import os
 import shutil
 import signal
@@ -33,7 +34,7 @@ TOP = os.path.dirname(os.path.dirname(os.path.dirname(os.path.abspath(__file__))
 sys.path.insert(0, f"{TOP}/tools/gate")
 sys.dont_write_bytecode = True
 from crates import Uses, all_below, longest_chains, read_uses, turned  # noqa: E402
-from left import Forecast, in_words, read_seconds  # noqa: E402
+from left import Forecast, Running, in_words, read_seconds, shares  # noqa: E402
 
 PROGRAM = "fm_main"
 LANES = f"{TOP}/crates/{PROGRAM}/out/lanes"
@@ -85,11 +86,12 @@ class Checks:
 
 
 class Proof(NamedTuple):
-    """A crate that is proved now, in which lane, and on how many processors."""
+    """A crate that is proved now, in which lane, on how many processors, and since when."""
 
     crate: str
     lane: str
     jobs: int
+    begun: float
 
 
 def uses_of_crates() -> Uses:
@@ -98,10 +100,14 @@ def uses_of_crates() -> Uses:
     return {name: uses[name] for name in (PROGRAM, *sorted(all_below(uses, PROGRAM)))}
 
 
+def sources_of(crate: str) -> list[str]:
+    """The files of sources of a crate."""
+    return [f"{at}/{name}" for part in PARTS for at, _, names in os.walk(f"{TOP}/crates/{crate}/{part}") for name in names]
+
+
 def size_of(crate: str) -> int:
     """How many bytes of sources a crate has."""
-    files = (f"{at}/{name}" for part in PARTS for at, _, names in os.walk(f"{TOP}/crates/{crate}/{part}") for name in names)
-    return sum(map(os.path.getsize, files))
+    return sum(map(os.path.getsize, sources_of(crate)))
 
 
 def lengths_of_chains(uses: Uses) -> dict[str, float]:
@@ -117,6 +123,18 @@ def lanes_at_once() -> int:
         free = int(next(line for line in file if line.startswith("MemAvailable:")).split()[1])
         lanes = min(lanes, max(1, free // MEMORY))
     return lanes
+
+
+def kept(uses: Uses) -> set[str]:
+    """The crates that an earlier build has proved, by the times of their files: no source is younger than the library,
+    and no library below it is."""
+    made: dict[str, float] = {}
+    for name in uses:
+        with contextlib.suppress(OSError):
+            made[name] = os.path.getmtime(f"{TOP}/crates/{name}/out/rlib")
+            if max(map(os.path.getmtime, sources_of(name)), default=0.0) > made[name]:
+                del made[name]
+    return {name for name in made if all(made.get(crate, math.inf) <= made[name] for crate in all_below(uses, name))}
 
 
 def link_or_copy(source: str, target: str) -> None:
@@ -176,24 +194,19 @@ def prove_all(checks: Checks, uses: Uses, lanes: list[str]) -> int:
     left, idle = sorted(set(uses) - {PROGRAM}, key=lambda name: -chains[name]), [*lanes]
     done: set[str] = set()
     at_work: dict[Future[tuple[int, str]], Proof] = {}
-    forecast, started = Forecast(uses, read_seconds(f"{TOP}/tools/gate/seconds.txt"), at_once), dict[str, float]()
-    begun = time.monotonic()
+    forecast = Forecast(uses, left, PROGRAM, read_seconds(f"{TOP}/tools/gate/seconds.txt"), kept(uses))
     with ThreadPoolExecutor(len(lanes)) as pool:
         while left or at_work:
             ready = [name for name in left if done.issuperset(uses[name])]
-            for at, name in enumerate(ready):
-                free = at_once - sum(proof.jobs for proof in at_work.values())
-                if free <= 0:
-                    break
-                # A crate gets the processors for which no other is ready; more than four gain nothing.
-                proof = Proof(name, idle.pop(), min(4, max(1, free // (len(ready) - at))))
+            for name, jobs in shares(ready, at_once - sum(proof.jobs for proof in at_work.values())):
+                proof = Proof(name, idle.pop(), jobs, time.monotonic())
                 left.remove(name)
                 at_work[pool.submit(prove, checks, proof)] = proof
-                started[name] = time.monotonic()
             for ended in wait(at_work, return_when=FIRST_COMPLETED).done:
                 proof = at_work.pop(ended)
                 status, printed = ended.result()
-                print(f"== {proof.crate}\n{printed}", end="", flush=True)
+                now = time.monotonic()
+                print(f"== {proof.crate} {now - proof.begun:.0f} s, jobs: {proof.jobs}\n{printed}", end="", flush=True)
                 idle.append(proof.lane)
                 if status == KILLED and at_once > 1:
                     left.insert(0, proof.crate)
@@ -204,9 +217,9 @@ def prove_all(checks: Checks, uses: Uses, lanes: list[str]) -> int:
                     return status
                 done.add(proof.crate)
                 hand_on(proof.crate, lanes)
-                now = time.monotonic()
-                forecast.took(proof.crate, now - started[proof.crate])
-                tell(proof.crate, len(uses) - len(done), forecast.left(set(uses) - done, now - begun))
+                forecast.took(proof.crate, proof.jobs, now - proof.begun)
+                running = {other.crate: Running(other.jobs, now - other.begun) for other in at_work.values()}
+                tell(proof.crate, len(uses) - len(done), forecast.left(done, running, at_once))
     return 0
 
 

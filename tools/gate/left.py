@@ -1,54 +1,104 @@
 """How long a build still takes, by what its crates took before."""
-from typing import Iterable
+from typing import Callable, Collection, Iterator, Mapping, NamedTuple, Sequence
 
-# What crates took that are not in the table, in seconds.
-UNKNOWN = 30
+from crates import Uses
 
-# A crate that takes less than this part of its seconds was proved before.
+# What a crate takes that is not in the table, in seconds.
+UNKNOWN = 60
+
+# What a crate takes that an earlier build has proved, in seconds.
+COMPARED = 3
+
+# A crate that takes less than this part of what it was to take was proved before.
 KEPT = 10
 
-# From how many foretold seconds on a run tells how fast this machine is.
-ENOUGH = 20
+# The most processors that a crate gets: more gain nothing.
+MOST = 4
+
+# The part of a proof that gets no shorter by a second processor.
+ALONE = 0.75
+
+# A table of so many seconds of proofs counts as much as what crates have taken in this build.
+TABLE = 15
+
+# A crate that should have been done goes on for this part of what it has taken.
+LONGER = 0.1
+
+
+class Running(NamedTuple):
+    """On how many processors a crate is proved, and for how many seconds it has been."""
+
+    jobs: int
+    since: float
 
 
 def read_seconds(path: str) -> dict[str, float]:
-    """Returns the processor seconds of each crate of the table."""
+    """Returns the seconds of each crate of the table."""
     with open(path, encoding="utf-8") as file:
         rows = [line.split() for line in file if line.strip() and not line.startswith("#")]
     return {name: float(seconds) for name, seconds in rows}
 
 
-def foretold(uses: dict[str, list[str]], left: set[str], seconds: dict[str, float], lanes: int) -> float:
-    """Returns how many seconds these crates take on so many processors: all their work shared out, but no less than the
-    longest of their chains."""
-    chains: dict[str, float] = {}
+def shares(ready: Sequence[str], free: int) -> Iterator[tuple[str, int]]:
+    """Returns the crates that begin, each with its processors: it gets those for which no other is ready."""
+    for at, name in enumerate(ready):
+        if free <= 0:
+            return
+        jobs = min(MOST, max(1, free // (len(ready) - at)))
+        free -= jobs
+        yield name, jobs
 
-    def chain(name: str) -> float:
-        if name not in chains:
-            below = max((chain(crate) for crate in uses[name] if crate in left), default=0.0)
-            chains[name] = below + seconds.get(name, UNKNOWN)
-        return chains[name]
 
-    return max(sum(seconds.get(crate, UNKNOWN) for crate in left) / lanes, max(map(chain, left), default=0.0))
+def part(jobs: int) -> float:
+    """Returns the part of its time that a proof takes on so many processors."""
+    return ALONE + (1 - ALONE) / jobs
+
+
+def ends(uses: Uses, order: Sequence[str], lanes: int, takes: Callable[[str, int], float], done: Collection[str] = (),
+         at_work: Mapping[str, Running] = {}) -> Iterator[tuple[float, str, int]]:
+    """Returns when each crate that is left is done, and its processors, as build.py proves them in this order."""
+    done, now = set(done), 0.0
+    left = [name for name in order if name not in done and name not in at_work]
+    jobs = {name: run.jobs for name, run in at_work.items()}
+    end = {name: max(takes(name, run.jobs) - run.since, run.since * LONGER) for name, run in at_work.items()}
+    while left or end:
+        ready = [name for name in left if done.issuperset(uses[name])]
+        for name, share in shares(ready, lanes - sum(jobs.values())):
+            left.remove(name)
+            jobs[name], end[name] = share, now + takes(name, share)
+        first = min(end, key=lambda name: end[name])
+        now = end.pop(first)
+        done.add(first)
+        yield now, first, jobs.pop(first)
 
 
 class Forecast:
-    """Tells the time left, scaled by how fast the first crates of this run were."""
+    """Tells the time left, by how fast the crates of this build have been."""
 
-    def __init__(self, uses: dict[str, list[str]], seconds: dict[str, float], lanes: int) -> None:
-        self.uses, self.seconds, self.lanes = uses, seconds, lanes
-        self.proved = set(uses)
+    def __init__(self, uses: Uses, order: Sequence[str], program: str, seconds: Mapping[str, float],
+                 kept: Collection[str] = ()) -> None:
+        """The crates begin in this order, and the program is built behind all of them."""
+        self.uses, self.order, self.program, self.seconds, self.kept = uses, order, program, seconds, kept
+        self.taken = self.foretold = float(TABLE)
 
-    def took(self, name: str, seconds: float) -> None:
-        """Notes how long a crate took. One that took next to nothing was there from an earlier run."""
-        if seconds < self.seconds.get(name, UNKNOWN) / KEPT:
-            self.proved.discard(name)
+    def by_table(self, name: str, jobs: int) -> float:
+        """Returns how many seconds a crate takes on the machine of the table."""
+        return self.seconds.get(name, UNKNOWN) * part(jobs)
 
-    def left(self, crates: Iterable[str], elapsed: float) -> float:
-        """Returns how many seconds are left for these crates, so long after the start."""
-        rest = foretold(self.uses, set(crates), self.seconds, self.lanes)
-        done = foretold(self.uses, self.proved, self.seconds, self.lanes) - rest
-        return rest * (elapsed / done if done >= ENOUGH else 1)
+    def takes(self, name: str, jobs: int) -> float:
+        """Returns how many seconds a crate takes in this build."""
+        return COMPARED if name in self.kept else self.by_table(name, jobs) * self.taken / self.foretold
+
+    def took(self, name: str, jobs: int, seconds: float) -> None:
+        """Notes how long a crate took. One that took next to nothing was there from an earlier build."""
+        if name not in self.kept and seconds >= self.takes(name, jobs) / KEPT:
+            self.taken += seconds
+            self.foretold += self.by_table(name, jobs)
+
+    def left(self, done: Collection[str], at_work: Mapping[str, Running], lanes: int) -> float:
+        """Returns how many seconds are left, where these crates are done and these are at work."""
+        *_, (end, _, _) = [(0.0, "", 0), *ends(self.uses, self.order, lanes, self.takes, done, at_work)]
+        return end + self.takes(self.program, 1)
 
 
 def in_words(seconds: float) -> str:

@@ -129,7 +129,8 @@ class Trial:
 def _mirrors() -> Iterator[str]:
     """The lists of packages that this host uses."""
     for path in (pathlib.Path("/etc/apt/sources.list"), *sorted(pathlib.Path("/etc/apt/sources.list.d").glob("*"))):
-        if path.is_file() and path.stat().st_size:
+        # apt reads no file with another ending
+        if path.suffix in (".list", ".sources") and path.is_file() and path.stat().st_size:
             yield str(path)
 
 
