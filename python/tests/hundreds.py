@@ -2,7 +2,9 @@
 from them, too.
 
 A file of fresh/ has some lines of its own, and then for each slip its number and kind behind `@@`, the text, what was
-meant behind `@=`, and what is told behind `@>`. Someone wrote the first two before any message was seen.
+meant behind `@=`, and what is told behind `@>`. Someone wrote the first two before any message was seen. In the later
+files what was meant is a score, or some of them, and behind `@!` stands how the first message was judged by it: `right`
+names the cure, `general` says what to look for, and who follows a `wrong` one does not get what was meant.
 """
 
 from __future__ import annotations
@@ -12,7 +14,10 @@ import re
 from typing import NamedTuple
 
 FOLDER = pathlib.Path(__file__).parent / "fresh"
-NAMES = ("first", "second", "third", "fourth", "fifth")
+NAMES = ("first", "second", "third", "fourth", "fifth", "sixth", "seventh", "eighth", "ninth", "tenth", "eleventh",
+         "twelfth", "thirteenth")
+#: Those of them that have what was meant as scores.
+MEANT = NAMES[5:]
 
 
 class Slip(NamedTuple):
@@ -22,11 +27,16 @@ class Slip(NamedTuple):
     kind: str
     text: str
     meant: str
+    judged: str
     told: str
+
+    def scores(self) -> list[str]:
+        """The scores that were meant, where they are told as such."""
+        return [each.replace(" ⏎ ", "\n") for each in re.findall(r"`([^`]*\bformula [^`]*)`", self.meant)]
 
 
 def hundred(name: str) -> list[Slip]:
     """The slips of a file."""
     whole = (FOLDER / f"{name}.txt").read_text(encoding="utf-8")
-    found = re.findall(r"^@@ ([0-9]+) ([^\n]*)\n(.*?)^@= ([^\n]*)\n@> ([^\n]*)\n", whole, re.S | re.M)
-    return [Slip(int(number), kind, text, meant, told) for number, kind, text, meant, told in found]
+    found = re.findall(r"^@@ ([0-9]+) ([^\n]*)\n(.*?)^@= ([^\n]*)\n(?:@! ([^\n]*)\n)?@> ([^\n]*)\n", whole, re.S | re.M)
+    return [Slip(int(number), *rest) for number, *rest in found]

@@ -9,7 +9,7 @@ from formula_score.slips.cures import Known
 from formula_score.slips.judging import first_fault
 from formula_score.slips.spot import Spot
 
-from .hundreds import NAMES, hundred
+from .hundreds import MEANT, NAMES, hundred
 from .program import needs_program, run
 
 
@@ -23,6 +23,14 @@ class Hundreds(unittest.TestCase):
     def test_each_file_has_a_hundred(self):
         for name in NAMES:
             self.assertEqual([slip.number for slip in hundred(name)], list(range(1, 101)), name)
+
+    def test_what_was_meant_is_a_score(self):
+        for name in MEANT:
+            for slip in hundred(name):
+                self.assertIn(slip.judged, ("right", "general", "wrong"), f"{name} {slip.number}")
+                self.assertTrue(slip.scores(), f"{name} {slip.number}")
+                for score in slip.scores():
+                    self.assertIsNone(place_by_judge(score), f"{name} {slip.number}")
 
     def test_what_is_told(self):
         for name in NAMES:

@@ -16,7 +16,9 @@ from .ranges import known_name, no_ticks, out_of_range, unknown_name
 from .smallest import meant, rearranged, smallest
 from .spot import Spot
 from .statement import at_statement
+from .trying import Change, mends
 from .tokens import END, INDEX, NAME, NUMBER, PITCH, REGISTER, kind_of
+from .wording import without_rhythm, worded
 
 __all__ = ["Told", "told"]
 
@@ -39,7 +41,7 @@ def told(data: bytes, line: int, column: int, number: int) -> Optional[Told]:
         return None
     if number in _BY_NUMBER:
         found = _BY_NUMBER[number](spot)
-        return Told(*found, place) if found else None
+        return Told(found[0], worded(spot, found[1]), place) if found else None
     if number == 1:
         return Told(_heading_of_byte(spot), _checked(spot, _word_in_parts, at_byte) or _form(spot) or _ANY_BYTE, place)
     if number == 2:
@@ -55,8 +57,9 @@ def _checked(spot: Spot, *rules: Rule) -> str:
         cure = rule(spot)
         if cure and stands(spot, cure):
             if isinstance(cure, (Computed, Known)):
-                return cure
-            return (rearranged(spot) if says_a_change(spot, cure) else meant(spot)) or cure
+                return isinstance(cure, Known) and rearranged(spot) or without_rhythm(spot, cure)
+            return (rearranged(spot) if says_a_change(spot, cure) else meant(spot)) or without_rhythm(
+                spot, worded(spot, cure))
     return smallest(spot) or ""
 
 
@@ -90,6 +93,8 @@ def _unopened(spot: Spot) -> Optional[str]:
     texts = [each.text for each in spot.statement]
     if opens is None or texts.count(opens) > texts.count(spot.here.text):
         return None
+    if opens in texts:
+        return f"one `{spot.here.text}` is too many, or a `{opens}` is missing before it"
     return f"there is no open `{opens}` for this `{spot.here.text}`: take it away"
 
 
@@ -105,11 +110,27 @@ def _word_in_parts(spot: Spot) -> Optional[str]:
         if begun < spot.place:
             return f"words have small letters alone: write `{lower}` in place of `{word}`"
     parts = re.match(r"([a-z][a-z0-9_]*) ([a-z0-9_]+)", spot.rest)
+    moved = _blank_moved(spot, *parts.groups()) if parts and spot.here.kind == NAME else None
+    if moved:
+        return moved
     if parts and spot.here.kind == NAME or parts and spot.where == "statement":
         joined = parts[1] + parts[2]
         if joined in KEYWORDS or joined in spot.names and parts[1] not in spot.names:
-            text = spot.mended(spot.place, spot.place + len(parts[0]), joined)
-            return f"no blank stands within `{joined}`: write `{text or joined}`"
+            return f"no blank stands within `{joined}`: write `{joined}` in place of `{parts[0]}`"
+    return None
+
+
+def _blank_moved(spot: Spot, one: str, other: str) -> Optional[str]:
+    """What to do about two words whose blank stands a letter too far left or right."""
+    for first, second in ((one[:-1], one[-1] + other), (one + other[0], other[1:])):
+        if first not in KEYWORDS or not second:
+            continue
+        is_second = second.isdigit() or kind_of(second) != NAME or second in spot.names or (
+            first in ("phrase", "shape") and first[-1] != second[0])
+        if is_second:
+            text = f"{first} {second}"
+            if mends(spot, (Change(spot.place, spot.place + len(one) + 1 + len(other), text),)):
+                return Computed(f"the blank stands elsewhere: write `{text}` in place of `{one} {other}`")
     return None
 
 

@@ -68,6 +68,9 @@ def at_block(spot: Spot) -> Optional[str]:
         return "one shape at a time: write `warp a { warp b { .. } }`"
     if here.text in ("(", "[", "<"):
         return f"the block stands between `{{` and `}}`: write `{shown} {{ .. }}`"
+    if head == "channel" and here.kind == "," and spot.next().kind == NUMBER:
+        return ("one channel holds for a block, and a voice on another one is a branch of its own, as in "
+                f"`{FORMS['par']}`")
     if here.kind in (";", ",") or here.text == ":":
         return (f"`{spot.last.text if spot.last.text in ('else', 'branch') else head}` holds for a block: write "
                 f"`{shown} {{ .. }}`")
@@ -153,7 +156,7 @@ def at_name(spot: Spot) -> Optional[str]:
     if head == "warp" and here.kind in ("slope", "flat", "pause", "breath"):
         found = re.match(r"([^;{}]*?)\s*[;{]", spot.rest)
         parts = re.sub(r"\s+", " ", found[1]) if found and len(found[1]) < 60 else f"{here.kind} .."
-        return f"the shape is named first: write `shape rit = {parts}; warp rit {{ .. }}`"
+        return Computed(f"the shape is named first: write `shape rit = {parts}; warp rit {{ .. }}`")
     if head == "do" and here.text == "{":
         return "`do` plays a phrase by its name: write `phrase verse { .. }` before, and `do verse;`"
     if head == "do" and here.kind == NUMBER:
@@ -161,7 +164,7 @@ def at_name(spot: Spot) -> Optional[str]:
         name = next((each.text for each in spot.after[1:4] if each.text in spot.phrases), example)
         return f"a loop plays it more than once: write `repeat {number} {{ do {name}; }}`"
     if head == "warp" and here.kind == NUMBER:
-        return "a `warp` has the name of a shape: write `shape slow = flat 500/1 by 2000; warp slow { .. }`"
+        return _stretched(spot)
     if here.text in ('"', "'"):
         found = re.match(r"[\"']([a-z][a-z0-9_]*)[\"']", spot.rest)
         return f"a name has no quotes: write `{head} {found[1]}{';' if head == 'do' else ' { .. }'}`" if found else None
@@ -177,6 +180,17 @@ def at_name(spot: Spot) -> Optional[str]:
     if here.text.isalpha():
         return f"a name is no keyword, and `{here.text}` is one: give it another name"
     return f"a name is missing behind `{head}`, as in `{form}`"
+
+
+def _stretched(spot: Spot) -> str:
+    """A `warp` by a number: a stretch, or a tempo."""
+    why, number = "a `warp` has the name of a shape", int(spot.here.text[:7])
+    if spot.next().text != "{" or not 20 <= number <= 100_000:
+        return f"{why}, as in `shape slow = flat 500/1 by 2000; warp slow {{ .. }}`"
+    cure = (f"{why}, and `{number}` as its stretch is in thousandths: write `shape all = flat 500/1 by {number}; "
+            "warp all { .. }`")
+    tempo = f", or `by {round(120_000 / number)}` where it is the tempo" if number <= 400 else ""
+    return Computed(f"{cure}{tempo}")
 
 
 def at_new_name(spot: Spot) -> Optional[str]:
@@ -278,7 +292,7 @@ def at_entry(spot: Spot) -> Optional[str]:
         return f"a list has velocities, and `{here.text}` is {DYNAMICS[here.text]}: write `{DYNAMICS[here.text]}`"
     if here.text == "]":
         return (f"a list has at least one entry: write `{FORMS[head]}`" if spot.last.text == "[" else
-                "no comma stands behind the last entry: take it away")
+                "no comma stands behind the last entry: take it away, or write the entry that is missing")
     if here.kind == ",":
         return "an entry is missing before this `,`: write it, or take the `,` away"
     if here.kind == "-":

@@ -3,6 +3,7 @@
 from __future__ import annotations
 
 import re
+from fractions import Fraction
 from typing import Optional
 
 from ..index import musical
@@ -11,7 +12,7 @@ from ..nodes import KEYWORDS
 from .common import FUNCTIONS
 from .cures import Computed, Known
 from .foreign import length_at, pitch_at, sum_at
-from .indexed import by_index
+from .indexed import by_index, by_mark
 from .near import near
 from .pitches import is_chord_name
 from .places import AT
@@ -19,6 +20,7 @@ from .reading import STATEMENTS
 from .spot import Spot
 from .statement import at_statement, letters
 from .tokens import INDEX, NUMBER, PITCH, REGISTER, kind_of
+from .trying import Change, mends
 
 _TYPED = {"–": "-", "—": "-", "−": "-", "×": "*", "÷": "/", "⁄": "/", "；": ";", "，": ",", "｛": "{", "｝": "}", "（": "(",
           "）": ")", "＝": "=", "：": ";", "∕": "/"}
@@ -27,6 +29,11 @@ _SIGNS = {"♩": "1/4", "♪": "1/8", "𝅝": "1/1", "𝅗𝅥": "1/2"}
 _FIELDS = "XTCMLQKVRNOAW"
 _COMMANDS = ("relative", "absolute", "fixed", "score", "version", "language", "header", "paper", "layout", "new",
              "book")
+#: What to do about text that is no music.
+TEXT = Known("text is not in the file, and a `#` makes what follows it in its line a comment: take it away, or put it "
+             "behind a `#` at the end of the line")
+#: What to do about the head of another language before the statements of a score.
+HEAD = Known("a score begins with its head, `formula 1;`: write it in place of the lines of another language")
 #: Places that know what is meant by a text in quotes.
 _QUOTED = ("pitch", "length", "amount", "controller", "name", "new name", "slash", "end", "key", "setting", "entry",
            "count", "stretch", "most", "ticks", "register", "version", "formula")
@@ -76,20 +83,20 @@ def _capital(spot: Spot) -> Optional[str]:
     pitches = spot.where in ("pitch", "length", "key", "end") or spot.where == "statement"
     if spot.where == "end" and spot.last.kind == NUMBER and spot.last.end == spot.place:
         return AT["end"](spot)
-    if spot.where == "statement" and re.match(r"[RZ][0-9]*(?![A-Za-z])", spot.rest):
-        return "silence is a `rest`: write `rest 1/4;`"
+    if spot.where == "statement" and re.match(r"[RZ][0-9]*(?![A-Za-z:])", spot.rest):
+        return _bars_of_rest(spot.rest)
     if spot.where == "statement" and re.match(r"[A-G](?:[#b]?[0-9]?\s+[A-G](?![a-z])|[TOLVA-G0-9<>]{4,})", spot.rest):
         return "each note is a statement of its own, with its octave and its length: write `note c4 1/4;`"
     if spot.where == "statement" and re.match(r"[TOLV][0-9]+[TOLVA-G]", spot.rest):
         return "each note is a statement of its own, with its octave and its length: write `note c4 1/4;`"
     if re.match(r"D\. ?[CS]\.", spot.rest):
         return by_index("coda")
-    if spot.where == "statement" and re.match(rf"[{_FIELDS}]:", spot.rest):
+    if spot.where == "statement" and re.match(r"[A-Z]:", spot.rest):
         return _field(word[0], spot.rest)
     if spot.where == "formula" and not near(lower, ["formula"]) and "formula" in spot.rest:
         return "the head stands first, and other text behind `#`: write `#` before it"
     if spot.where == "formula" and re.match(rf"[{_FIELDS}]:", spot.rest):
-        return "this is a text in ABC, and no score: abc2midi makes a MIDI file of it"
+        return HEAD
     meant = pitch_at(spot.text) if pitches or spot.where == "value" else None
     if meant and meant.write and not (lower in KEYWORDS):
         if spot.where == "statement":
@@ -104,7 +111,8 @@ def _capital(spot: Spot) -> Optional[str]:
         return spot.write(meant.why, spot.place, spot.place + len(meant.wrote.encode()), write)
     if lower in KEYWORDS or kind_of(lower) == PITCH or lower in spot.names:
         return Known(f"words have small letters alone: write `{lower}`")
-    line = by_index(lower) if spot.where == "statement" or lower in DYNAMICS else None
+    is_field = len(word) == 1 and spot.rest[1:2] == ":"
+    line = by_index(lower) if not is_field and (spot.where == "statement" or lower in DYNAMICS) else None
     if line:
         return line
     if spot.where == "pitch" and is_chord_name(spot.rest):
@@ -120,12 +128,22 @@ def _capital(spot: Spot) -> Optional[str]:
     return f"words have small letters alone: write `{lower}`, or put what is no music behind `#`"
 
 
+def _bars_of_rest(text: str) -> str:
+    """What to write for LilyPond's `R1*4`, or for bars of rest of ABC."""
+    found = re.match(r"R([0-9]+\.*)(?:\s*\*\s*([0-9]{1,3})(?![0-9/]))?(?=\s|;|\Z)", text)
+    one = length_at(found[1]) if found else None
+    if found is None or one is None or int(found[1].strip(".")) > 64:
+        return "silence is a `rest` with its length, as in `rest 1/1;`"
+    whole = Fraction(one.write) * int(found[2] or 1)
+    return Computed(f"silence is a `rest`: write `rest {whole.numerator}/{whole.denominator};`")
+
+
 def _field(letter: str, rest: str) -> Optional[str]:
     """A field of ABC."""
     number = re.search(r"([0-9]+)\s*$", rest.split("\n")[0])
     return {"M": by_index("meter"), "K": by_index("key_signature"), "Q": by_index("tempo", number[1] if number else ""),
             "L": "each note has its own length: write `note c4 1/8;`, or `rhythm [1/8] { play c4; play d4; }`",
-            "V": by_index("voice")}.get(letter, "other text stands behind `#`: write `#` before it")
+            "V": by_index("voice")}.get(letter, TEXT)
 
 
 def _backslash(spot: Spot) -> Optional[str]:
@@ -147,8 +165,8 @@ def _backslash(spot: Spot) -> Optional[str]:
         if lower == "header":
             return by_index("title")
         if spot.where == "formula":
-            return "this is a text for LilyPond, and no score: lilypond makes a MIDI file of it"
-        return f"commands of LilyPond are none here, and each pitch has its octave: take `\\{word}` away"
+            return HEAD
+        return _command(spot, word)
     if lower == "repeat":
         count = re.match(r"\\repeat(?: [a-z]+)? ([0-9]+)", spot.rest)
         return f"a `\\` begins no word: write `repeat {count[1] if count else 2} {{ .. }}`"
@@ -160,14 +178,26 @@ def _backslash(spot: Spot) -> Optional[str]:
         return f"a phrase is played by `do`: write `do {lower};`"
     if not word:
         return None
-    return by_index(lower) or "commands of LilyPond are none here: take it away, or put it behind `#`"
+    return by_index(lower) or _command(spot, word)
+
+
+def _command(spot: Spot, word: str) -> str:
+    """What to do about a command of LilyPond that has no meaning here, perhaps with the braces of a block."""
+    found = re.match(r"\\[a-zA-Z]+(?: [A-Z][A-Za-z]*| [a-z]'*(?=\s*\{))?(\s*\{)?", spot.rest)
+    why, shown = "commands of LilyPond are none here", found[0].rstrip("{ ") if found else f"\\{word}"
+    if word in ("midi", "layout", "paper", "header", "lyricmode", "addlyrics", "lyrics", "lyricsto", "with"):
+        return Known(f"{why}: take `{shown}` away, with all of its block")
+    if found and found[1]:
+        return Known(f"{why}, and each note is a statement of its own, as `note c4 1/4;`: take `{shown}` and the "
+                     "braces of its block away")
+    return f"{why}: take `{shown}` away"
 
 
 def _mark_of_statement(spot: Spot, first: str) -> Optional[str]:
     if first == "&":
         return Known("what sounds together is a chord, `note c4, e4 1/2;`, or the branches of a `par`")
     if spot.rest.startswith(("<<", ">>")):
-        return by_index("voice")
+        return by_mark(spot.rest[:2], "voice")
     if first == "<":
         meant = pitch_at(spot.text[1:].lstrip())
         if meant:
@@ -176,7 +206,7 @@ def _mark_of_statement(spot: Spot, first: str) -> Optional[str]:
         return (f"`{first}` has no meaning here: each pitch has its octave, as `c5` above `c4`, and a chord commas, "
                 "`note c4, e4, g4 1/4;`")
     if first in "\"“”„'‘’«»":
-        return "other text stands behind `#`: write `#` before it, in place of quotes"
+        return TEXT
     if first == ":" and spot.rest.startswith(":|"):
         return by_index("volta")
     if first == "." and spot.last.kind == NUMBER:
@@ -211,14 +241,19 @@ def _mark(spot: Spot, first: str) -> Optional[str]:
             return told
         if spot.where == "statement":
             silence = "skip;" if spot.is_inside("rhythm") else "rest 1/4;"
-            return f"silence is `{silence}`, and a tie is one note with both lengths in one, as `note c4 5/8;`"
-        return by_index("tie")
+            return Known(f"if `~` stands for silence, write `{silence}`, and a tie is one note with both lengths in "
+                         "one, as `note c4 5/8;`") if spot.rest[1:2] in "; \n" else None
+        return by_mark("~", "tie")
+    quoted = re.match(r"([\"'“„‘«”])([A-Za-z0-9/ ]*)([\"'”“’»])", spot.text)
+    end = spot.place + len(quoted[0].encode()) if quoted else 0
+    if quoted and spot.where != "end" and mends(spot, (Change(spot.place, end, quoted[2]),)):
+        return Computed(f"no quotes stand there: write `{quoted[2]}` in place of `{quoted[0]}`")
     if first in "“”„‘’«»" or first in "\"'" and spot.where not in _QUOTED:
-        return "no word has quotes, and other text stands behind `#`: take them away"
+        return Known("no word has quotes, and other text stands behind `#`, at the end of a line")
     if first in "\"" and spot.where in ("end", "length"):
         return "text stands behind `#`: write `#` before it, behind the statement"
-    if re.match(r"<<|>>", rest) and spot.where != "pitch":
-        return by_index("voice")
+    if re.match(r"<<|>>", rest) and spot.where in ("statement", "branch"):
+        return by_mark(rest[:2], "voice")
     return None
 
 
@@ -229,6 +264,14 @@ def at_number(spot: Spot) -> Optional[str]:
     hexadecimal = re.match(r"0x([0-9a-f]{1,6})(?![a-z0-9_])", spot.rest)
     if hexadecimal:
         return Computed(f"numbers are decimal: write `{int(hexadecimal[1], 16)}` in place of `{hexadecimal[0]}`")
+    long = re.match(r"([1-9][0-9]{0,5})e([0-6])(?![a-z0-9_])", spot.rest)
+    plain = str(int(long[1]) * 10 ** int(long[2])) if long else re.sub("_", "", digits + word)
+    alike = (digits + word).translate(str.maketrans("oil", "011"))
+    if re.fullmatch(r"[0-9]{1,9}", plain) and word and spot.where not in ("length", "denominator", "statement"):
+        wrote = long[0] if long else digits + word
+        return Computed(f"a number has digits alone: write `{plain}` in place of `{wrote}`")
+    if re.fullmatch(r"[0-9]{1,9}", alike) and word and spot.where != "statement":
+        return f"did you mean `{alike}`?"
     if not word:
         return f"a number has at most nine digits, and this one {len(digits)}: write a smaller one"
     if spot.where in ("length", "denominator"):
@@ -267,5 +310,4 @@ def at_number(spot: Spot) -> Optional[str]:
         return by_index("tempo", digits)
     if word in ("percent", "pct") and spot.head in ("gate", "artic"):
         return f"percentages are numbers alone: write `{digits}` in place of `{digits}{word}`"
-    return (f"a number has digits alone, and a blank stands before a word: take `{word}` away, or write a blank before "
-            "it")
+    return "a number has digits alone, and a blank stands before a word"

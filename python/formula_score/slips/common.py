@@ -5,6 +5,7 @@ from __future__ import annotations
 import re
 from typing import Optional
 
+from .reading import Reading, There
 from .spot import Spot
 from .tokens import tokens
 
@@ -57,3 +58,16 @@ def lacks_brace(spot: Spot) -> bool:
     """Whether the whole text has more `{` than `}`."""
     each = [token.text for token in tokens(spot.source)]
     return each.count("{") > each.count("}")
+
+
+def goes_on(spot: Spot) -> bool:
+    """Whether a statement of its own begins here: it reads to its end, or lacks its `;` as well."""
+    if spot.here.text in ("seed", "division"):
+        return True
+    reading = Reading(spot.after)
+    try:
+        reading.entry()
+    except There:
+        pass
+    read = spot.after[:reading.read]
+    return reading.where == "end" or any(each.text in (";", "{") for each in read)

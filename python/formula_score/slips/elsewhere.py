@@ -9,6 +9,7 @@ from .cures import Computed
 from .foreign import length_at
 from .forms import FORMS
 from .keywords import head_word
+from .loops import repeated
 from .spot import Spot
 from .tokens import NAME, NUMBER
 
@@ -18,22 +19,23 @@ ELSEWHERE = {
     "loop": "repeat", "for": "repeat", "while": "repeat", "times": "repeat", "rep": "repeat", "again": "repeat",
     "forever": "repeat", "until": "repeat",
     "wait": "rest", "sleep": "rest", "silence": "rest", "pau": "rest", "r": "rest", "tacet": "rest", "s": "rest",
-    "call": "do", "goto": "do", "gosub": "do", "use": "do", "run": "do",
+    "call": "do", "goto": "do", "gosub": "do", "run": "do", "foreach": "repeat", "switch": "if", "class": "phrase",
     "def": "phrase", "define": "phrase", "function": "phrase", "func": "phrase", "macro": "phrase", "pattern": "phrase",
     "motif": "phrase", "motive": "phrase", "theme": "phrase", "section": "phrase", "sub": "phrase", "proc": "phrase",
-    "melody": "phrase", "procedure": "phrase", "live_loop": "phrase", "riff": "phrase", "block": "phrase",
+    "melody": "phrase", "procedure": "phrase", "live_loop": "repeat", "riff": "phrase", "block": "phrase",
     "let": "set", "var": "set", "int": "set", "const": "set", "assign": "set",
     "cc": "control", "controller": "control", "ctrl": "control", "pc": "program", "prog": "program",
     "midichannel": "channel", "chan": "channel", "ch": "channel", "parallel": "par", "simultaneous": "par",
-    "together": "par", "both": "par", "fork": "par", "split": "par", "ppq": "division", "tpqn": "division",
-    "resolution": "division", "curve": "shape", "envelope": "shape", "when": "if", "unless": "if",
+    "together": "par", "both": "par", "fork": "par", "split": "par", "in_thread": "par", "thread": "par",
+    "ppq": "division", "tpqn": "division",
+    "resolution": "division", "when": "if", "unless": "if",
     "elif": "else", "elseif": "else", "elsif": "else", "otherwise": "else", "tone": "note", "pitch": "note",
     "n": "note", "noteon": "note", "note_on": "note", "random_seed": "seed", "randomize": "seed", "srand": "seed",
     "use_random_seed": "seed", "pitchbend": "bend", "pitch_bend": "bend",
-    "pitchwheel": "bend", "pitch_wheel": "bend", "articulation": "artic", "dynamics_list": "loud", "quantize": "gate",
+    "pitchwheel": "bend", "pitch_wheel": "bend", "articulation": "artic", "dynamics_list": "loud",
 }
 #: Those of them that define something by another name.
-_DEFINE = ("def", "define", "function", "func", "macro", "sub", "proc", "procedure", "live_loop")
+_DEFINE = ("def", "define", "function", "func", "macro", "sub", "proc", "procedure")
 
 
 def elsewhere(spot: Spot, word: str) -> Optional[str]:
@@ -45,11 +47,7 @@ def elsewhere(spot: Spot, word: str) -> Optional[str]:
     if written in ("while", "until"):
         return "a loop has a count, and no condition, as in `repeat 4 { .. }`"
     if word == "repeat":
-        head = re.match(r"[^{};\n]*", spot.rest)
-        counts = [int(each) for each in re.findall(r"(?<![a-z0-9_.])[0-9]{1,6}(?![a-z0-9_])|(?<=\.\.)[0-9]{1,6}",
-                                                   head[0] if head else "")]
-        number = max(counts, default=4)
-        return f"a loop is a `repeat`: write `repeat {number} {{ .. }}`"
+        return repeated(spot)
     if word == "rest":
         behind = re.sub(r"^[\s(]+", "", spot.rest[len(written):])
         beats = re.match(r"[0-9]*\.?[0-9]+(?![0-9/])", behind)
@@ -59,11 +57,13 @@ def elsewhere(spot: Spot, word: str) -> Optional[str]:
             return Computed(f"silence is a `rest`, and a beat is mostly a quarter: write `rest {beat};`")
         found = length_at(behind)
         length = re.match(r"[0-9]+ ?/ ?[0-9]+|ticks [0-9]+", behind)
-        write = length[0] if length else found.write if found else "1/4"
-        return Computed(f"silence is a `rest`: write `rest {write};`")
+        write = length[0] if length else found.write if found else ""
+        return Computed(f"silence is a `rest`: write `rest {write};`") if write else (
+            "silence is a `rest`, as in `rest 1/4;`")
     if word == "phrase":
         own = written if spot.next().kind in ("=", "{") and written not in _DEFINE else "verse"
-        name = spot.next().text if spot.next().kind == NAME else own
+        quoted = re.match(r"[a-z_]+\s*[:\"']+([a-z][a-z0-9_]*)", spot.rest)
+        name = spot.next().text if spot.next().kind == NAME else quoted[1] if quoted else own
         return f"music with a name is a `phrase`: write `phrase {name} {{ .. }}`, and play it by `do {name};`"
     if word == "do":
         name = spot.next().text if spot.next().text in spot.phrases else "verse"
@@ -77,6 +77,10 @@ def elsewhere(spot: Spot, word: str) -> Optional[str]:
         return "an `if` has its other case behind `else`: write `else { .. }`"
     if word == "else" and spot.last.text == "}":
         return "a third case is an `if` in the block, as in `else { if r1 { .. } }`"
+    if written == "unless":
+        asked = re.match(r"unless\s+([a-z0-9_]+|\([^{}]*\)|[a-z]+\([^{}]*\))\s*\{", spot.rest)
+        return Computed(f"`if` asks for the contrary: write `if same({asked[1]}, 0) {{ .. }}`") if asked else (
+            "`if` asks for the contrary, as in `if same(r0, 0) { .. }`")
     if word == "note" and spot.next().kind == NUMBER and 0 <= int(spot.next().text[:6]) <= 127:
         return Computed(f"`{written}` is `note` here, with a length: write `note key {spot.next().text} 1/4;`")
     text = spot.mended(spot.place, spot.here.end, word, spot.place)

@@ -7,12 +7,12 @@ from typing import Callable, Optional
 
 from ..index import musical
 from .checking import stands
-from .common import ended, open_block, parenthesized, statement_text, token_before
-from .cures import Computed, Known
+from .common import ended, goes_on, open_block, parenthesized, statement_text, token_before
+from .cures import Computed
 from .foreign import length_at, pitch_at, sum_at
 from .forms import FORMS
-from .indexed import by_index
-from .marks import mark_behind
+from .indexed import by_index, by_mark
+from .marks import angle, mark_behind
 from .near import near
 from .pitches import chord_plus
 from .reading import STATEMENTS
@@ -37,7 +37,7 @@ def at_end(spot: Spot) -> Optional[str]:
     if here.kind == END:
         more = f", and then the `}}` of {open_block(spot)}" if spot.reading.blocks else ""
         return f"each statement ends with `;`: {ended(spot)}{more}"
-    if spot.is_over_line or is_statement(here) or here.kind == "}":
+    if spot.is_over_line or is_statement(here) and goes_on(spot) or here.kind == "}":
         return f"each statement ends with `;`: {ended(spot)}"
     if here.text == "{":
         return f"`{head}` has no block: write `;`, and take the `{{` and its `}}` away"
@@ -110,8 +110,7 @@ def _end_of_sound(spot: Spot) -> Optional[str]:
     if here.kind in ("loud", "volume") and spot.next().kind in (";", "}", END):
         return by_index("dynamics")
     if here.text in ("<", ">"):
-        return Known(f"`{here.text}` has no meaning here, and `;` ends a statement: a dotted rhythm is its lengths, "
-                     "`note c4 3/8; note d4 1/8;`, and an accent or a crescendo a list, `loud [100, 64] { .. }`")
+        return angle(here.text)
     if here.text in ("+", "&", "and", "then", "|", "-") and is_statement(spot.next()):
         return f"each statement ends with `;`: {ended(spot)}, and take the `{here.text}` away"
     if re.match(r"x ?[0-9]+(?![a-z0-9_])|(?:twice|times)\b", spot.rest):
@@ -144,7 +143,7 @@ def _end_of_sound(spot: Spot) -> Optional[str]:
             return Computed(f"{apart}, or `note {chord[1]}, {pitch} {chord[2]};` for a chord") if chord else apart
         if after.kind == "rest" or after.kind == "note":
             return "each statement ends with `;`: write `;` in place of the `,`"
-        if after.kind == NUMBER and head == "note" and spot.next(2).kind != "/" and 1 <= int(after.text) <= 127:
+        if after.kind == NUMBER and head == "note" and spot.next(2).kind != "/" and 20 <= int(after.text) <= 127:
             return f"the velocity is that of a block: write `volume {after.text} {{ {statement_text(spot)} }}`"
         if after.kind == NUMBER:
             return _two_lengths(spot, after)
@@ -152,10 +151,10 @@ def _end_of_sound(spot: Spot) -> Optional[str]:
     if here.kind in (NUMBER, "ticks"):
         if here.kind == "ticks" or spot.next().kind == "/":
             return _two_lengths(spot, here)
-        if head == "note" and 1 <= int(here.text) <= 127:
+        if head == "note" and 20 <= int(here.text) <= 127:
             return f"the velocity is that of a block: write `volume {here.text} {{ {statement_text(spot)} }}`"
-        return f"a {head} has one length, and `;` behind it: take the `{here.text}` away"
-    return by_index("slur") if here.kind == "(" else None
+        return f"a {head} has one length, and no number behind it"
+    return by_mark("(", "slur") if here.kind == "(" else None
 
 
 def _two_lengths(spot: Spot, second: Token) -> str:
@@ -213,6 +212,8 @@ def _end_of_do(spot: Spot) -> Optional[str]:
             return f"no phrase has the name `{name}`, and `do` plays one as it stands: write `do {here.text};`"
         if here.text == "+" and spot.next().kind == NUMBER:
             return by_index("transpose")
+        if other == name:
+            return Computed(f"one phrase at a time: write `do {name}; do {name};`, or take one `{name}` away")
         if other in spot.phrases or spot.next().kind == NAME:
             return f"one phrase at a time: write `do {name}; do {other};`"
         return "one phrase at a time, and `;` behind it"
@@ -244,6 +245,8 @@ def _end_of_message(spot: Spot) -> Optional[str]:
         if spot.last.text == ")":
             return "what is computed stands in parentheses, all of it: move the `)` behind it"
         return parenthesized(spot, spot.last.start if spot.statement[-2].text != "-" else spot.statement[-2].start)
+    if here.kind == "%" and spot.next().kind == ";":
+        return "a value is a number alone: take the `%` away"
     if here.kind == "{":
         return f"a `{head}` holds from its place on, and has no block: write `;`, and take the `{{` and its `}}` away"
     if here.kind == "," or here.kind == NUMBER:

@@ -126,10 +126,17 @@ def _blocks(spot: Spot, code: str, begun: int) -> Iterator[Changes]:
         return
     if head.split(" ")[0] in ("else", "branch") and spot.last.text == head:
         begun = spot.last.start
+    ruby = re.match(r"[^;{}\n]*?\bdo\b(?:\s*\|[a-z_, ]*\|)?", spot.source[begun:begun + 200])
+    for found in re.finditer(r"\bend\b", spot.source[begun + ruby.end():begun + WINDOW]) if ruby else ():
+        first, last = begun + (ruby.end() if ruby else 0) + found.start(), begun + (ruby.end() if ruby else 0)
+        yield Change(begun, last, f"{head} {{ "), Change(first, first + 3, "}")
     place, end = spot.place, max(spot.here.end, spot.place)
     opened = spot.source.find("{", begun, place + 200)
     if opened >= 0:
         yield (Change(begun, opened, f"{head} "),)
+    stop = spot.end_of_statement(place)
+    for found in list(re.finditer("[;}]", spot.source[stop:stop + 200]))[:3]:
+        yield Change(begun, stop, f"{head} {{ "), Change(stop + found.end(), stop + found.end(), " }")
     ends = [place + found.end() for found in re.finditer(";", spot.rest)][:6]
     closes = [place + found.start() for found in re.finditer(r"[)\]]", spot.rest)][-1:]
     for at in (place, end):

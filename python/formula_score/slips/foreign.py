@@ -21,11 +21,12 @@ _PITCH = re.compile(rf"([A-Ha-h])(?:[-_]?({_MARKS}))?[-_]?(?:([0-9]+)|('+|,+|’
 
 
 class Foreign(NamedTuple):
-    """A pitch or a length as others write it: what stands there, and what is written here."""
+    """A pitch or a length as others write it: what stands there, what is written here, and whether that is certain."""
 
     wrote: str
     write: str
     why: str
+    is_sure: bool = True
 
 
 def pitch_at(text: str, with_comma: bool = False) -> Optional[Foreign]:
@@ -46,6 +47,15 @@ def pitch_at(text: str, with_comma: bool = False) -> Optional[Foreign]:
         write = f"{'b' if behind[1] in 'hH' else behind[1].lower()}{mark}{behind[2]}"
         why = "a sharp or a flat stands before the octave"
         return Foreign(behind[0], write, f"a `#` begins a comment, and {why}" if "#" in behind[3] else why)
+    in_words = re.match(r"([A-Ga-g])[ -](sharp|flat|natural)[ -]?([0-9])(?![A-Za-z0-9'’])", text)
+    if in_words:
+        mark = {"sharp": "s", "flat": "b", "natural": ""}[in_words[2]]
+        return Foreign(in_words[0], f"{in_words[1].lower()}{mark}{in_words[3]}",
+                       "a sharp is `s`, a flat `b`, and a natural nothing")
+    twice = re.match(r"(\^\^|__)([A-Ga-g])([0-9])(?![A-Za-z0-9'’])", text)
+    if twice:
+        joined = pitch_at(f"{twice[2]}{'ss' if twice[1] == '^^' else 'bb'}{twice[3]}")
+        return joined._replace(wrote=twice[0], why="there are no double sharps and flats") if joined else None
     sign = re.match(r"([\^_=]{1,2})([A-Ga-g])([0-9])(?![A-Za-z0-9'’])", text)
     if sign and len(set(sign[1])) == len(sign[1]):
         mark = {"^": "s", "_": "b", "=": ""}[sign[1]]
@@ -74,26 +84,41 @@ def pitch_at(text: str, with_comma: bool = False) -> Optional[Foreign]:
     rise = _ACCIDENTALS[mark]
     octave = int(digits) if digits else 4
     if marks:
-        octave = 3 + (len(marks) if marks[0] != "," else -len(marks))
+        octave = _octaves(letter, marks)[0]
     spelled = {0: "", 1: "s", -1: "b"}.get(rise)
     write = f"{'b' if letter in 'hH' else letter.lower()}{spelled}{octave}"
     key = 12 * (octave + 1) + _STEPS[letter.lower()] + rise
     if spelled is None or not re.fullmatch(r"[a-g][sb]?[0-9]", write):
         if digits and len(set(digits)) == 1 and not mark:
-            return Foreign(wrote, f"{letter.lower()}{digits[0]}", "a pitch has one digit of octave")
+            return Foreign(wrote, f"{letter.lower()}{digits[0]}", "a pitch has one digit of octave", False)
         if not 12 <= key <= 127:
             return Foreign(wrote, "", "named pitches go from `cb0` to `g9`, and lower keys are `key 0` to `key 10`")
         write = str(Pitch(key))
-    return Foreign(wrote, write, _why_pitch(letter, mark, digits, marks or "", spelled is None))
+    why = _why_marks(letter, wrote, marks) if marks else _why_pitch(letter, mark, digits, spelled is None)
+    once = re.sub(r"([a-z])\1", r"\1", wrote)
+    if once != wrote and mark != "es" and re.fullmatch(r"[a-g][sb]?[0-9]", once):
+        why += f" (`{once}` if a letter stands there twice)"
+    return Foreign(wrote, write, why, bool(digits or marks) and letter not in "hH")
 
 
-def _why_pitch(letter: str, mark: str, digits: Optional[str], marks: str, is_double: bool) -> str:
+def _octaves(letter: str, marks: str) -> tuple[int, int]:
+    """The octave that marks mean, by the more likely of two systems, and by the other one."""
+    steps = -len(marks) if marks[0] == "," else len(marks)
+    return (3 + steps, 5 + steps) if letter.islower() else (4 + steps, 2 + steps)
+
+
+def _why_marks(letter: str, wrote: str, marks: str) -> str:
+    one, other = _octaves(letter, marks)
+    first, second = ("LilyPond's", "ABC's") if letter.islower() else ("ABC's", "Helmholtz's")
+    more = f", of {second} {other}" if 0 <= other <= 9 else ""
+    return f"the octave is a digit, and of {first} `{wrote}` it is {one}{more}"
+
+
+def _why_pitch(letter: str, mark: str, digits: Optional[str], is_double: bool) -> str:
     if is_double:
         return "there are no double sharps and flats"
-    if marks:
-        return "the octave is a digit, and `c4` is middle C"
     if letter in "hH":
-        return "the letters are a to g"
+        return "the letters are a to g, and a German H is `b`"
     if mark not in ("", "s", "b"):
         named = {1: "a sharp is `s`", -1: "a flat is `b`", 0: "a natural has no sign"}[_ACCIDENTALS[mark]]
         return f"a `#` begins a comment, and {named}" if "#" in mark else named
@@ -111,7 +136,8 @@ _NAMES = {
     "minim": "1/2", "crotchet": "1/4", "quaver": "1/8", "semiquaver": "1/16", "w": "1/1", "h": "1/2", "q": "1/4",
     "e": "1/8", "dotted quarter": "3/8", "dotted half": "3/4", "dotted eighth": "3/16", "quarters": "1/4",
     "eighths": "1/8", "qn": "1/4",
-    "8th": "1/8", "16th": "1/16", "4th": "1/4", "32nd": "1/32", "beat": "1/4", "beats": "1/4",
+    "breve": "2/1", "32th": "1/32", "8th": "1/8", "16th": "1/16", "4th": "1/4", "32nd": "1/32", "beat": "1/4",
+    "beats": "1/4",
 }
 #: The ticks of a whole note, which a length has to divide into.
 _WHOLE = 1920
@@ -152,8 +178,11 @@ def length_at(text: str) -> Optional[Foreign]:
     found = re.match(r"[0-9]*\.[0-9]+", text)
     if found:
         beats = _written(Fraction(found[0]) / 4)
+        slash = re.fullmatch(r"([1-9])\.([1-9]|1[26])", found[0])
+        also = [f"of a quarter it is `{beats}`"] if beats else []
+        also += [f"with a `/` it is `{slash[1]}/{slash[2]}`"] if slash else []
         return _foreign(found[0], Fraction(found[0]), "numbers have no decimal point, and a length is a part of a "
-                        "whole note" + (f" (of a quarter it is `{beats}`)" if beats else ""))
+                        "whole note" + (f" ({', '.join(also)})" if also else ""))
     found = re.match(rf"({whole}) ?[:\\] ?({whole})(?![a-z0-9])", text)
     if found and int(found[2]):
         return _foreign(found[0], Fraction(int(found[1]), int(found[2])), "a length is written with `/`")
@@ -188,7 +217,8 @@ def _bare(digits: str) -> Optional[Foreign]:
     if number in _POWERS:
         return Foreign(digits, f"1/{number}", "a length is a part of a whole note, as `1/4`, or `ticks N`")
     if number > 128:
-        return Foreign(digits, f"ticks {number}", "a length is a part of a whole note, as `1/4`, or `ticks N`")
+        return Foreign(digits, f"ticks {number}", "a length is a part of a whole note, as `1/4`, or `ticks N`",
+                       _WHOLE % number == 0 or number % 120 == 0)
     return None
 
 

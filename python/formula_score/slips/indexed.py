@@ -7,7 +7,7 @@ from typing import Optional
 
 from ..index import musical
 from ..midi import DYNAMICS, INSTRUMENTS
-from .cures import Known
+from .cures import Computed, Known
 from .near import near
 
 
@@ -25,7 +25,16 @@ def by_index(word: str, number: str = "") -> Optional[str]:
         return Known("a tempo is a `warp` round the piece, by 120,000 divided by the tempo: write `shape "
                        f"tempo_{number} = flat 500/1 by {stretch}; warp tempo_{number} {{ .. }}`")
     note = line.note.replace("*", "")
-    return Known(f"{line.words}: write `{line.write}`" + (f" ({note})" if note else ""))
+    return Known(f"{line.words}, as in `{line.write}`" + (f" ({note})" if note else ""))
+
+
+def by_mark(mark: str, word: str) -> Optional[str]:
+    """What the index says of a mark that may mean this word, and something else."""
+    line = musical(word)
+    if line is None:
+        return None
+    note = line.note.replace("*", "")
+    return Known(f"if `{mark}` stands for {line.words}, write it as in `{line.write}`" + (f" ({note})" if note else ""))
 
 
 def instrument(name: str) -> Optional[str]:
@@ -36,5 +45,5 @@ def instrument(name: str) -> Optional[str]:
     if not found:
         return None
     number = INSTRUMENTS.index(found[0])
-    return (f"an instrument is its number in General MIDI, counted from 0, and {number} is the {found[0]}: "
-            f"write `program {number};`")
+    return Computed(f"an instrument is its number in General MIDI, counted from 0, and {number} is the {found[0]}: "
+                    f"write `program {number};`")

@@ -37,9 +37,15 @@ _KINDS = (
 )
 
 
+#: Kinds with a head that a score may be given by mistake, and what only a score has behind it.
+_HEADED = ("a text for LilyPond", "a tune in ABC")
+_STATEMENT = re.compile(rb"(?:^|[;{}\s])(?:(?:note|play|rest) [^;{}\n]*;|formula [12]\b)")
+
+
 def kind_of(data: bytes) -> Optional[Kind]:
     """What a file is, by how it begins; None where that is not known."""
-    return next((kind for pattern, kind in _KINDS if re.match(pattern, data[:4096], re.S)), None)
+    kind = next((kind for pattern, kind in _KINDS if re.match(pattern, data[:4096], re.S)), None)
+    return None if kind and kind.what in _HEADED and _STATEMENT.search(data[:4096]) else kind
 
 
 def not_a(wanted: str, data: bytes) -> Optional[tuple[str, str]]:

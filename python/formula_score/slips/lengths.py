@@ -9,10 +9,10 @@ from ..midi import DYNAMICS
 from .common import FUNCTIONS, insert, parenthesized, statement_text
 from .cures import Computed
 from .foreign import length_at, pitch_at, sum_at
-from .indexed import by_index
+from .indexed import by_mark
 from .marks import mark_behind, sounding
 from .near import near
-from .pitches import all_commas, chord_plus
+from .pitches import all_commas, apart, chord_plus
 from .spot import Spot, is_statement
 from .tokens import END, INDEX, NAME, NUMBER, OTHER, PITCH, REGISTER
 
@@ -28,8 +28,9 @@ def at_length(spot: Spot) -> Optional[str]:
         return "a key is a whole number, without a decimal point"
     part = re.match(r"[^\s0-9;/]{1,3} ?/ ?([0-9]+)(?![0-9])", spot.text)
     if part and here.kind in (OTHER, NAME):
-        return spot.write("a length has a number before its `/`", spot.place,
+        cure = spot.write("a length has a number before its `/`", spot.place,
                           spot.place + len(part[0].encode()), f"1/{part[1]}")
+        return cure if part[0][0] in "lI|!i" else str(cure)
     if head in ("note", "play") and spot.last.text != "note":
         found = _behind_pitch(spot)
         if found:
@@ -56,11 +57,13 @@ def at_length(spot: Spot) -> Optional[str]:
 
 def _without_number(spot: Spot) -> str:
     """A length that begins with its `/`."""
-    digits = spot.next().text
-    if re.fullmatch(r"[1-9](?:1|2|4|8|16|32|64)", digits) and digits not in ("12", "24", "32", "48", "64"):
-        return spot.write("a length has a number before its `/` too", spot.place, spot.next().end,
-                          f"{digits[0]}/{digits[1:]}")
-    return spot.write("a length has a number before its `/` too", spot.place, spot.place, "1")
+    digits, why = spot.next().text, "a length has a number before its `/` too"
+    split = re.fullmatch(r"([1-9])(1|2|4|8|16|32|64)", digits)
+    if split and digits not in ("12", "24", "32", "48", "64"):
+        return spot.write(why, spot.place, spot.next().end, f"{split[1]}/{split[2]}")
+    cure = str(spot.write(why, spot.place, spot.place, "1"))
+    other = spot.mended(spot.place, spot.next().end, f"{split[1]}/{split[2]}") if split else None
+    return Computed(f"{cure}, or `{other}`") if other else cure
 
 
 def write_length(spot: Spot, start: int, wrote: str, write: str, why: str) -> str:
@@ -95,7 +98,7 @@ def _behind_pitch(spot: Spot) -> Optional[str]:
         if spot.is_inside("rhythm"):
             return spot.write("a `note` has its own length, and `play` takes it from the `rhythm`",
                               spot.statement[0].start, spot.statement[0].end, "play")
-        return insert(spot, f"the length is missing behind `{pitch}`", " 1/4") if here.kind == ";" else (
+        return str(insert(spot, f"the length is missing behind `{pitch}`", " 1/4")) if here.kind == ";" else (
             f"the length and a `;` are missing behind `{pitch}`: write `{statement_text(spot)[:-1]} 1/4;`")
     if here.text in DYNAMICS:
         return (f"the velocity is that of a block: write `volume {DYNAMICS[here.text]} {{ {sounding(spot)} }}`, "
@@ -110,7 +113,7 @@ def _behind_pitch(spot: Spot) -> Optional[str]:
         end = spot.place + len((meant.wrote if meant else here.text).encode())
         text = all_commas(spot)
         if text:
-            return Computed(f"commas stand between the pitches of a chord: write `{text}`")
+            return Computed(f"commas stand between the pitches of a chord: write `{text}`{apart(text)}")
         return spot.write("commas stand between the pitches of a chord", spot.last.end, end,
                           f", {meant.write if meant and meant.write else here.text}")
     if here.text in ("♯", "♭", "♮") or here.kind == OTHER and spot.text[:1] in "♯♭♮":
@@ -149,7 +152,7 @@ def _behind_pitch(spot: Spot) -> Optional[str]:
         return (f"a pitch has no dot: staccato is `gate 50 {{ {sounding(spot)} }}`, and a dotted quarter has the "
                 "length `3/8`")
     if here.text == "." and not re.match(r"\.(?: ;|[0-9])", spot.rest):
-        return by_index("triplet")
+        return by_mark(".", "triplet")
     if here.kind == "*" or here.text == "x" and spot.next().kind == NUMBER:
         return (f"the length is missing behind `{pitch}`, and a loop plays a note more than once: write `repeat 4 {{ "
                 f"note c4 1/4; }}`")
@@ -198,7 +201,8 @@ def _length_of_rhythm(spot: Spot) -> Optional[str]:
     here = spot.here
     if here.text == "]":
         return ("a rhythm has at least one length: write `rhythm [1/4] { .. }`" if spot.last.text == "[" else
-                "no comma stands behind the last length: take it away")
+                Computed("no comma stands behind the last length: take the `,` away, or write the length that is "
+                         "missing"))
     if here.kind == PITCH or here.kind == NAME and pitch_at(spot.text):
         return "a rhythm has lengths alone: write `rhythm [1/4] { play c4; play e4; }`"
     if here.kind == ",":
@@ -266,12 +270,34 @@ def at_slash(spot: Spot) -> Optional[str]:
         if text:
             return Computed(f"a length is a part of a whole note, or ticks: write `{text}`, or `ticks "
                             f"{spot.last.text}` for its length")
+    beats = _beats(spot) if spot.head in ("note", "rest") and here.kind in (";", "}", END) and (
+        spot.next().text != "/") else None
+    if beats:
+        return beats
+    if meant and not meant.is_sure and spot.head in ("note", "rest"):
+        text = spot.mended(start, start + len(meant.wrote), meant.write)
+        why = "a length is a part of a whole note, as `1/4`"
+        return Computed(f"{why}: if it is in ticks, write `{text}`") if text else None
     if meant and start + len(meant.wrote) >= spot.last.end:
         if spot.head == "shape" and here.kind == "by" or here.kind != OTHER or len(meant.wrote) > len(spot.last.text):
             return write_length(spot, start, meant.wrote, meant.write, meant.why)
     if here.kind in (";", "}", ",", "]", "by", END):
         return f"a length is a part of a whole note, as `1/{spot.last.text}` or `{spot.last.text}/4`, or `ticks N`"
     return None
+
+
+def _beats(spot: Spot) -> Optional[str]:
+    """A length that is a number of one digit: a part of a whole note, or so many quarters."""
+    number = spot.last
+    if number.text not in ("1", "2", "4", "8"):
+        return None
+    part, beats = (spot.mended(number.start, number.end, each) for each in (f"1/{number.text}", f"{number.text}/4"))
+    if not part or not beats:
+        return None
+    named = {"1": "a whole note", "2": "a half", "4": "a quarter", "8": "an eighth"}[number.text]
+    many = "quarter" if number.text == "1" else "quarters"
+    return Computed(f"a length is a part of a whole note, or `ticks N`: write `{part}` for {named}, or `{beats}` for "
+                    f"{number.text} {many}")
 
 
 def at_denominator(spot: Spot) -> Optional[str]:
@@ -321,7 +347,7 @@ def at_max(spot: Spot) -> Optional[str]:
         return insert(spot, why, " max")
     if here.kind == NAME and (near(here.text, ["max"]) or here.text in ("maximum", "most", "limit", "upto")):
         return "did you mean `max`?"
-    return insert(spot, why, f" max {most} ")
+    return str(insert(spot, why, f" max {most} "))
 
 
 def at_most(spot: Spot) -> Optional[str]:

@@ -7,7 +7,8 @@ from typing import Optional
 
 from ..midi import DYNAMICS
 from .common import statement_text
-from .indexed import by_index
+from .cures import Known
+from .indexed import by_index, by_mark
 from .spot import Spot
 from .tokens import NUMBER
 
@@ -15,8 +16,9 @@ _LENGTH = re.compile(r"[0-9]+ ?/ ?[0-9]+|ticks [0-9]+")
 _VELOCITY = re.compile(r"(?:velocity|vel|vol|volume|v|@)\s*[:=]?\s*([0-9]{1,3})(?![0-9/])")
 #: Marks of articulation and the lines of the index that they stand for.
 _MARKS = (
-    (r"(?:[-^_][.!]|\.)(?![0-9.])", "staccato"), (r"[-^_]?>", "accent"), (r"[-_]?\^", "accent"), (r"-[-_]", "legato"),
-    (r"[-^_]\s*[\"“]", "text"), (r"\((?![^;{}]*\))", "slur"), (r":[0-9]+", "tremolo"), (r"[-^_]?\\", ""),
+    (r"[-^_]\s*[\"“]", "text"), (r"(?:[-^_][.!]|\.)(?![0-9.])", "staccato"), (r"[-^_]>", "accent"),
+    (r"[-_]?\^", "accent"), (r"-[-_]", "legato"), (r"\((?![^;{}]*\))", "slur"), (r":[0-9]+", "tremolo"),
+    (r"[-^_]?\\", ""),
 )
 
 
@@ -29,21 +31,33 @@ def sounding(spot: Spot) -> str:
     return f"{text[:-1]} {found[0] if found else '1/4'};"
 
 
+def angle(mark: str) -> Known:
+    """What to do about a `<` or `>`, which others have for three things."""
+    return Known(f"`{mark}` has no meaning here: a dotted rhythm is its lengths, `note c4 3/8; note d4 1/8;`, and an "
+                 "accent or a crescendo a list, `loud [100, 64] { .. }`")
+
+
 def mark_behind(spot: Spot) -> Optional[str]:
     """What a mark or a word behind a pitch or a length means; None where it is none."""
-    found = _VELOCITY.match(spot.rest)
+    found = _VELOCITY.match(re.sub(r"^(?:with|at)\s+", "", spot.rest))
     if found and 1 <= int(found[1]) <= 127:
         return f"the velocity is that of a block: write `volume {int(found[1])} {{ {sounding(spot)} }}`"
     word = re.match(r"[a-z_]+(?![a-z0-9_])", spot.rest)
     if word and word[0] in DYNAMICS:
         return f"the velocity is that of a block: write `volume {DYNAMICS[word[0]]} {{ {sounding(spot)} }}`"
+    if word and word[0] in ("second", "seconds", "sec", "s", "ms", "beat", "beats"):
+        return Known("a length is a part of a whole note, and no time: at 120 a minute a quarter, `1/4`, is half a "
+                     "second")
     if word and word[0] in ("t", "d"):
         return by_index("triplet")
     if word:
         return by_index(word[0])
     for pattern, line in _MARKS:
-        if line and re.match(pattern, spot.rest) and not (spot.here.kind == "-" and spot.next().kind == NUMBER):
-            return by_index(line)
+        mark = re.match(pattern, spot.rest)
+        if line and mark and not (spot.here.kind == "-" and spot.next().kind == NUMBER):
+            return by_mark(mark[0], line)
+    if re.match(r"[<>](?!\s*[a-z0-9])", spot.rest):
+        return angle(spot.here.text)
     inside = re.match(r"[\[(<{]\s*([a-z_]+)", spot.rest)
     if inside:
         return by_index(inside[1])

@@ -8,6 +8,7 @@ from typing import Optional
 from ..pitch import Pitch
 from .common import FUNCTIONS, parenthesized, token_before
 from .cures import Computed, Known
+from .drawing import drawn_at
 from .foreign import length_at, pitch_at
 from .forms import FORMS
 from .indexed import by_index, instrument
@@ -30,11 +31,12 @@ def at_pitch(spot: Spot) -> Optional[str]:
     if here.kind == NAME and here.text in spot.names and (
             not pitch_at(spot.text) or head == "play" and spot.next().kind == ";"):
         return f"`{here.text}` is a phrase: write `do {here.text};`" if here.text in spot.phrases else None
-    if here.kind == NAME and re.fullmatch(r"r[0-9]*|rest|silence|pause", here.text) or here.kind == "rest":
+    is_alone = not commas and spot.next().text != ","
+    if is_alone and here.kind == NAME and re.fullmatch(r"r[0-9]*|rest|silence|pause", here.text) or here.kind == "rest":
         return _rest_for_note(spot)
     if here.kind in (REGISTER, INDEX, "pick", "min", "max", "less", "same"):
         if here.text in ("r1", "r2", "r4") and not re.search(rf"\bset\s+{here.text}\b", spot.source):
-            return _rest_for_note(spot)
+            return _rest_for_note(spot) if is_alone else None
         return parenthesized(spot, spot.place, "key ")
     if here.kind == NUMBER:
         return _number_for_pitch(spot, commas)
@@ -67,7 +69,8 @@ def at_pitch(spot: Spot) -> Optional[str]:
             return Known(found.why)
         end = spot.place + len(found.wrote.encode())
         text = spot.mended(spot.place, end, found.write) or all_commas(spot)
-        return Computed(f"{found.why}: write `{text}`") if text else spot.write(found.why, spot.place, end, found.write)
+        cure = Computed(f"{found.why}: write `{text}`") if text else spot.write(found.why, spot.place, end, found.write)
+        return cure if found.is_sure else str(cure)
     return _no_pitch(spot)
 
 
@@ -82,11 +85,12 @@ def _is_octave(spot: Spot) -> bool:
 
 def _rest_for_note(spot: Spot) -> str:
     found = re.match(r"(?:rest|silence|pause|r)([0-9]*\.*)\s*([0-9]+/[0-9]+|ticks [0-9]+)?", spot.rest)
-    length = found[2] if found and found[2] else "1/4"
+    length = found[2] if found and found[2] else ""
     if found and found[1] and not found[2]:
         meant = length_at(found[1])
         length = meant.write if meant and int(found[1].strip(".")) <= 64 else length
-    return Computed(f"silence is a statement of its own: write `rest {length};`")
+    why = "silence is a statement of its own"
+    return Computed(f"{why}: write `rest {length};`") if length else f"{why}, as in `rest 1/4;`"
 
 
 def _number_for_pitch(spot: Spot, commas: bool) -> str:
@@ -94,7 +98,8 @@ def _number_for_pitch(spot: Spot, commas: bool) -> str:
     if head == "play" and spot.next().kind == "/":
         return "`play` takes its length from the `rhythm` round it: write `play c4;`, or `note c4 1/4;`"
     if spot.next().kind == "/" and commas:
-        return spot.write("no comma stands before the length", spot.last.start, spot.last.end, "")
+        cure = spot.write("no comma stands before the length", spot.last.start, spot.last.end, "")
+        return Computed(f"{cure}, or the pitch that is missing before the length") if cure else cure
     if spot.next().kind == "/" and spot.next(2).kind == NUMBER:
         length = f"{here.text}/{spot.next(2).text}"
         pitch = pitch_at(spot.text[len(length):].lstrip(" ,"))
@@ -108,7 +113,7 @@ def _number_for_pitch(spot: Spot, commas: bool) -> str:
                 f"`volume {here.text} {{ .. }}` round it")
     if int(here.text) > 127:
         return "a pitch stands first, and the length behind it: write `note c4 1/4;`"
-    if len(here.text) == 1 and spot.next().kind != ",":
+    if len(here.text) == 1:
         return "a pitch is a letter and then the octave, as `c4`, and a key by its number has `key` before it"
     if spot.next().kind in ("+", "-", "*", "%"):
         return parenthesized(spot, spot.place, "key ")
@@ -208,6 +213,16 @@ def all_commas(spot: Spot) -> Optional[str]:
     return text if len(pitches) > 1 and reads(list(tokens(text))[:-1]) and len(text) < 70 else None
 
 
+def apart(chord: str) -> str:
+    """The notes of a written chord one after another, as another way to read it; '' where they are many."""
+    found = re.fullmatch(r"(note|play) (.*?)(?: ([^ ,]+|ticks [0-9]+))?;", chord)
+    if not found:
+        return ""
+    length = f" {found[3]}" if found[3] else ""
+    text = " ".join(f"{found[1]} {each}{length};" for each in found[2].split(", "))
+    return f", or one after another `{text}`" if len(text) < 70 else ", or one after another each as a statement"
+
+
 def chord_plus(spot: Spot) -> Optional[str]:
     after = spot.next()
     found = re.match(r"\+\s*", spot.rest)
@@ -241,6 +256,9 @@ def at_amount(spot: Spot) -> Optional[str]:
     here, head = spot.here, spot.head
     if here.kind in (REGISTER, INDEX, *FUNCTIONS):
         return parenthesized(spot, spot.place)
+    drawn = drawn_at(spot.rest) if here.kind == NAME else None
+    if drawn:
+        return spot.write(drawn.why, spot.place, spot.place + len(drawn.wrote), f"({drawn.write})")
     if here.kind == "+" and spot.next().kind == NUMBER:
         return spot.write("a number has no `+`", spot.place, spot.next().start, "")
     if here.kind in ("=", ",") or here.text in (":",):
@@ -253,7 +271,7 @@ def at_amount(spot: Spot) -> Optional[str]:
             return found
     form = "note key 60 1/4;" if spot.where == "key" else FORMS.get(head, "")
     if here.kind == ";" and head == "control":
-        return spot.write("a `control` has a controller and a value", spot.last.end, spot.last.end, " 100")
+        return str(spot.write("a `control` has a controller and a value", spot.last.end, spot.last.end, " 100"))
     if here.kind in (";", "}", END):
         return f"a number is missing, as in `{form}`"
     inner = re.match(r"\[\s*([^\[\]{};]*?)\s*\]|\{\s*([^\[\]{};]*?)\s*\}|[\[{]\s*([^\[\]{};()]*?)\s*\)", spot.rest)
@@ -300,9 +318,10 @@ def at_controller(spot: Spot) -> Optional[str]:
         if given:
             value = int(given[1])
         if value is not None:
-            return f"controllers and values are numbers: write `control {number} {value};`"
+            return Computed(f"controllers and values are numbers: write `control {number} {value};`")
         text = spot.mended(spot.place, spot.place + len(found[0]), number)
-        return f"a controller is its number, and {number} is the {found[1]}: write `{text or f'control {number} 100;'}`"
+        why = f"a controller is its number, and {number} is the {found[1]}"
+        return Computed(f"{why}: write `{text}`") if text else f"{why}, as in `control {number} 100;`"
     if here.kind in ("(", REGISTER, INDEX, *FUNCTIONS):
         return "the controller is a written number, and its value alone may be computed, as in `control 7 (60 + n0);`"
     if here.kind == "-":

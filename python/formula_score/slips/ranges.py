@@ -90,8 +90,8 @@ def no_ticks(spot: Spot) -> Optional[tuple[str, str]]:
     whole = whole_note(spot)
     ticks = Fraction(int(over), int(under)) * whole
     return (f"`{over}/{under}` is {float(ticks):.2f} ticks, and no whole number of them",
-            f"a length is a whole number of ticks, of which a whole note has {whole:,}: write `ticks {round(ticks)}`, "
-            f"or `{over}/{_divisor(int(over), int(under), whole)}`")
+            f"a length is a whole number of ticks, of which a whole note has {whole:,}: the nearest are "
+            f"`{over}/{_divisor(int(over), int(under), whole)}` and `ticks {round(ticks)}`")
 
 
 def _divisor(over: int, under: int, whole: int) -> int:
@@ -130,4 +130,4 @@ def unknown_name(spot: Spot) -> Optional[tuple[str, str]]:
     if meant:
         return heading, "did you mean " + " or ".join(f"`{each}`" for each in meant) + "?"
     return heading, (f"write `phrase {name} {{ .. }}` above" if head == "do" else
-                     f"write `shape {name} = slope 1/1 by 1000 to 1500;` above")
+                     f"a `warp` has the name of a shape above it, as in `shape {name} = slope 1/1 by 1000 to 1500;`")

@@ -62,6 +62,10 @@ def at_part(spot: Spot) -> Optional[str]:
         return f"did you mean `{meant[0]}`?"
     if here.kind == ";" and spot.last.text == ",":
         return "no comma stands behind the last part: take it away"
+    inner = re.match(r"[\[{(]\s*([^\[\]{}();]*?)[\s,]*[\]})]", spot.rest)
+    if inner and spot.mended(spot.place, spot.place + len(inner[0]), inner[1]):
+        return spot.write("the parts of a shape stand between commas, without brackets", spot.place,
+                          spot.place + len(inner[0]), inner[1])
     if here.text in ("{", "[", "("):
         return ("the parts of a shape stand between commas, without brackets: write `shape rit = slope 1/1 by 1000 "
                 "to 1500;`")
@@ -103,7 +107,8 @@ def at_to(spot: Spot) -> Optional[str]:
     here = spot.here
     if here.kind in (NUMBER,):
         return insert(spot, "a `to` stands between the two stretches", " to")
-    if here.kind in (",", "-") and spot.next().kind == NUMBER or here.kind == NAME and spot.next().kind == NUMBER:
+    if here.kind in (",", "-") and spot.next().kind == NUMBER or (
+            here.kind == NAME and here.text.isalpha() and spot.next().kind == NUMBER):
         return spot.write("a `to` stands between the two stretches", spot.place, here.end, " to ")
     found = re.match(r"\.\.\.?|->|→", spot.text)
     if found:
@@ -116,6 +121,6 @@ def at_to(spot: Spot) -> Optional[str]:
     if here.kind in (";", ",", "}", "{", END) or spot.is_over_line:
         why = "a `slope` goes from one stretch to another, and `flat` has one"
         if spot.last.text == "1000":
-            return insert(spot, why, " to 1500")
-        return spot.write(why, spot.last.start, spot.last.start, "1000 to ")
+            return str(insert(spot, why, " to 1500"))
+        return str(spot.write(why, spot.last.start, spot.last.start, "1000 to "))
     return "the stretches of a `slope` are two numbers of thousandths: write `slope 1/1 by 1000 to 1500`"

@@ -6,14 +6,19 @@ import re
 from typing import Iterator, NamedTuple, Optional, Sequence
 
 from ..nodes import KEYWORDS
+from .common import goes_on
 from .near import near
-from .spot import Spot
+from .spot import Spot, is_statement
 from .tokens import END, INDEX, NAME, NUMBER, OTHER, PITCH, REGISTER, Token, kind_of
 from .trying import Change, Changes, changed, mends
 
 _SYMBOLS = re.compile(r"`?([;,{}()\[\]=/]|formula|by|to|max|branch)`?")
 
 
+#: Marks and words that say nothing by themselves.
+_EMPTY = (",", ";", "=", ")", "]", "then", "of", "the", "a", "an")
+#: Brackets that may be typed for a brace.
+_BRACES = {"{": "([<", "}": ")]>"}
 _CLOSES = {"(": ")", "[": "]", "{": "}"}
 
 
@@ -32,7 +37,7 @@ def smallest(spot: Spot, wanted: Sequence[str] = ()) -> Optional[str]:
         if mends(spot, edit.changes, once=True):
             text = changed(spot, edit.changes, max(0, spot.place - 200), spot.place + 200)
             found.setdefault(" ".join(text.split()), edit)
-    edits = list(found.values())
+    edits = [each for each in found.values() if not _parts_badly(spot, each)]
     kinds = {each.kind for each in edits}
     if spot.last.text == spot.here.text and "away" in kinds:
         edits = [each._replace(kind="twice") for each in edits if each.kind == "away"][:1]
@@ -41,6 +46,12 @@ def smallest(spot: Spot, wanted: Sequence[str] = ()) -> Optional[str]:
     if not 1 <= len(edits) <= 2 or wanted and any(each.kind not in wanted for each in edits):
         return None
     return ", or ".join(each.cure for each in edits).replace("?, or did you mean", " or")
+
+
+def _parts_badly(spot: Spot, edit: Edit) -> bool:
+    """Whether a `;` is put in before what is no statement by itself."""
+    is_put = edit.kind == "put in" and edit.changes[0].new.strip() == ";"
+    return is_put and is_statement(spot.here) and not spot.is_over_line and not goes_on(spot)
 
 
 def meant(spot: Spot) -> Optional[str]:
@@ -74,8 +85,11 @@ def _edits(spot: Spot) -> Iterator[Edit]:
     for symbol in _expected(spot):
         if symbol != last.text or symbol in ("{", "}", "(", ")"):
             yield Edit("put in", (Change(last.end, last.end, f" {symbol} "),),
-                       f"write `{symbol}` behind `{last.text}`")
-        if here.kind not in (END, NAME, NUMBER, PITCH, *KEYWORDS):
+                       f"write `{symbol}` behind `{last.text}`" if symbol != ")" else
+                       "a `)` is missing here or before, or one `(` is too many")
+        if symbol in _BRACES and here.text not in _BRACES[symbol]:
+            continue
+        if here.kind not in (END, NAME, NUMBER, PITCH, *KEYWORDS) and here.text not in "<>^_~!&@$*+-%\"'":
             yield Edit("exchanged for", (Change(here.start, here.end, f" {symbol} "),),
                        f"write `{symbol}` in place of the {spot.shown(here)}")
 
@@ -90,9 +104,11 @@ def _away(spot: Spot, token: Token) -> Iterator[Edit]:
     away = Change(token.start, token.end, " ")
     closes = _CLOSES.get(token.text)
     if closes is None:
-        is_said = token.kind in (NUMBER, PITCH, REGISTER, INDEX, *KEYWORDS) or token.text in spot.names
-        if token.text != "}" and (not is_said or spot.last.text == spot.here.text) and spot.where != "statement":
-            yield Edit("away", (away,), f"take the {spot.shown(token)} away")
+        if token.text != "}" and (token.text in _EMPTY or spot.last.text == spot.here.text) and (
+                spot.where != "statement"):
+            more = ", or write what is missing behind it" if token.text == "," else ""
+            yield Edit("away", (away,), f"take the {spot.shown(token)} away{more}" if token.text != ")" else
+                       "one `)` is too many, or a `(` is missing before it")
         return
     close = _closing(spot, token)
     if close is not None:
@@ -130,6 +146,9 @@ def _exchanged(spot: Spot, one: Token, other: Token) -> Iterator[Edit]:
     between = spot.source[one.end:other.start]
     if "\n" in between or "#" in between:
         return
+    marks = [each.text for each in (one, other) if not each.is_word and each.kind != NUMBER]
+    if any(each in ";}" for each in marks) or between and any(each in "()[]" for each in marks):
+        return
     blank = " " if kind_of(one.text) != one.text or one.is_word else between
     yield Edit("exchanged", (Change(one.start, other.end, f"{other.text}{blank}{one.text}"),),
                f"write `{other.text}{between or blank}{one.text}` in place of `{one.text}{between}{other.text}`")
@@ -161,9 +180,10 @@ def _apart(spot: Spot) -> Iterator[Edit]:
 
 
 def _pitches_near(word: str) -> Iterator[str]:
-    """Pitches of which one letter was left out, doubled or exchanged with the next one."""
-    for at in range(len(word)):
-        for each in (word[:at] + word[at + 1:], word[:at] + word[at + 1:at + 2] + word[at:at + 1] + word[at + 2:]):
+    """Pitches of which one letter was doubled or exchanged with the next one."""
+    for at in range(len(word) - 1 if word[0] not in "abcdefg" or word[:1] == word[1:2] else 0):
+        turned = word[:at] + word[at + 1] + word[at] + word[at + 2:]
+        for each in (word[:at] + word[at + 1:] if word[at] == word[at + 1] else "", turned):
             if kind_of(each) in (PITCH, REGISTER, INDEX):
                 yield each
 
@@ -174,8 +194,9 @@ def _one_number(spot: Spot) -> Iterator[Edit]:
     if one.kind != NUMBER or other.kind != NUMBER or one.text == other.text or len(spot.before) < 2:
         return
     if spot.before[-2].text != "/" and spot.source[one.end:other.start] == " ":
-        yield Edit("joined", (Change(one.start, other.end, one.text + other.text),),
-                   f"write `{one.text + other.text}` as one number, or take one of the two away")
+        word = one.text + other.text
+        yield Edit("joined", (Change(one.start, other.end, word),),
+                   f"write `{word}` in place of `{one.text} {other.text}`, or take one of the two away")
 
 
 def _joined(spot: Spot, one: Token, other: Token) -> Iterator[Edit]:
@@ -186,6 +207,9 @@ def _joined(spot: Spot, one: Token, other: Token) -> Iterator[Edit]:
     if not (other.is_word or other.kind == NUMBER) or one.kind == NUMBER and other.is_word:
         return
     word = one.text + other.text
-    if one.kind == NUMBER or kind_of(word) != NAME or word in spot.names:
+    if one.kind == NUMBER:
+        yield Edit("joined", (Change(one.start, other.end, word),),
+                   f"write `{word}` in place of `{one.text}{between}{other.text}`, or take one of the two away")
+    elif kind_of(word) != NAME or word in spot.names:
         yield Edit("joined", (Change(one.start, other.end, word),),
                    f"no blank stands there: write `{word}` in place of `{one.text}{between}{other.text}`")

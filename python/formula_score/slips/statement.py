@@ -3,6 +3,7 @@
 from __future__ import annotations
 
 import re
+from fractions import Fraction
 from typing import Optional
 
 from ..index import musical
@@ -19,6 +20,11 @@ from .spot import Spot, is_statement
 from .symbols import at_number_of_statement, at_symbol
 from .tokens import END, INDEX, NAME, NUMBER, OTHER, PITCH, REGISTER
 
+
+
+#: Words of other languages for what a score does not do.
+_SILENT = ("print", "printf", "println", "puts", "echo", "log", "return", "exit", "stop", "quit", "import", "include",
+           "require")
 
 
 def at_statement(spot: Spot) -> Optional[str]:
@@ -50,7 +56,9 @@ def at_statement(spot: Spot) -> Optional[str]:
         at = spot.place + len(joined[1])
         text = spot.mended(at, at, " ", spot.place)
         return f"a blank stands behind `{joined[1]}`: write `{text or f'{joined[1]} {joined[2]}'}`"
-    if after.kind == "=" and spot.next(2).kind not in ("{", "flat", "slope", "pause", "breath"):
+    if after.kind == "=" and spot.rest[after.end - spot.place:].lstrip()[:1] in ("\\", "{"):
+        return f"music with a name is a `phrase`: write `phrase {word} {{ .. }}`, and play it by `do {word};`"
+    if after.kind == "=" and not musical(word) and spot.next(2).kind not in ("{", "flat", "slope", "pause", "breath"):
         return f"only registers, `r0` to `r7`, have values, as in `set r0 = 60;`, in place of `{word}`"
     if after.text == ":" and after.start == here.end and word in ("piano", "violin", "guitar", "flute", "trumpet"):
         return instrument(word)
@@ -58,20 +66,34 @@ def at_statement(spot: Spot) -> Optional[str]:
         return f"a phrase is played by `do`: write `do {after.text};`"
     if word in DYNAMICS and (after.text == "{" or is_statement(after)):
         return by_index(word)
+    if word in DYNAMICS and re.match(r"[a-z]+;[a-z0-9]", spot.rest):
+        return None
     if word in ("piano", "pianissimo", "forte", "fortissimo") and after.kind in (";", "{", "}", END):
         loudness = DYNAMICS[{"piano": "p", "pianissimo": "pp", "forte": "f", "fortissimo": "ff"}[word]]
         other = "; the instrument is `program 0;`" if word == "piano" else ""
         return Known(f"`{word}` is a velocity of {loudness}, and holds for a block: write `volume {loudness} {{ .. }}`"
                      f"{other}")
+    if word in _SILENT:
+        return Known(f"a score plays and prints nothing, and ends at its end: take the statement with `{word}` away")
+    synth = re.match(r"(?:use|with)_synth\s*\(?\s*:?([a-z_]+)", spot.rest)
+    if synth:
+        return instrument(synth[1].replace("_", " ")) or by_index("instrument")
+    length = length_at(word)
+    if length and word.isalpha() and len(word) > 1 and after.kind in (PITCH, "rest"):
+        text = f"rest {length.write};" if after.kind == "rest" else f"note {after.text} {length.write};"
+        if spot.next(2).kind == ";":
+            return Computed(f"{length.why}: write `{text}`")
     if word in ELSEWHERE and not (word in ("r", "s", "n") and after.kind == "="):
         return elsewhere(spot, ELSEWHERE[word])
     if len(word) == 1 and after.kind == NAME and musical(after.text):
         return by_index(after.text)
     if pitch_at(spot.text) and not (len(word) == 1 and after.kind in ("=", NUMBER) and word not in "abcdefg"):
         return _pitch(spot)
-    rest = re.match(r"r([0-9]+)(?![a-z0-9_])", spot.rest)
+    rest = re.match(r"[rs]([0-9]+)(?![a-z0-9_])", spot.rest)
     if rest:
         return _rest(spot, rest[1])
+    if re.match(r"[zx][0-9]*\s*;", spot.rest):
+        return "silence is a `rest` with its length, as in `rest 1/4;`"
     number = _number_of(spot)
     line = musical(word)
     named = re.match(r"[a-z_]+[\s=:\"'(]+([a-z][a-z _]*[a-z])", spot.rest)
@@ -119,8 +141,10 @@ def letters(spot: Spot) -> Optional[str]:
     if command:
         return {"o": by_index("octave"), "t": by_index("tempo", command[2]), "v": by_index("velocity"),
                 "l": "each note has its length: write `note c4 1/8;`"}[command[1]]
-    if re.match(r"[A-Ga-gz][A-Ga-gz0-9,'/]{2,}(?![A-Za-z0-9_])", spot.rest):
-        return "each note is a statement of its own, with its octave and its length: write `note e4 1/4;`"
+    run = r"[A-Ga-gz][A-Ga-gz0-9,'/]{2,}(?![A-Za-z0-9_])"
+    apart = r"[a-g](?:is|es|s)?[',]*[0-9]*\.*\s+[a-g](?:is|es|s)?[',0-9]*[\s;}]"
+    if re.match(f"{run}|{apart}", spot.rest):
+        return Known("each note is a statement of its own, with its octave and its length, as in `note e4 1/4;`")
     return None
 
 
@@ -162,15 +186,18 @@ def _value(spot: Spot) -> Optional[str]:
         end = after.end + (1 if spot.next().text == ":" and spot.next(2).kind == "=" else 0)
         return spot.write("a register gets its value by `set`", spot.place, end if after.text == ":" else spot.place,
                           f"set {here.text} =" if after.text == ":" else "set ", spot.place)
+    if here.text in ("r0", "r3", "r5", "r6", "r7") or after.kind == ",":
+        return "a register gets its value by `set`, each by one of its own, as in `set r0 = 60;`"
     return _rest(spot, here.text[1:])
 
 
 def _rest(spot: Spot, digits: str) -> str:
-    dots = re.match(r"r[0-9]+(\.*)", spot.rest)
-    length = length_at(digits + (dots[1] if dots else ""))
+    more = re.match(r"[rs][0-9]+(\.*)(?:\s*\*\s*([0-9]{1,3}))?\s*;", spot.rest)
+    length = length_at(digits + (more[1] if more else ""))
     if length and length.write and int(digits) in (1, 2, 4, 8, 16, 32, 64):
-        return Computed(f"a rest is written `rest {length.write};`")
-    return "a rest is written `rest 1/4;`"
+        whole = Fraction(length.write) * int(more[2] or 1 if more else 1)
+        return Computed(f"a rest is written `rest {whole.numerator}/{whole.denominator};`")
+    return "a rest is written as in `rest 1/4;`"
 
 
 def _pitch(spot: Spot) -> Optional[str]:

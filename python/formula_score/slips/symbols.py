@@ -8,9 +8,9 @@ from typing import Optional
 from .common import lacks_brace
 from .cures import Known
 from .foreign import pitch_at
-from .indexed import by_index
+from .indexed import by_index, by_mark
 from .reading import OUTSIDE, STATEMENTS
-from .spot import Spot
+from .spot import Spot, is_statement
 from .tokens import NUMBER, PITCH, kind_of
 
 
@@ -32,7 +32,7 @@ def at_symbol(spot: Spot) -> Optional[str]:
         if last == "{":
             return f"one `{{` is enough: take this one{'' if lacks_brace(spot) else ' and its `}`'} away"
         if spot.next().text == "{":
-            return by_index("voice")
+            return by_mark("{ {", "voice")
         return "a block belongs to a word, as in `repeat 2 { .. }`: write that word, or take this `{` and its `}` away"
     if text in (")", "]") and spot.reading.blocks and lacks_brace(spot):
         block = spot.reading.blocks[-1]
@@ -57,14 +57,23 @@ def at_symbol(spot: Spot) -> Optional[str]:
     if inside and kind_of(inside[1]) in STATEMENTS:
         return "a statement has no parentheses round it: take the `(` and its `)` away"
     if text == "(":
-        return by_index("slur") if spot.last.text == ";" and pitch_at(spot.text[1:].lstrip()) is None else None
+        return by_mark("(", "slur") if spot.last.text == ";" and pitch_at(spot.text[1:].lstrip()) is None else None
     if spot.rest.startswith("[:"):
         return by_index("volta")
     if text == "[":
-        return ("a chord has no brackets: write `note c4, e4 1/4;`" if pitch_at(spot.text[1:].lstrip()) else
-                "a list stands behind `rhythm`, `artic` or `loud`: write one of them before the `[`")
+        return _brackets(spot)
     if text == ",":
         return "a `;` ends each statement, and no `,` follows it: take the `,` away"
+    return None
+
+
+def _brackets(spot: Spot) -> Optional[str]:
+    """What brackets hold where a statement should begin: a chord, or a list."""
+    if re.match(r"\[\s*(?:[0-9]+|ticks [0-9]+)(?:\s*[,/]\s*[0-9]+)*\s*\]\s*\{", spot.rest):
+        return "a list stands behind `rhythm`, `artic` or `loud`: write one of them before the `[`"
+    chord = re.match(r"\[\s*(?:[=^_]*[A-Ga-g][sb#]?[0-9',]*[\s,]*)+\]", spot.rest)
+    if chord or pitch_at(spot.text[1:].lstrip()):
+        return Known("a chord is a `note` with its pitches between commas, as in `note c4, e4, g4 1/2;`")
     return None
 
 
@@ -76,6 +85,8 @@ def at_number_of_statement(spot: Spot) -> Optional[str]:
             return f"the pitch stands before the length: write `note {spot.next(3).text} {length};`"
         return (f"a length stands in a statement, and a time signature is not in the file: write `rest {length};` for "
                 f"silence, or `note c4 {length};`")
+    if is_statement(spot.next()) and (int(number[:6]) < 2 or spot.last.end == spot.place):
+        return None
     if re.match(r"[0-9]+ ?(x|\.?times|\*)(?![a-z0-9_])", spot.rest):
         return f"a loop begins with its word: write `repeat {number} {{ .. }}`"
     if spot.next().kind in ("repeat", "channel", "volume", "gate", "program", "bend"):

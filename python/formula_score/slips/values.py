@@ -7,14 +7,15 @@ from typing import Optional
 
 from ..pitch import Pitch
 from .common import FUNCTIONS, insert
-from .cures import Known
+from .cures import Computed, Known
+from .drawing import drawn_at
 from .foreign import pitch_at
 from .forms import FORMS
 from .indexed import by_index
 from .near import near
 from .reading import STATEMENTS
 from .spot import Spot, is_statement
-from .tokens import END, INDEX, NAME, NUMBER, PITCH, REGISTER
+from .tokens import END, INDEX, NAME, NUMBER, PITCH, REGISTER, kind_of
 
 _COMPARES = {"<": "less(a, b)", ">": "less(b, a)", "<=": "1 - less(b, a)", ">=": "1 - less(a, b)", "==": "same(a, b)",
              "!=": "1 - same(a, b)", "<>": "1 - same(a, b)", "=": "same(a, b)"}
@@ -25,24 +26,43 @@ _RANGE = "a value is one number, and `60 + pick(13)` draws one from 60 to 72"
 def at_register(spot: Spot) -> Optional[str]:
     """Behind `set`."""
     here = spot.here
+    if re.fullmatch(r"[a-z][0-7]", here.text):
+        return f"registers are `r0` to `r7`: did you mean `r{here.text[1]}`?"
+    if re.fullmatch(r"r[a-z]?|r+[0-9]|reg(ister)?_?[0-9]*", here.text):
+        return "registers are `r0` to `r7`"
     if here.kind == NAME:
         number = next((each.text for each in spot.after[1:4] if each.kind == NUMBER), "")
         if re.fullmatch(r"r[0-9]+", here.text):
-            return spot.write("registers are `r0` to `r7`", spot.place, here.end, "r7")
+            return str(spot.write("registers are `r0` to `r7`", spot.place, here.end, _free(spot)))
         found = by_index(here.text, number)
         if found:
             return found
-        return spot.write("only registers, `r0` to `r7`, have values", spot.place, here.end, "r0")
+        return _register_for(spot)
     if here.kind in ("volume", "channel", "gate") and spot.next().kind in (NUMBER, "="):
         number = next((each.text for each in spot.after[1:4] if each.kind == NUMBER), "1")
         return f"`{here.kind}` holds for a block: write `{here.kind} {number} {{ .. }}`"
     if here.kind in ("program", "control", "bend"):
         return f"`{here.kind}` is a statement without `set`: write `{FORMS[here.kind]}`"
     if here.kind in (PITCH, INDEX) or here.kind in STATEMENTS:
-        return spot.write("only registers, `r0` to `r7`, have values", spot.place, here.end, "r0")
+        return _register_for(spot)
     if here.kind == NUMBER:
         return f"registers are `r0` to `r7`: write `set r{here.text if int(here.text) < 8 else 0} = ..;`"
     return "only registers, `r0` to `r7`, have values: write `set r0 = 60;`"
+
+
+def _free(spot: Spot) -> str:
+    """The first register that the text does not have, or the last one."""
+    return next((each for each in (f"r{number}" for number in range(7)) if not re.search(
+        rf"\b{each}\b", spot.source)), "r7")
+
+
+def _register_for(spot: Spot) -> str:
+    """What to do about another name where a register is expected."""
+    register = _free(spot)
+    cure = spot.write("only registers, `r0` to `r7`, have values", spot.place, spot.here.end, register)
+    more = f", and `{register}` wherever `{spot.here.text}` is read"
+    is_read = re.search(rf"\b{spot.here.text}\b", spot.source[spot.here.end:])
+    return Computed(f"{cure}{more if is_read else ''}") if cure else cure
 
 
 def at_equals(spot: Spot) -> Optional[str]:
@@ -72,14 +92,15 @@ def at_equals(spot: Spot) -> Optional[str]:
     if found:
         return spot.write("a register gets its value by `=`", spot.place, spot.place + len(found[0]), "= ")
     if here.kind in ("+", "-", "*", "/", "%"):
-        return spot.write("a register gets its value by `=`", spot.place, spot.place, f"= {spot.last.text} ")
+        cure = spot.write("a register gets its value by `=`", spot.place, spot.place, f"= {spot.last.text} ")
+        return Computed(f"{cure}, or `=` in place of the `{here.text}`") if cure else cure
     return insert(spot, "a register gets its value by `=`", " =") if here.kind != ";" else (
         f"a register gets its value by `=`, as in `set {spot.last.text} = 60;`")
 
 
 def _compare(spot: Spot) -> Optional[str]:
     """A comparison as others write it, in an expression."""
-    found = re.match(r"(<=|>=|==|!=|<>|<|>|=)\s*", spot.rest)
+    found = re.match(r"(<=|>=|==|!=|<>|<(?!<)|>(?!>)|=)\s*", spot.rest)
     if not found:
         return None
     sign = found[1]
@@ -113,22 +134,28 @@ def at_operator(spot: Spot) -> Optional[str]:
         if "`,`" in spot.reading.expected and here.kind in (NUMBER, REGISTER, INDEX, "(", *FUNCTIONS):
             return f"a `,` stands between the two values of `{opened.word}`: write it behind `{spot.last.text}`"
         if here.kind == NUMBER and spot.next().kind == "/" and spot.head in ("note", "rest"):
-            return f"write the `)` of the `(` at {where}"
+            return f"the `(` at {where} lacks its `)`, or is one too many"
         if here.kind == ",":
             if opened.word == "pick":
                 return "`pick` takes one value: `pick(12)` draws a number from 0 to 11"
+            third = re.match(r"\s*,\s*([a-z0-9]+)\s*\)", spot.rest)
+            values = spot.source[opened.token.end:spot.place].strip()
+            if opened.word in ("min", "max") and third and re.fullmatch(r"[a-z0-9]+\s*,\s*[a-z0-9]+", values):
+                first, second = re.split(r"\s*,\s*", values)
+                return spot.write(f"`{opened.word}` takes two values", opened.token.end, spot.place + len(third[0]),
+                                  f"{first}, {opened.word}({second}, {third[1]}))")
             if opened.word in ("min", "max", "less", "same"):
                 return f"`{opened.word}` takes two values, and `)` stands behind them: `{opened.word}(a, b)`"
             return "a `,` stands between the two values of `min`, `max`, `less` and `same` alone: take it away"
         if here.kind in (";", "{", "}", "max", END) or is_statement(here):
-            return f"write the `)` of the `(` at {where}"
+            return f"the `(` at {where} lacks its `)`, or is one too many"
         if here.text == ".":
             return _DECIMAL if spot.next().text != "." else _RANGE
         if here.kind in (NUMBER, REGISTER, INDEX, "(", *FUNCTIONS):
             return (f"an operator is missing: write one of `+ - * / %` between `{spot.last.text}` and `{here.text}`, "
                     "or the `)`")
     elif here.kind == ")":
-        return "there is no open `(` for this `)`: take it away"
+        return "one `)` is too many, or a `(` is missing before it"
     if here.text == "?":
         return Known("a value has no two cases, and an `if` has: `if r1 { set r0 = 5; } else { set r0 = 6; }`")
     if here.text == ".":
@@ -153,6 +180,8 @@ def at_operator(spot: Spot) -> Optional[str]:
 
 def _logic(word: str, spot: Spot) -> Optional[str]:
     """What to do about a word or a sign of logic."""
+    if word == "&" and not spot.rest.startswith("&&") or word == "|" and not spot.rest.startswith("||"):
+        return Known("values have `+ - * / %` and no operators of bits; of conditions `a * b` is both, and `a + b` one")
     said = {
         "and": "both are true where their product is above 0: write `*` in place of `and`",
         "&": "both are true where their product is above 0: write `*` in place of `&&`",
@@ -185,7 +214,7 @@ def at_value(spot: Spot) -> Optional[str]:
     here, last = spot.here, spot.last
     if here.kind == PITCH or here.kind == NAME and pitch_at(spot.text) and len(here.text) > 1:
         found = pitch_at(spot.text)
-        if found and found.write:
+        if found and found.write and int(Pitch(found.write)) > 35:
             key = int(Pitch(found.write))
             return spot.write(f"a value is a number, and the key of `{found.write}` is {key}", spot.place,
                               spot.place + len(found.wrote.encode()), str(key))
@@ -194,6 +223,9 @@ def at_value(spot: Spot) -> Optional[str]:
             return "registers are `r0` to `r7`"
         if re.fullmatch(r"n[0-9]+", here.text):
             return "the indices of loops are `n0`, of the innermost one, to `n15`"
+        drawn = drawn_at(spot.rest)
+        if drawn:
+            return spot.write(drawn.why, spot.place, spot.place + len(drawn.wrote), drawn.write)
         if here.text in ("choose", "choice", "oneof", "one_of", "sample", "shuffle", "wchoose"):
             return Known("`pick(3)` draws 0, 1 or 2, and an `if` chooses by it, as in `if same(pick(3), 0) { .. }`")
         if here.text in ("random", "rand", "rnd", "rrand", "randint", "dice", "rand_i", "irand", "one_in"):
@@ -209,13 +241,23 @@ def at_value(spot: Spot) -> Optional[str]:
         if here.text in ("abs",):
             return "`max(E, -E)` is the value without its sign"
         if here.text in ("i", "j", "k", "index", "count", "n", "counter"):
-            return "the index of the innermost loop is `n0`: write `n0`"
+            return Computed("the index of the innermost loop is `n0`: write `n0`")
+        if here.text in ("floor", "int", "round", "trunc", "abs_int"):
+            return Known(f"values are whole numbers, and `/` rounds down: no `{here.text}` stands round it")
+        if here.text in ("null", "nil", "none", "undefined"):
+            return "a register has always a value, and begins as 0: write `0`"
+        part = re.match(r"([nr])\[([0-9]+)\]", spot.rest)
+        if part and kind_of(part[1] + part[2]) in (REGISTER, INDEX):
+            return spot.write("the number belongs to the name", spot.place, spot.place + len(part[0]),
+                              part[1] + part[2])
         if here.text in ("true", "false", "yes"):
             return f"a condition is a number, and true where it is above 0: write `{0 if here.text == 'false' else 1}`"
         meant = near(here.text, FUNCTIONS)
         if meant:
             return f"did you mean `{meant[0]}`?"
         return "a value is a number, a register `r0` to `r7`, an index as `n0`, or a function as `pick(12)`"
+    if re.match(r"[$@&:](?:[rn][0-9]+)(?![a-z0-9_])", spot.rest):
+        return f"a name has no mark before it: take the `{here.text}` away"
     if last.kind in ("+", "-", "*", "/", "%") and here.kind in ("*", "/", "+", "%", "="):
         if last.text == "=" or here.kind == "=":
             return _compare(spot)
