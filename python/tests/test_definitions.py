@@ -17,7 +17,7 @@ from .program import TOP, score_model
 sys.path[:0] = [str(TOP / "tools" / name) for name in ("definitions", "jobs")]
 
 running: Any = importlib.import_module("running")
-plain: Any = importlib.import_module("plain")
+plain_values: Any = importlib.import_module("plain_values")
 beside: Any = importlib.import_module("beside")
 
 
@@ -52,7 +52,7 @@ class Plain(unittest.TestCase):
         rhythm = ("under", ("duration",), [960, 240], [("note", [("given", 60)], ("beat",))])
         note = ("note", [("given", -1)], ("counted", [("Literal", 3), ("Pick",)], 9))
         test = [("Register", 1), ("Literal", 1), ("Less",)]
-        self.assertEqual(plain.model_score(score_model, text), (7, 7000, [
+        self.assertEqual(plain_values.model_score(score_model, text), (7, 7000, [
             ("phrase", [rhythm]),
             ("warp", [("Flat", 480, 900), ("Breath", 5)], [("assign", 1, postfix)]),
             ("steady", ("articulation",), 80, []),
@@ -61,7 +61,7 @@ class Plain(unittest.TestCase):
 
     def test_the_marks_of_the_model(self) -> None:
         text = b"formula 1; rest ticks 10; note c4 ticks 100; bend -8192;"
-        self.assertEqual(plain.model_marks(score_model, text), [
+        self.assertEqual(plain_values.model_marks(score_model, text), [
             (0, 0, bytes((144, 60, 64)), 10, None), (0, 1, bytes((128, 60, 64)), 10, 100), (0, 2, bytes((224, 0, 0)), 110, None),
             (0, 3, None, 110, None)])
 

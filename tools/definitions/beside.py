@@ -11,7 +11,7 @@ from collections import Counter
 from collections.abc import Mapping, Sequence
 from typing import Any, Optional
 
-import plain
+import plain_values
 from products import TOP, Definitions, Fault, Played
 from running import Made, Record, listed
 
@@ -123,7 +123,7 @@ class Case:
         """The words of a command at random: what they ask for, or that they are refused."""
         words = words_drawn(self.draw)
         made = self.definitions.settings_of([word.encode() for word in words])
-        mine = None if made is None else {name.rstrip("_"): plain.setting(it) for name, it in vars(made).items()}
+        mine = None if made is None else {name.rstrip("_"): plain_values.setting(it) for name, it in vars(made).items()}
         read = command_line.read(words)
         self.judge("words", mine, {"formula_score": None if read.wrong else settings(read)})
         if "generate" not in " ".join(words):
@@ -151,10 +151,10 @@ class Case:
         self.judge("file", (0, b"", mine), {"the program": found, "tools/score_model": (0, b"", model)})
         tracks = {"the program": (found[2] or b"")[HEAD:], "tools/score_model": model[HEAD:]}
         self.judge("track", self.definitions.track_of(it), tracks)
-        resolved = plain.model_score(score_model, self.text)
-        self.judge("resolved score", plain.score(it.resolved), {"tools/score_model": resolved})
-        marks = plain.model_marks(score_model, self.text)
-        self.judge("played marks", plain.marks(it.made.marks), {"tools/score_model": marks})
+        resolved = plain_values.model_score(score_model, self.text)
+        self.judge("resolved score", plain_values.score(it.resolved), {"tools/score_model": resolved})
+        marks = plain_values.model_marks(score_model, self.text)
+        self.judge("played marks", plain_values.marks(it.made.marks), {"tools/score_model": marks})
         self.lines(it, events)
         self.tokens()
         self.of_score(it, mine)
@@ -166,10 +166,10 @@ class Case:
         self.judge("tokens", mine, {"tools/score_model": score_model.tokens(self.text)})
 
     def lines(self, it: Played, events: Any) -> None:
-        mine = [(event.time, event.process, event.index, plain.message_of(event.msg)) for event in it.piece]
+        mine = [(event.time, event.process, event.index, plain_values.message_of(event.msg)) for event in it.piece]
         self.judge("piece", mine, {"tools/score_model": [(*front, bytes(message)) for *front, message in events]})
-        lines = [[[(event.time, plain.message_of(event.msg)) for event in line.events], list(line.predecessors), line.end]
-                 for line in it.lines]
+        lines = [[[(event.time, plain_values.message_of(event.msg)) for event in line.events], list(line.predecessors),
+                  line.end] for line in it.lines]
         self.judge("lines", lines, {"tools/score_model": score_model.lines(self.text)})
 
     def of_score(self, it: Played, file: bytes) -> None:
