@@ -311,11 +311,11 @@ SLIPS = (
     Slip("note c4 1/4; | note e4 1/4;", "note c4 1/4; note e4 1/4;", "1:14", 1,
          "`|` begins no word of the language",
          "take the `|` away: a bar line is not in the file: a comment counts bars, and `scripts/score bars` checks "
-         "it, and tells the tick of a bar"),
+         "it, and prints the tick of a bar"),
     Slip("note c4 1/4 || note e4 1/4;", "note c4 1/4; note e4 1/4;", "1:13", 1,
          "`|` begins no word of the language",
          "a statement ends with `;`: write `;` in place of the `||`; a bar line is not in the file: a comment counts "
-         "bars, and `scripts/score bars` checks it, and tells the tick of a bar"),
+         "bars, and `scripts/score bars` checks it, and prints the tick of a bar"),
     Slip("|: note c4 1/4; :|", "repeat 2 { note c4 1/4; }", "1:1", 1,
          "`|` begins no word of the language",
          "repeat, first and second ending, as in `repeat 2 { note c4 3/4; if n0 { note g4 1/4; } else { note "

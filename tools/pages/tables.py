@@ -65,7 +65,7 @@ def words() -> Iterator[str]:
 
 def slips() -> Iterator[str]:
     """Mistakes in texts, and what is said of them."""
-    yield "| You wrote | Place, fault | What stands there | What to do |"
+    yield "| You wrote | Place, fault | What is there | What to do |"
     yield "|---|---|---|---|"
     for slip in SLIPS:
         yield f"| {code(slip.wrote)} | {slip.place}, {slip.fault} | {cell(slip.heading)} | {cell(slip.cure)} |"
