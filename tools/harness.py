@@ -136,8 +136,9 @@ def difference(wanted: Optional[bytes], found: Optional[bytes]) -> str:
         return "OUT was made"
     if found is None:
         return "OUT is not there"
-    at = next((at for at, (one, other) in enumerate(zip(wanted, found)) if one != other), min(len(wanted), len(found)))
-    return f"OUT differs from byte {at} on: {len(found)} bytes in place of {len(wanted)}"
+    pairs = enumerate(zip(wanted, found))
+    place = next((place for place, (left, right) in pairs if left != right), min(len(wanted), len(found)))
+    return f"OUT differs from byte {place} on: {len(found)} bytes in place of {len(wanted)}"
 
 
 class Count:
@@ -176,3 +177,13 @@ class Count:
         """Prints the numbers, and returns the status of the script."""
         print(f"{self.passed} passed, {self.failed} failed", flush=True)
         return 1 if self.failed else 0
+
+
+def main() -> int:
+    """Prints which program it is, for the scripts that are no Python."""
+    print(find(parser(__doc__).parse_args().program))
+    return 0
+
+
+if __name__ == "__main__":
+    sys.exit(main())

@@ -1,1 +1,1 @@
-"""The studio in a real browser: `scripts/browser` runs these tests."""
+"""The studio in a real browser: `python/browser/run` runs these tests."""

@@ -1,6 +1,6 @@
 """How long it takes from a keystroke to the picture: a tune of 16 bars, 100,000 notes, and a text of a mebibyte.
 
-    scripts/browser --figures
+    python/browser/run --figures
 
 Each is changed some times, and the times from the change to the drawn picture are told in milliseconds, the median and
 the longest. Of the text of a mebibyte it is also told how long the page did not answer at a time.

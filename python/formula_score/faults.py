@@ -108,7 +108,7 @@ RECORD_FAULTS = {fault.number: fault for fault in (
           "copy the record again, or make it anew: it was cut or damaged at this step or before it"),
     Fault(44, "this step is not allowed there: the steps are not those of a run over this score",
           "the number of the step, counted from 0",
-          "make the record anew; `scripts/record` prints its steps, and docs/SCHEDULER.md says where each is allowed"),
+          "make the record anew; `scripts/score show` prints its steps, and docs/SCHEDULER.md says where each is allowed"),
     Fault(45, "the steps end before every event is out and every process at its end", "how many steps there are",
           "copy the record again, or make it anew: its end is missing"),
     Fault(46, "more than 67,108,864 bytes came, which is tested before all else", "0",

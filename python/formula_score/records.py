@@ -7,6 +7,7 @@ from collections import Counter
 from typing import Iterator, NamedTuple, Optional
 
 HEAD = 14
+MAGIC = b"FMR1"
 KINDS = ("Look", "Claim", "Start", "Record", "Recall", "Give", "Publish", "Pace", "Release")
 
 # The fields of each kind, each with how many bytes it has.
@@ -54,7 +55,7 @@ class Step(NamedTuple):
 
 def parts(data: bytes) -> Optional[Record]:
     """The parts of a record whose head and text are whole; None of other bytes."""
-    if len(data) < HEAD or data[:4] != b"FMR1":
+    if len(data) < HEAD or data[:4] != MAGIC:
         return None
     length = int.from_bytes(data[10:14], "big")
     if length > len(data) - HEAD:

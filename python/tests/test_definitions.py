@@ -3,8 +3,6 @@
 from __future__ import annotations
 
 import importlib
-import importlib.machinery
-import importlib.util
 import pathlib
 import sys
 import tempfile
@@ -14,22 +12,11 @@ from typing import Any
 
 from .program import TOP, score_model
 
-sys.path[:0] = [str(TOP / "tools" / name) for name in ("definitions", "jobs")]
+sys.path[:0] = [str(TOP / "tools" / name) for name in ("definitions", "jobs", "stress", "")]
 
 running: Any = importlib.import_module("running")
 plain_values: Any = importlib.import_module("plain_values")
 beside: Any = importlib.import_module("beside")
-
-
-def script(name: str) -> Any:
-    """A script as a module."""
-    loader = importlib.machinery.SourceFileLoader(name, str(TOP / "scripts" / name))
-    spec = importlib.util.spec_from_loader(name, loader)
-    assert spec is not None
-    module = importlib.util.module_from_spec(spec)
-    sys.modules[name] = module
-    loader.exec_module(module)
-    return module
 
 
 class Lists(unittest.TestCase):
@@ -76,7 +63,7 @@ class Words(unittest.TestCase):
 
 class Compilers(unittest.TestCase):
     def test_runs_of_two_programs(self) -> None:
-        compilers = script("compilers")
+        compilers: Any = importlib.import_module("compilers")
         with tempfile.TemporaryDirectory() as folder, unittest.mock.patch.object(compilers, "LONGEST", 1):
             programs = []
             for name, line in (("one", "cat >/dev/null; echo $3"), ("other", "[ $3 != slow ] || sleep 30; echo ${3#un}")):

@@ -1,4 +1,4 @@
-"""What scripts/watch makes of the processes and of the lines of a run of the gate."""
+"""What tools/gate/watch.py makes of the processes and of the lines of a run of the gate."""
 import os
 import sys
 import unittest

@@ -24,6 +24,17 @@ from formula_score import (
 
 from .program import TOP
 
+#: The scripts and tools whose types are judged, by the folders of tools/ that have their modules.
+TYPED = {
+    "batch bench gate jobs package pages stress tries": (
+        "scripts/batch", "scripts/bench", "scripts/examples", "scripts/install", "scripts/package", "scripts/pages",
+        "scripts/score", "scripts/stress", "tools/gate/build.py", "tools/gate/watch.py", "tools/tries/limits.py"),
+    "definitions gate jobs stress": (
+        "scripts/claims", "scripts/definitions", "tools/definitions/alone.py", "tools/definitions/rows.py",
+        "tools/definitions/trial.py", "tools/names/names.py"),
+    "definitions": ("scripts/statement",),
+}
+
 
 def builder() -> Optional[str]:
     """A Python that has setuptools and wheel: this one, or Debian's."""
@@ -70,13 +81,16 @@ class Package(unittest.TestCase):
         mypy = shutil.which("mypy")
         if mypy is None:
             self.skipTest("NOT TRIED: there is no mypy")
-        whole = [mypy, f"--cache-dir={os.devnull}"]
-        typed = "../scripts/package", "../scripts/install", "../scripts/pages", "../tools/gate/build.py", "../tools/harness.py"
-        folders = ":".join(f"../tools/{name}" for name in ("", "package", "pages", "gate"))
-        for scripts in ((), ("--scripts-are-modules", *typed)):
-            done = subprocess.run([*whole, *scripts], cwd=TOP / "python", stdout=subprocess.PIPE, stderr=subprocess.STDOUT,
-                                  env={**os.environ, "MYPYPATH": folders}, text=True, check=False)
-            self.assertEqual(done.returncode, 0, done.stdout)
+        cache = tempfile.TemporaryDirectory()
+        self.addCleanup(cache.cleanup)
+        # modules of two folders may have one name, so each list is judged with its own folders
+        for folders, names in (("", ()), *TYPED.items()):
+            path = ":".join(str(TOP / "tools" / folder) for folder in ("", *folders.split()))
+            words = [mypy, f"--cache-dir={cache.name}", *(("--scripts-are-modules",) if len(names) > 1 else ()),
+                     *(str(TOP / name) for name in names)]
+            done = subprocess.run(words, cwd=TOP / "python", stdout=subprocess.PIPE, stderr=subprocess.STDOUT,
+                                  env={**os.environ, "MYPYPATH": path}, text=True, check=False)
+            self.assertEqual(done.returncode, 0, f"{names}\n{done.stdout}")
 
     def test_each_name_is_there(self) -> None:
         for name in [*formula_score.__all__, "LengthLike", "PitchLike", "Part", "Seq"]:

@@ -16,7 +16,7 @@ sys.path.insert(0, str(TOP / "tools" / "pages"))
 #: Modules of tools/pages, which are no part of the library.
 prose: Any = importlib.import_module("prose")
 plain: Any = importlib.import_module("plain")
-options: Any = importlib.import_module("options")
+places: Any = importlib.import_module("places")
 
 PAGE = """\
 # A heading is no sentence. It is left out
@@ -69,32 +69,32 @@ class Prose(unittest.TestCase):
 
 class Options(unittest.TestCase):
     def test_each_place_is_read(self) -> None:
-        for place, read in options.PLACES.items():
+        for place, read in places.PLACES.items():
             self.assertEqual(len(read(TOP)), 13, place)
-        self.assertEqual(list(options.differences(TOP)), [])
+        self.assertEqual(list(places.differences(TOP)), [])
 
     def test_a_change_at_one_place_is_seen(self) -> None:
         changes = (
-            (f"{options.CODE}/limits.rt", "MAX_WORKERS: u64 = 16", "MAX_WORKERS: u64 = 17", "--workers has the range"),
-            (f"{options.CODE}/command.rt", 'flag(alloc, "audit")', 'flag(alloc, "audits")', "--audit is not an option"),
-            (options.MANUAL, '.BI \\-\\-lead " T"\nhow', ".B \\-\\-lead\nhow", "--lead has no number"),
-            (options.MANUAL, ".RB [ \\-\\-parts ]\n", "", "its synopsis: --parts is missing"),
-            (options.COMPLETION, "--process --parts", "--process", "--parts is missing"),
-            (options.COMPLETION, "--process | --from", "--from", "--process has no number"),
-            (options.README, "1 to 64", "0 to 64", "--room has the range (0, 64) in place of (1, 64)"),
-            (options.README, "| `--record` |", "| `--records` |", "--records is not an option"),
+            (f"{places.CODE}/limits.rt", "MAX_WORKERS: u64 = 16", "MAX_WORKERS: u64 = 17", "--workers has the range"),
+            (f"{places.CODE}/command.rt", 'flag(alloc, "audit")', 'flag(alloc, "audits")', "--audit is not an option"),
+            (places.MANUAL, '.BI \\-\\-lead " T"\nhow', ".B \\-\\-lead\nhow", "--lead has no number"),
+            (places.MANUAL, ".RB [ \\-\\-parts ]\n", "", "its synopsis: --parts is missing"),
+            (places.COMPLETION, "--process --parts", "--process", "--parts is missing"),
+            (places.COMPLETION, "--process | --from", "--from", "--process has no number"),
+            (places.README, "1 to 64", "0 to 64", "--room has the range (0, 64) in place of (1, 64)"),
+            (places.README, "| `--record` |", "| `--records` |", "--records is not an option"),
         )
         for name, old, new, told in changes:
             with tempfile.TemporaryDirectory() as folder:
                 top = pathlib.Path(folder)
-                shutil.copytree(TOP / options.CODE, top / options.CODE)
-                for place in (options.MANUAL, options.COMPLETION, options.README):
+                shutil.copytree(TOP / places.CODE, top / places.CODE)
+                for place in (places.MANUAL, places.COMPLETION, places.README):
                     (top / place).parent.mkdir(parents=True, exist_ok=True)
                     shutil.copy(TOP / place, top / place)
                 text = (top / name).read_text(encoding="utf-8")
                 self.assertIn(old, text, name)
                 (top / name).write_text(text.replace(old, new), encoding="utf-8")
-                self.assertIn(told, "\n".join(options.differences(top)), name)
+                self.assertIn(told, "\n".join(places.differences(top)), name)
 
 
 if __name__ == "__main__":

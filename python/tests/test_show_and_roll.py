@@ -12,6 +12,8 @@ import unittest
 import xml.etree.ElementTree
 from unittest import mock
 
+from formula_score import records
+
 from .companion import score
 from .program import PROGRAM, TOP, needs_program
 
@@ -74,6 +76,18 @@ track 1
         answer = score("show", TOP / "README.md")
         self.assertEqual((answer.status, answer.said), (1, "formula: file refused: byte 0 fault 22\n"))
         self.assertEqual(score("show", self.folder / "none.mid").status, 2)
+
+    def test_a_record(self):
+        data = bytes_of(EXAMPLES / "records" / "least.hex")
+        answer = score("show", self.file("least.record", data))
+        self.assertEqual((answer.status, answer.said.splitlines()), (0, list(records.lines(records.parts(data)))))
+        self.assertTrue(answer.said.startswith("seats 1  room 1  lead 0  text 10 bytes\n| formula 1;\n"))
+        answer = score("show", self.file("more.record", data + b"\xee"))
+        self.assertEqual(answer.status, 1)
+        self.assertRegex(answer.said, r"\nno step begins at byte [0-9]+ of the steps: EE\n\Z")
+        answer = score("show", self.file("cut.record", data[:20]))
+        self.assertEqual((answer.status, answer.said), (1, ""))
+        self.assertIn("this is a record without a whole text", answer.complaint)
 
 
 class Picture(unittest.TestCase):

@@ -1,8 +1,19 @@
 """Score texts of any size, in the worst shapes that are known for each part of the command.
 
 Each function gives a text as bytes. Those that take a size give a text of at most that many bytes,
-those that take a count a short text that stands for so much.
-"""
+those that take a count a short text that stands for so much."""
+
+from __future__ import annotations
+
+from typing import Callable, Protocol
+
+
+class Shape(Protocol):
+    """A text of at most this size, with this ending."""
+
+    def __call__(self, size: int, ending: bytes = b"") -> bytes: ...
+
+
 
 MEBIBYTE = 1_048_576
 MOST_OPERATIONS = 262_144
@@ -17,7 +28,7 @@ UNREAD = b"}"
 REFUSED = b"repeat 1000000{repeat 16{}}"
 
 
-def generated(number):
+def generated(number: int) -> bytes:
     """The stated score of 32,000 * (number mod 125 + 1) events."""
     slope = 500 + number % 1000
     rounds = 1000 * (1 + number % 125)
@@ -37,22 +48,27 @@ def generated(number):
     return "".join(line + "\n" for line in lines).encode()
 
 
-def filled(size, head, unit, tail, ending=b""):
+def filled(size: int, head: bytes, unit: bytes, tail: bytes, ending: bytes = b"") -> bytes:
     """The unit as often as it fits between the head and what ends the text."""
     room = size - len(head) - len(tail) - len(REFUSED)
     return head + unit * (room // len(unit)) + tail + ending
 
 
-def repeated(head, unit, tail):
+def repeated(head: bytes, unit: bytes, tail: bytes) -> Shape:
     """A shape of one unit, as a function of size and ending."""
-    return lambda size, ending=b"": filled(size, head, unit, tail, ending)
+
+    def text(size: int, ending: bytes = b"") -> bytes:
+        return filled(size, head, unit, tail, ending)
+
+    return text
 
 
-def numbered(head, unit, tail=b""):
+def numbered(head: bytes, unit: Callable[[int], bytes], tail: bytes = b"") -> Shape:
     """A shape whose units differ by their number, as a function of size and ending."""
 
-    def text(size, ending=b""):
-        pieces, left, number = [], size - len(head) - len(tail) - len(REFUSED), 0
+    def text(size: int, ending: bytes = b"") -> bytes:
+        pieces: list[bytes] = []
+        left, number = size - len(head) - len(tail) - len(REFUSED), 0
         while True:
             piece = unit(number)
             left -= len(piece)
@@ -64,18 +80,19 @@ def numbered(head, unit, tail=b""):
     return text
 
 
-def in_phrase(unit):
+def in_phrase(unit: bytes) -> Shape:
     """Statements in a phrase that nothing brings in: they are read, checked and kept, and add
     nothing to any total."""
     return repeated(b"formula 1;phrase p{", unit, b"}")
 
 
-def tower(word, count, inside):
+def tower(word: bytes, count: int, inside: bytes) -> bytes:
     """Blocks in one another."""
     return (word + b"{") * count + inside + b"}" * count
 
 
-def base36(number):
+def base36(number: int) -> str:
+    """A number in digits and letters."""
     digits = "0123456789abcdefghijklmnopqrstuvwxyz"
     text = ""
     while number or not text:
@@ -84,22 +101,23 @@ def base36(number):
     return text
 
 
-def name(number):
+def name(number: int) -> bytes:
+    """A short name for a number."""
     return ("x" + base36(number)).encode()
 
 
-def named_phrase(number):
+def named_phrase(number: int) -> bytes:
     """Short names, each defined and brought in once."""
     return b"phrase " + name(number) + b"{}do " + name(number) + b";"
 
 
-def long_named_phrase(number):
+def long_named_phrase(number: int) -> bytes:
     """The same, with names that differ in their last letters alone."""
     long_name = b"x" * 200 + name(number)
     return b"phrase " + long_name + b"{}do " + long_name + b";"
 
 
-def doubling_phrase(number):
+def doubling_phrase(number: int) -> bytes:
     """Each phrase brings in the one before it twice."""
     if number == 0:
         return b"phrase x0{}"
@@ -107,7 +125,8 @@ def doubling_phrase(number):
     return b"phrase " + name(number) + b"{" + before + before + b"}"
 
 
-def slopes(count, part):
+def slopes(count: int, part: bytes) -> bytes:
+    """A shape of so many equal parts."""
     return b"shape a=" + b",".join([part] * count) + b";"
 
 
@@ -158,14 +177,14 @@ AIMED = ["flat", "deepest", "phrases", "names"]
 BROUGHT_IN = b"do x40;"
 
 
-def operations(count):
+def operations(count: int) -> bytes:
     """About so many operations of one process, all of phrases that are written out."""
     size = int(count**0.5) - 1
     body = b"rest 0/1;" * size
     return b"formula 1;phrase q{" + body + b"}" + b"do q;" * (count // (size + 1) - 1)
 
 
-def loops_written_out(count):
+def loops_written_out(count: int) -> bytes:
     """About so many operations, all of loops inside fourteen loops."""
     body = b"repeat 1{}" * 500
     times = (count - 32) // 1001
@@ -174,46 +193,46 @@ def loops_written_out(count):
     )
 
 
-def rounds_written_out(count):
+def rounds_written_out(count: int) -> bytes:
     """So many operations in the totals: rounds of a loop inside fourteen loops, all written out."""
     inner = b"repeat %d{repeat 0{par{branch{}}}}" % ((count - 32) // 2)
     return b"formula 1;" + tower(b"repeat 1", 14, inner)
 
 
-def rounds_over_text(size, rounds):
+def rounds_over_text(size: int, rounds: int) -> bytes:
     """A text of at most this size: a loop of so many rounds, in which stands a loop that is never
     entered, whose fork comes at the end of a long block."""
     head = b"formula 1;repeat %d{repeat 0{rhythm[1/1]{" % rounds
     return filled(size, head, b"skip;", b"}par{branch{}}}}")
 
 
-def branches(count):
+def branches(count: int) -> bytes:
     """So many processes, all of one fork."""
     return b"formula 1;par{" + b"branch{}" * (count - 2) + b"}"
 
 
-def forks_in_turn(count):
+def forks_in_turn(count: int) -> bytes:
     """So many processes, one after another."""
     return b"formula 1;repeat %d{par{branch{}}}" % ((count - 1) // 2)
 
 
-def sounding_branches(count):
+def sounding_branches(count: int) -> bytes:
     """So many processes of version 2, all of one fork, with a note each."""
     return b"formula 2;par{" + b"branch{note c4 ticks 9;}" * (count - 2) + b"}"
 
 
-def tied_branches(count):
+def tied_branches(count: int) -> bytes:
     """So many processes of version 2, all of one fork, with a note each whose note-off comes at the tick of its note-on:
     with room for one event each of them waits until those before it are at their ends."""
     return b"formula 2;par{" + b"branch{note c4 ticks 1;}" * (count - 2) + b"}"
 
 
-def sounding_in_turn(count):
+def sounding_in_turn(count: int) -> bytes:
     """So many processes of version 2, or one less, one after another, with a note in each second one."""
     return b"formula 2;repeat %d{par{branch{note c4 ticks 9;}}}" % ((count - 1) // 2)
 
 
-def forks_in_branches(count):
+def forks_in_branches(count: int) -> bytes:
     """So many processes, 3 * 2^depth - 2 for some depth, in branches that fork in two."""
     depth = ((count + 2) // 3).bit_length() - 1
     phrases = b"phrase p0{}" + b"".join(
@@ -223,40 +242,40 @@ def forks_in_branches(count):
     return b"formula 1;" + phrases + b"do p%d;" % depth
 
 
-def notes(count):
+def notes(count: int) -> bytes:
     """So many events of one process."""
     return b"formula 1;repeat 2{repeat %d{note c4 ticks 1;}}" % (count // 4)
 
 
-def overlapping_chords(count):
+def overlapping_chords(count: int) -> bytes:
     """So many events of one process: chords of sixteen pitches, each of which cuts the one before it."""
     pitches = b"c3,d3,e3,f3,g3,a3,b3,c4,d4,e4,f4,g4,a4,b4,c5,d5"
     return b"formula 1;gate 400{repeat %d{note %b ticks 1;}}" % (count // 32, pitches)
 
 
-def overlapping_in_parts(count):
+def overlapping_in_parts(count: int) -> bytes:
     """So many events of one process, whose notes sound on over those behind them through 256 parts."""
     return b"formula 1;" + LONG_PARTS + b"warp a{gate 400{repeat %d{note c4 ticks 1;}}}" % (count // 2)
 
 
-def long_rests():
+def long_rests() -> bytes:
     """1,100,000 rests that end at the last tick."""
     rests = b"repeat 1000000{rest ticks 1000000;}repeat 99511{rest ticks 1000000;}"
     return b"formula 1;" + rests + b"rest ticks 627776;"
 
 
-def silent_steps(count):
+def silent_steps(count: int) -> bytes:
     """About so many steps of one process without an event."""
     return b"formula 1;repeat %d{repeat 1000000{rest ticks 0;}}" % (count // 2_000_000)
 
 
-def levels(count):
+def levels(count: int) -> bytes:
     """So many times in and out of a deformation of 256 parts."""
     inner = b"repeat %d{warp a{rest ticks 300;}}" % (count // 4)
     return b"formula 1;" + PARTS + b"repeat 4{" + inner + b"}"
 
 
-def deep_branches(branches, rounds):
+def deep_branches(branches: int, rounds: int) -> bytes:
     """Branches of so many notes with computed keys and lengths, each eight deformations of 256 parts deep."""
     note = b"note key (36 + (pick(60) * 7 + n0 %% 13 * 5) / 9) ticks (40 + n0 %% 5) max 44;"
     inner = b"repeat %d{%s}" % (rounds, note.replace(b"%%", b"%"))
@@ -265,7 +284,7 @@ def deep_branches(branches, rounds):
     return b"formula 1;" + LONG_PARTS + b"par{" + b"".join(b"branch{" + inner + b"}" for _ in range(branches)) + b"}"
 
 
-def sparse_branches(branches, rounds):
+def sparse_branches(branches: int, rounds: int) -> bytes:
     """The same where each round draws whether it is a note or, in fifteen of sixteen, a rest: much to compute, little
     to write."""
     note = b"note key (36 + (pick(60) * 7 + n0 % 13 * 5) / 9) ticks (40 + n0 % 5) max 44;"
@@ -276,15 +295,15 @@ def sparse_branches(branches, rounds):
     return b"formula 1;" + LONG_PARTS + b"par{" + b"".join(b"branch{" + inner + b"}" for _ in range(branches)) + b"}"
 
 
-def steps_before_forks(count):
+def steps_before_forks(count: int) -> bytes:
     """About so many steps of one process, before which 4,000 others wait."""
     start = b"par{branch{repeat %d{repeat 1000000{rest ticks 0;}}}}" % (count // 2_000_000)
     return b"formula 1;" + start + b"repeat 2000{par{branch{}}}"
 
 
-def longest_file(path):
+def longest_file(path: str) -> int:
     """Writes a MIDI file of the greatest size that is read: notes with a status byte each, and in a second track
-    without. Says how many events it has."""
+    without. Returns how many events it has."""
     whole, running = bytes.fromhex("00903C4030803C40"), bytes.fromhex("003C40003C00")
     end = bytes.fromhex("00FF2F00")
     count = MOST_FILE // 2 // len(whole)

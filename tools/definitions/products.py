@@ -5,8 +5,6 @@ What a definition does not compute is a witness that is found here and judged by
 that tokens spell, and the first position of a level that lies at a tick or later."""
 from __future__ import annotations
 
-import importlib.machinery
-import importlib.util
 import os
 from collections.abc import Sequence
 from dataclasses import dataclass
@@ -85,17 +83,6 @@ MAX_TICK = 1 << 40
 MAX_TEXT = 1 << 20
 
 
-def fuzz() -> Any:
-    """scripts/fuzz as a module, for its texts."""
-    loader = importlib.machinery.SourceFileLoader("fuzz", os.path.join(TOP, "scripts", "fuzz"))
-    spec = importlib.util.spec_from_loader("fuzz", loader)
-    if spec is None:
-        raise ImportError("scripts/fuzz")
-    module = importlib.util.module_from_spec(spec)
-    loader.exec_module(module)
-    return module
-
-
 @dataclass(frozen=True)
 class Fault:
     """A fault of a text: where it stands, and its number."""
@@ -122,6 +109,8 @@ class NotJudged(Exception):
 
 
 class Definitions:
+    """The definitions of the repository, each as a function of Python."""
+
     def __init__(self, repository: Repository):
         self.translator = Translator(repository)
         self.names: dict[str, str] = {}

@@ -1,6 +1,7 @@
-"""What a changed definition is tried on where no row finds the change: examples, texts of scripts/fuzz, texts on both sides
-of the grammar's limits, words at random, and the texts and words of rows. Each text is gone through in stages, from bytes to the file. Of each stage that
-uses the definition the outcome is compared with what it was, for what went in before."""
+"""What a changed definition is tried on where no row finds the change: examples, texts of scripts/stress fuzz, texts on
+both sides of the grammar's limits, words at random, and the texts and words of rows. Each text passes through stages, from
+bytes to the file. Of each stage that uses the definition the outcome is compared with what it was, for what went in
+before."""
 from __future__ import annotations
 
 import gc
@@ -19,10 +20,13 @@ import running
 from beside import command_line, words_drawn
 from forms import form_of
 from limits import TooLong, within
-from products import Definitions, fuzz
+from products import Definitions
 from repository import Repository
 from rows import TOP
 from running import Record, listed
+
+sys.path += [os.path.join(TOP, "tools"), os.path.join(TOP, "tools", "stress")]
+from bent import Texts  # noqa: E402
 
 # Longer texts are left out, and those of which a stage takes more than so many seconds.
 MOST_TEXT, MOST_SECONDS = 3_000, 2.0
@@ -151,7 +155,7 @@ class Scores:
         for name in sorted(glob.glob(f"{TOP}/examples/*/*.score")):
             with open(name, "rb") as file:
                 self.parts += self.look_at(os.path.relpath(name, TOP), file.read(), stages_of)
-        texts = fuzz().Texts(1)
+        texts = Texts(1)
         for number in range(most):
             self.parts += self.look_at(f"text 1/{number}", texts.text(number)[0], stages_of)
             words = [word.encode() for word in words_drawn(random.Random(number))]

@@ -6,7 +6,7 @@ Each definition that a clause needs and that computes is changed as mutants.py s
 are then run; a change is found where one of them does not come out true. With --scores, what no row finds is tried first on
 the texts of rows about the table of the grammar, where a law says that a form has to spell them within the limits or not,
 and on the words of rows about the command of the libraries, where one says that the rules ask for the same; and then on up
-to N texts that use the definition, of the examples, of scripts/fuzz and at the limits of the grammar: it is found
+to N texts that use the definition, of the examples, of scripts/stress fuzz and at the limits of the grammar: it is found
 where a product that `scripts/definitions` compares, from the tokens to the file, is another one. The table has a line for
 each file: definitions, changes, how many a row finds that names the definition, how many only one that does not, how many a
 law, how many a score, how many are the same by a rule, as operands of a sum that are exchanged, and how many are left. With

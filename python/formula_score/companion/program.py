@@ -43,7 +43,7 @@ VERBS: dict[str, Verb] = {
     "play": Verb("play", "run formula so that OUT is the old file or the whole new one, or standard output", True),
     "bars": Verb("bars", "count the bars of a score, check the comments that count them, tell the tick of a bar"),
     "excerpt": Verb("excerpt", "write some bars of a score as a MIDI file, its channels in tracks, or one channel"),
-    "show": Verb("show", "print the events of a MIDI file for a person, with names, bars and beats"),
+    "show": Verb("show", "print the events of a MIDI file, with names, bars and beats, or the steps of a record"),
     "roll": Verb("roll", "draw a score or a MIDI file as a piano roll, once or whenever the score is saved"),
     "listen": Verb("listen", "play a score, or some bars of it, through fluidsynth or timidity"),
     "studio": Verb("studio", "show and play a score in the browser while it is written"),

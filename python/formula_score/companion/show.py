@@ -1,20 +1,22 @@
-"""The verb `show`: the events of a MIDI file, for a person."""
+"""The verb `show`: the events of a MIDI file or the steps of a record, for a person."""
 
 from __future__ import annotations
 
 import argparse
+import os
 from fractions import Fraction
 from typing import Iterator, Optional
 
+from .. import records
 from . import meter as meters, names
 from .meter import Group, Meter, Signature
 from .notes import Sounding, is_off, is_on, paired
-from .playing import Listing, listing_of_file
+from .playing import Failed, Listing, listing_of_file
 
 
 def arguments(parser: argparse.ArgumentParser) -> None:
     """What the verb takes."""
-    parser.add_argument("file", metavar="FILE.mid")
+    parser.add_argument("file", metavar="FILE")
     meters.arguments(parser, None)
     parser.add_argument("--all", action="store_true", help="a line for each end of a note, too, in place of how long "
                         "it sounds")
@@ -22,11 +24,22 @@ def arguments(parser: argparse.ArgumentParser) -> None:
 
 The program reads the file (--list), of format 0 or 1, also of other programs; the names are the companion's. With
 --meter each line has its bar and beat, counted over the ticks of the file; without it a file's own meter is taken. A
-channel counts from 0, and so does a program. Where the file is refused the status is 1."""
+channel counts from 0, and so does a program. If the file is refused the status is 1.
+
+Of the record of a run the first line has seats, room, lead, and how many bytes the text has. The lines of the score
+follow behind `| `, then a line for each step: its number, the place of its first byte among the steps, both counted from
+0, and what it is; and last how many steps there are of each kind. docs/SCHEDULER.md says what the steps do. Whether they
+are a run is not checked: formula does that with --audit. If no step begins at some place the status is 1."""
 
 
 def run(options: argparse.Namespace) -> int:
     """Prints the file."""
+    record = record_in(options.file)
+    if record is not None:
+        line = ""
+        for line in records.lines(record):
+            print(line)
+        return int(line.startswith("no step"))
     listing = listing_of_file(options.file, 1)
     meter = None
     if listing.division:
@@ -38,6 +51,20 @@ def run(options: argparse.Namespace) -> int:
     for line in _told(listing, meter, options.all):
         print(line)
     return 0
+
+
+def record_in(path: str) -> Optional[records.Record]:
+    """The record in a file; None of what does not begin as one, or cannot be read twice."""
+    if not os.path.isfile(path) or not os.access(path, os.R_OK):
+        return None
+    with open(path, "rb") as file:
+        if file.read(len(records.MAGIC)) != records.MAGIC:
+            return None
+        file.seek(0)
+        record = records.parts(file.read())
+    if record is None:
+        raise Failed(1, f"{path}: this is a record without a whole text")
+    return record
 
 
 def own_meter(listing: Listing) -> Optional[tuple[Group, ...]]:

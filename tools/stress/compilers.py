@@ -1,22 +1,17 @@
-#!/usr/bin/env python3
 """Runs the program as both compilers build it, on the same words and inputs, and compares every byte, line and status.
 
-    scripts/compilers [--program FILE] [--other FILE] [--texts N] [--first N] [--records N] [--large N ..] [--jobs N]
-
 The proof is of the source; each compiler makes a program of it that no proof covers. Compared are all examples and all runs
-of scripts/options, N texts of scripts/fuzz, each in one of its four ways and with words at random, N recorded runs with
-their audits, and large scores. By default these are 20,000 texts, 300 records and `--generate 124`. A record tells which
-thread came first, so no two are the same: each program audits both records. A run that does not end in {LONGEST} seconds
-differs from any. Every half minute a line on standard error tells how far it is. The last lines tell the processor time of
-both and how many runs differ. FILE is the proved program and what `rt ci` leaves beside it, as crates/fm_main/out/fm_main
-and crates/fm_main/out/fm_main.by-rattle. It is no part of the gate."""
+of scripts/examples --part options, N texts of scripts/stress fuzz, each in one of its four ways and with words at random,
+N recorded runs with their audits, and large scores. A record says which thread came first, so no two are the same: each
+program audits both records. A run that does not end in 600 seconds differs from any. Every half minute it prints on
+standard error how far it is, and at the end the processor time of both. The other program is what `rt ci` leaves beside
+the proved one, with `.by-rattle` behind its name."""
+
 from __future__ import annotations
 
 import argparse
 import glob
 import hashlib
-import importlib.machinery
-import importlib.util
 import os
 import random
 import resource
@@ -28,11 +23,11 @@ from collections import Counter
 from collections.abc import Callable, Sequence
 from typing import Any, Optional
 
-TOP = os.path.dirname(os.path.dirname(os.path.abspath(__file__)))
-BUILT = os.path.join(TOP, "crates", "fm_main", "out", "fm_main")
-sys.dont_write_bytecode = True
-sys.path.insert(0, os.path.join(TOP, "tools", "jobs"))
-from jobs import Jobs, Lost, Told  # noqa: E402
+import harness
+from bent import Texts
+from fuzz import WAYS
+from harness import TOP, held
+from jobs import Jobs, Lost, Told
 
 RECORDED = (("--rounds",), ("--workers", "1"), ("--workers", "3", "--room", "1", "--lead", "0"), ("--workers", "16"))
 # After so many seconds a run counts as one that does not end.
@@ -44,26 +39,8 @@ End = tuple[int, bytes, bytes, Optional[bytes]]
 Task = tuple[Any, ...]
 
 
-def fuzz() -> Any:
-    """scripts/fuzz as a module."""
-    loader = importlib.machinery.SourceFileLoader("fuzz", os.path.join(TOP, "scripts", "fuzz"))
-    spec = importlib.util.spec_from_loader("fuzz", loader)
-    if spec is None:
-        raise ImportError("scripts/fuzz")
-    module = importlib.util.module_from_spec(spec)
-    loader.exec_module(module)
-    return module
-
-
-def content(path: str) -> bytes | None:
-    """What stands in a file; None where there is none."""
-    if not os.path.isfile(path):
-        return None
-    with open(path, "rb") as file:
-        return file.read()
-
-
-def put(path: str, data: bytes | None) -> None:
+def put(path: str, data: Optional[bytes]) -> None:
+    """Writes a file, or removes it if there is to be none."""
     if data is not None:
         with open(path, "wb") as file:
             file.write(data)
@@ -91,7 +68,7 @@ class Both:
         try:
             done = subprocess.run([self.programs[which], *words], stdin=subprocess.DEVNULL, stdout=subprocess.PIPE,
                                   stderr=subprocess.PIPE, timeout=LONGEST, check=False)
-            end = done.returncode, done.stdout, done.stderr, content(self.out)
+            end = done.returncode, done.stdout, done.stderr, held(self.out)
         except subprocess.TimeoutExpired:
             self.differ.append(f"no end after {LONGEST} seconds: {self.programs[which]} {' '.join(words)}")
             end = NO_END, b"", b"", None
@@ -99,7 +76,7 @@ class Both:
         self.seconds[which] += after.ru_utime + after.ru_stime - before.ru_utime - before.ru_stime
         return end
 
-    def same(self, what: str, name: str, words: Sequence[str], data: bytes | None = None) -> End:
+    def same(self, what: str, name: str, words: Sequence[str], data: Optional[bytes] = None) -> End:
         """Both end in the same way on these words; IN holds the data."""
         if data is not None:
             put(self.given, data)
@@ -109,8 +86,9 @@ class Both:
             self.differ.append(f"{what}: {name} {' '.join(words[2:])}: {told(ends[0])} in place of {told(ends[1])}")
         return ends[0]
 
-    def text(self, number: int, text: bytes, draw: random.Random, ways: Sequence[Sequence[str]]) -> None:
-        self.same("texts", f"text {number}", [self.given, self.out, *draw.choice(ways)], text)
+    def text(self, number: int, text: bytes, draw: random.Random) -> None:
+        """Both play a text, as it is and with words at random."""
+        self.same("texts", f"text {number}", [self.given, self.out, *draw.choice(WAYS)], text)
         words = [self.given, self.out]
         for _ in range(draw.randrange(1, 4)):
             option = draw.choice(OPTIONS)
@@ -140,6 +118,7 @@ OPTIONS = ("--workers", "--lead", "--room", "--rounds", "--list", "--parts", "--
 
 
 def told(end: End) -> str:
+    """How a run ended, in words."""
     status, said, complaint, out = end
     made = "no OUT" if out is None else f"OUT of {len(out)} bytes, {hashlib.sha256(out).hexdigest()[:8]}"
     return f"status {status}, {said[:80]!r}, {complaint[:80]!r}, {made}"
@@ -151,17 +130,17 @@ Answer = tuple[Counter[str], list[str], list[float]]
 
 
 def begin(programs: Sequence[str], folder: str) -> Callable[[Task], Answer]:
-    module, both = fuzz(), Both(programs, tempfile.mkdtemp(dir=folder))
-    texts, ways = module.Texts(0), module.WAYS
+    """Makes what a process does with each of its tasks."""
+    both, texts = Both(programs, tempfile.mkdtemp(dir=folder)), Texts(0)
 
-    def one(task: Task) -> Answer:
+    def answer(task: Task) -> Answer:
         kind, *words = task
         both.begin()
         if kind == "text":
             text, draw = texts.text(words[0])
-            both.text(words[0], text, draw, ways)
+            both.text(words[0], text, draw)
         elif kind == "score":
-            for way in ways:
+            for way in WAYS:
                 both.same("examples", os.path.relpath(words[0], TOP), [words[0], both.out, *way])
         elif kind == "record":
             both.recorded(*words)
@@ -170,10 +149,11 @@ def begin(programs: Sequence[str], folder: str) -> Callable[[Task], Answer]:
             if end[0] != 0:
                 both.differ.append(f"large scores: number {words[0]}: status {end[0]}")
         return both.counts, both.differ, both.seconds
-    return one
+
+    return answer
 
 
-# ---- scripts/options, which is given one program that is both
+# ---- scripts/examples --part options, which is given one program that is both
 
 SHIM = """#!{python} -IS
 import os, subprocess, sys
@@ -209,21 +189,22 @@ sys.exit(ends[1][0])
 
 
 def options(programs: Sequence[str], folder: str, counts: Counter[str]) -> list[str]:
-    """Each run of scripts/options is made by both programs."""
+    """Each run of scripts/examples --part options is made by both programs."""
     shim, log = os.path.join(folder, "both"), os.path.join(folder, "log")
     with open(shim, "w", encoding="utf-8") as file:
         file.write(SHIM.format(python=sys.executable, programs=programs, log=log, longest=LONGEST))
     os.chmod(shim, 0o755)
-    done = subprocess.run([os.path.join(TOP, "scripts", "options"), shim], stdin=subprocess.DEVNULL,
-                          stdout=subprocess.PIPE, text=True, check=False)
+    words = [os.path.join(TOP, "scripts", "examples"), "--program", shim, "--part", "options"]
+    done = subprocess.run(words, stdin=subprocess.DEVNULL, stdout=subprocess.PIPE, text=True, check=False)
     with open(log, encoding="utf-8") as file:
         lines = file.read().splitlines()
-    counts["runs of scripts/options"] += len(lines)
-    differ = [f"scripts/options: {line}" for line in lines if line != "same"]
-    return differ if done.returncode == 0 else [*differ, f"scripts/options: {done.stdout.splitlines()[-1:]}"]
+    counts["runs of options"] += len(lines)
+    differ = [f"options: {line}" for line in lines if line != "same"]
+    return differ if done.returncode == 0 else [*differ, f"options: {done.stdout.splitlines()[-1:]}"]
 
 
 def tasks_of(asked: argparse.Namespace) -> list[Task]:
+    """All that is run but the options."""
     scores = sorted(glob.glob(os.path.join(TOP, "examples", "**", "*.score"), recursive=True))
     played = [path for path in scores if "/refused/" not in path and "/long/" not in path]
     tasks: list[Task] = [("large", number) for number in asked.large]
@@ -233,26 +214,23 @@ def tasks_of(asked: argparse.Namespace) -> list[Task]:
     return tasks
 
 
-def main() -> int:
-    head, _, rest = str(__doc__).replace("{LONGEST}", str(LONGEST)).split("\n\n")
-    parser = argparse.ArgumentParser(description=head, epilog=rest, formatter_class=argparse.RawDescriptionHelpFormatter)
-    parser.add_argument("--program", default=BUILT, help="the program as LLVM builds it")
-    parser.add_argument("--other", default=f"{BUILT}.by-rattle", help="the program as the toolchain's own compiler does")
-    parser.add_argument("--texts", type=int, default=20_000, help="how many texts")
+def arguments(parser: argparse.ArgumentParser) -> None:
+    """What the verb takes."""
+    parser.add_argument("--other", metavar="FILE", help="the program as the toolchain's own compiler builds it")
+    parser.add_argument("--texts", type=int, default=20_000, help="how many texts, else 20,000")
     parser.add_argument("--first", type=int, default=0, help="the number of the first one")
-    parser.add_argument("--records", type=int, default=300, help="how many recorded runs")
-    parser.add_argument("--large", type=int, nargs="*", default=[124], help="the numbers of the large scores")
-    parser.add_argument("--no-options", action="store_true", help="leaves scripts/options out")
+    parser.add_argument("--records", type=int, default=300, help="how many recorded runs, else 300")
+    parser.add_argument("--large", type=int, nargs="*", default=[124], help="the numbers of the large scores, else 124")
+    parser.add_argument("--no-options", action="store_true", help="leaves the runs of options out")
     parser.add_argument("--jobs", type=int, default=os.cpu_count() or 1, help="how many at a time")
-    asked = parser.parse_args()
-    programs = [os.path.abspath(asked.program), os.path.abspath(asked.other)]
-    for program in programs:
-        if not os.access(program, os.X_OK):
-            print(f"compilers: there is no program {program}; `rt ci` leaves both", file=sys.stderr)
-            return 70
+
+
+def run(program: str, asked: argparse.Namespace) -> harness.Count:
+    """Compares both programs."""
+    programs = [program, harness.find(asked.other or f"{program}.by-rattle")]
     tasks, start = tasks_of(asked), time.time()
     counts: Counter[str] = Counter()
-    differ, seconds, large = 0, [0.0, 0.0], [0.0, 0.0]
+    count, seconds, large = harness.Count(), [0.0, 0.0], [0.0, 0.0]
     progress = Told("compilers", len(tasks))
     with tempfile.TemporaryDirectory() as folder:
         # a task has at most ten runs
@@ -262,23 +240,18 @@ def main() -> int:
                 answer = Counter(), [f"{task}: {answer.reason}"], [0.0, 0.0]
             found, wrong, spent = answer
             counts.update(found)
-            differ += len(wrong)
-            for k in (0, 1):
-                (large if task[0] == "large" else seconds)[k] += spent[k]
+            for which in (0, 1):
+                (large if task[0] == "large" else seconds)[which] += spent[which]
             for line in wrong:
-                print(line, flush=True)
-            progress.one(differ)
+                count.judge(*line.split(": ", 1))
+            progress.one(count.failed)
         if not asked.no_options and not jobs.interrupted:
-            print("compilers: the runs of scripts/options", file=sys.stderr, flush=True)
-            wrong = options(programs, folder, counts)
-            differ += len(wrong)
-            print("".join(f"{line}\n" for line in wrong), end="")
+            print("compilers: the runs of options", file=sys.stderr, flush=True)
+            for line in options(programs, folder, counts):
+                count.judge(*line.split(": ", 1))
     for what in sorted(counts):
         print(f"{what}: {counts[what]}")
     print(f"processor seconds: {seconds[0]:.1f} and {seconds[1]:.1f}, of the large scores {large[0]:.1f} and {large[1]:.1f}")
-    print(f"{sum(counts.values())} runs by both in {time.time() - start:.0f} seconds, {differ} differ")
-    return 1 if differ else 0
-
-
-if __name__ == "__main__":
-    sys.exit(main())
+    print(f"{sum(counts.values())} runs by both in {time.time() - start:.0f} seconds")
+    count.passed = sum(counts.values()) - count.failed
+    return count

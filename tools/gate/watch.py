@@ -1,22 +1,21 @@
 #!/usr/bin/env python3
-"""Watches a run of the gate, and tells at its end how many processor seconds each crate took: its code, its tests,
+"""Watches a run of the gate, and prints at its end how many processor seconds each crate took: its code, its tests,
 the ground of its edits (the check on which they are tried) and the edits; how many processor minutes a change of it
 costs, which are those of it and of all crates above; and how the run compares with the budget of the gate.
 
-    scripts/watch [--edits FILE] [COMMAND ..]      (else rt ci; run it where the command is to run)
+    tools/gate/watch.py [--edits FILE] [COMMAND ..]      (else rt ci; run it where the command is to run)
 
 What the command prints goes to standard output as it comes, the tables behind it to standard error. With --edits a
 table of the edits is written to FILE: crate, edit, seconds, these by the median of the crate, and the goal at which
 the edit is refused. It ends with the command's status. Needs Linux; what a process takes in its last half second is
 not counted. Crates that were kept from an earlier run take nothing, so a comparison needs `rt ci --anew`."""
-import os
+from __future__ import annotations
+
 import subprocess
 import sys
 import threading
 import time
 
-TOP = os.path.dirname(os.path.dirname(os.path.abspath(__file__)))
-sys.path.insert(0, f"{TOP}/tools/gate")
 sys.dont_write_bytecode = True
 from report import budget_table, by_crate, crate_table, edit_table, write_lines  # noqa: E402
 from sampling import Sampler  # noqa: E402
@@ -25,7 +24,7 @@ from sampling import Sampler  # noqa: E402
 BETWEEN = 0.5
 
 
-def copy(running: "subprocess.Popen[str]", printed: list[str]) -> None:
+def copy(running: subprocess.Popen[str], printed: list[str]) -> None:
     """Prints each line of the command as it comes, and keeps it."""
     assert running.stdout is not None
     for line in running.stdout:

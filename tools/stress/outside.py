@@ -1,16 +1,13 @@
-#!/usr/bin/env python3
-"""Whether other programs read our files as we do, and whether we read theirs.
+"""Compares how other programs read our files with how we do, and how we read theirs.
 
-    scripts/outside [--program FILE] [FILE.mid ..]
+Compared is the listing of each file, event by event, with what midicsv reads in it: the files of all example scores,
+those with a track for each channel, files that other programs write (abc2midi, mma and lilypond, from small pieces in
+tools/stress/outside.py), and those that are named. Then timidity, fluidsynth, mido and MuseScore open files of format 1,
+and the tracks that they see are counted. It prints what is not installed, and leaves it out. On Debian: apt-get install
+midicsv abcmidi mma lilypond timidity freepats fluidsynth fluid-soundfont-gm python3-mido musescore3."""
 
-Compares the listing of each file, event by event, with what midicsv reads in it: the files of all example scores,
-those with a track for each channel, and files that other programs write (abc2midi, mma and lilypond, from small
-pieces that stand in this script), and those that are named. Then it lets timidity, fluidsynth, mido and MuseScore
-open files of format 1 and counts the tracks that they see. What is not installed is left out, and said. The program
-is the proved one, which scripts/formula builds on first use. It is no part of the gate; the last line is
-'N passed, M failed'. On Debian: apt-get install midicsv abcmidi mma lilypond timidity freepats fluidsynth
-fluid-soundfont-gm python3-mido musescore3.
-"""
+from __future__ import annotations
+
 import argparse
 import csv
 import io
@@ -20,9 +17,10 @@ import shutil
 import subprocess
 import sys
 import tempfile
+from typing import Callable, Iterator, Optional, Sequence, Union
 
-TOP = os.path.dirname(os.path.dirname(os.path.abspath(__file__)))
-EXAMPLES = os.path.join(TOP, "examples")
+import harness
+from harness import EXAMPLES, content
 
 # Scores with several channels, of which other programs count the tracks.
 SPLIT = ("scores/canon", "tutorial/8_end", "scores/fork_and_join")
@@ -66,29 +64,30 @@ NUMBERS = {"Channel_prefix": (0x20, (1,)), "MIDI_port": (0x21, (1,)), "Tempo": (
 
 
 class Unknown(Exception):
-    """Something that midicsv tells and this script does not know."""
+    """Something that midicsv prints and this script does not know."""
 
 
-def quantity(number):
+def quantity(number: int) -> bytes:
+    """A variable-length quantity."""
     out = [number % 128]
     while number := number // 128:
         out.insert(0, 128 + number % 128)
     return bytes(out)
 
 
-def meta(kind, data):
+def meta(kind: int, data: bytes) -> bytes:
+    """A meta event."""
     return bytes([0xFF, kind]) + quantity(len(data)) + data
 
 
-def text_of(field):
+def text_of(field: str) -> bytes:
     """The bytes of a text, which midicsv writes with octal numbers for what is no plain character."""
-    found = re.sub(rb"\\(\\|[0-7]{3})", lambda m: m[1] if m[1] == b"\\" else bytes([int(m[1], 8)]),
-                   field.encode("latin-1"))
-    return found
+    return re.sub(rb"\\(\\|[0-7]{3})", lambda match: match[1] if match[1] == b"\\" else bytes([int(match[1], 8)]),
+                  field.encode("latin-1"))
 
 
-def event_of(kind, fields):
-    """The bytes of an event as midicsv tells it."""
+def event_of(kind: str, fields: Sequence[str]) -> bytes:
+    """The bytes of an event as midicsv prints it."""
     if kind in CHANNEL:
         status, count = CHANNEL[kind]
         channel, *data = map(int, fields)
@@ -105,8 +104,8 @@ def event_of(kind, fields):
     if kind == "End_track":
         return meta(0x2F, b"")
     if kind in ("System_exclusive", "System_exclusive_packet"):
-        data = bytes(map(int, fields[1:]))
-        return bytes([0xF0 if kind == "System_exclusive" else 0xF7]) + quantity(int(fields[0])) + data
+        packet = bytes(map(int, fields[1:]))
+        return bytes([0xF0 if kind == "System_exclusive" else 0xF7]) + quantity(int(fields[0])) + packet
     if kind == "Sequencer_specific":
         return meta(0x7F, bytes(map(int, fields[1:])))
     if kind == "Unknown_meta_event":
@@ -114,52 +113,45 @@ def event_of(kind, fields):
     raise Unknown(kind)
 
 
-def read_by_midicsv(path):
+def read_by_midicsv(path: str) -> list[str]:
     """The lines of the listing, as midicsv reads the file."""
     told = subprocess.run(["midicsv", path], stdout=subprocess.PIPE, stderr=subprocess.PIPE, check=False)
     if told.returncode or told.stderr:
         raise Unknown(told.stderr.decode("latin-1").strip() or f"midicsv ended with {told.returncode}")
-    lines, tracks = [], 0
+    lines: list[str] = []
+    head, tracks = "", 0
     for row in csv.reader(io.StringIO(told.stdout.decode("latin-1")), skipinitialspace=True):
         track, tick, kind, fields = int(row[0]), int(row[1]), row[2], row[3:]
         if kind == "Header":
-            form, _, division = map(int, fields)
+            head = f"format {int(fields[0])} tracks TRACKS division {int(fields[2])}"
         elif kind == "Start_track":
             tracks += 1
         elif kind != "End_of_file":
             lines.append(f"{track - 1} {tick} {event_of(kind, fields).hex(' ').upper()}")
-    return [f"format {form} tracks {tracks} division {division}", *lines]
+    return [head.replace("TRACKS", str(tracks)), *lines]
 
 
 class Tries:
-    def __init__(self, program, folder):
-        self.program, self.folder = program, folder
-        self.passed = self.failed = 0
-        self.compared = []
+    """Runs of the program, and which files were compared."""
 
-    def path(self, name):
-        return os.path.join(self.folder, name)
+    def __init__(self, program: str, folder: str):
+        self.runs, self.count = harness.Runs(program, folder), harness.Count()
+        self.path, self.judge = self.runs.path, self.count.judge
+        self.compared: list[str] = []
 
-    def judge(self, name, problem):
-        if problem:
-            self.failed += 1
-            print(f"{name}: {problem}", flush=True)
-        else:
-            self.passed += 1
+    def run(self, *words: str) -> tuple[int, str]:
+        """The status and the line of a run."""
+        ran = self.runs.run(words)
+        return ran.status, ran.said.decode().strip()
 
-    def run(self, *words):
-        done = subprocess.run([self.program, *words], stdout=subprocess.PIPE, check=False)
-        return done.returncode, done.stdout.decode().strip()
-
-    def compare(self, name, file):
+    def compare(self, name: str, file: str) -> None:
         """The listing of the file is what midicsv reads."""
         listing = self.path("listing")
         status, said = self.run(file, listing, "--list")
         if status:
             self.judge(name, f"status {status}: {said}")
             return
-        with open(listing, encoding="ascii") as source:
-            ours = source.read().splitlines()
+        ours = content(listing).decode("ascii").splitlines()
         try:
             theirs = read_by_midicsv(file)
         except Unknown as problem:
@@ -168,27 +160,29 @@ class Tries:
         different = next((pair for pair in zip(ours, theirs) if pair[0] != pair[1]), None)
         if different is None and len(ours) != len(theirs):
             different = f"{len(ours)} lines", f"{len(theirs)} lines"
-        self.judge(name, different and f"listed is {different[0]!r}, and midicsv reads {different[1]!r}")
+        self.judge(name, f"listed is {different[0]!r}, and midicsv reads {different[1]!r}" if different else "")
         self.compared.append(f"{name} ({len(ours) - 1} events)")
 
 
-def has(name, *others):
-    for each in (name, *others):
-        if shutil.which(each):
-            return each
-    print(f"not tried: {name}, which is not installed")
+def has(*names: str) -> Optional[str]:
+    """The first of these names of a program that is installed."""
+    for name in names:
+        if shutil.which(name):
+            return name
+    print(f"not tried: {names[0]}, which is not installed")
     return None
 
 
-def scores():
+def scores() -> Iterator[str]:
+    """The example scores, each with its folder and without its ending."""
     for folder in ("scores", "tutorial"):
         for name in sorted(os.listdir(os.path.join(EXAMPLES, folder))):
             if name.endswith(".score"):
                 yield f"{folder}/{name[:-len('.score')]}"
 
 
-def others(tries):
-    """Files that other programs write: their names and where they stand."""
+def others(tries: Tries) -> Iterator[tuple[str, str]]:
+    """Files that other programs write: a name and a path each."""
     for name, text, words in (
         ("abc2midi", ABC, ["abc2midi", "in", "-o", "out.mid"]),
         ("mma", MMA, ["mma", "-f", "out.mid", "in"]),
@@ -200,20 +194,27 @@ def others(tries):
             with open(os.path.join(folder, "in"), "w", encoding="ascii") as file:
                 file.write(text)
             subprocess.run(words, cwd=folder, stdout=subprocess.DEVNULL, stderr=subprocess.DEVNULL, check=False)
-            made = [os.path.join(folder, each) for each in sorted(os.listdir(folder))
-                    if each.endswith((".mid", ".midi"))]
+            made = [os.path.join(folder, file) for file in sorted(os.listdir(folder)) if file.endswith((".mid", ".midi"))]
             if not made:
                 tries.judge(name, "it wrote no file")
             yield from ((f"a file of {name}", file) for file in made)
 
 
-def tracks_by_midicsv(file):
+#: How many tracks a program sees, or what is wrong; None if it is not installed.
+Seen = Union[int, str, None]
+
+
+def tracks_by_midicsv(file: str) -> Seen:
+    """How many tracks midicsv lists."""
+    if not shutil.which("midicsv"):
+        return None
     return int(read_by_midicsv(file)[0].split()[3])
 
 
-def tracks_by_mido(file):
-    python = next((each for each in ("/usr/bin/python3", sys.executable) if subprocess.run(
-        [each, "-c", "import mido"], stderr=subprocess.DEVNULL, check=False).returncode == 0), None)
+def tracks_by_mido(file: str) -> Seen:
+    """How many tracks the Python library mido reads."""
+    python = next((path for path in ("/usr/bin/python3", sys.executable) if subprocess.run(
+        [path, "-c", "import mido"], stderr=subprocess.DEVNULL, check=False).returncode == 0), None)
     if python is None:
         return None
     told = subprocess.run([python, "-c", "import mido, sys; print(len(mido.MidiFile(sys.argv[1]).tracks))", file],
@@ -221,19 +222,23 @@ def tracks_by_mido(file):
     return int(told.stdout)
 
 
-def tracks_by_timidity(file):
-    """What timidity says of the header; it has to play the file to its end too, with no instruments."""
+def tracks_by_timidity(file: str) -> Seen:
+    """What timidity prints of the header; it has to play the file to its end too, with no instruments."""
     if not shutil.which("timidity"):
         return None
     told = subprocess.run(["timidity", "-c", os.devnull, "-idvv", "-Or", "-s", "8000", "-o", os.devnull, file],
                           stdout=subprocess.PIPE, stderr=subprocess.STDOUT, check=False)
     found = re.search(rb"Tracks?: ([0-9]+)", told.stdout)
-    return int(found[1]) if found and told.returncode == 0 else f"it ended with {told.returncode} and told none"
+    return int(found[1]) if found and told.returncode == 0 else f"it ended with {told.returncode} and printed none"
 
 
-def count(tries, name, file, wanted):
+COUNTED: tuple[tuple[str, Callable[[str], Seen]], ...] = (
+    ("midicsv", tracks_by_midicsv), ("mido", tracks_by_mido), ("timidity", tracks_by_timidity))
+
+
+def count(tries: Tries, name: str, file: str, wanted: int) -> None:
     """How many tracks other programs see."""
-    for program, tracks in (("midicsv", tracks_by_midicsv), ("mido", tracks_by_mido), ("timidity", tracks_by_timidity)):
+    for program, tracks in COUNTED:
         seen = tracks(file)
         if seen is None:
             print(f"not tried: {program}, which is not installed")
@@ -242,7 +247,7 @@ def count(tries, name, file, wanted):
             tries.compared.append(f"{name} by {program}: {seen} tracks")
 
 
-def opened(tries, name, file, wanted):
+def opened(tries: Tries, name: str, file: str, wanted: int) -> None:
     """That MuseScore opens the file, with as many parts as there are channels; and that fluidsynth plays it."""
     program = has("musescore3", "mscore3", "mscore")
     if program:
@@ -251,8 +256,7 @@ def opened(tries, name, file, wanted):
                        stdout=subprocess.DEVNULL, stderr=subprocess.DEVNULL, check=False)
         parts = 0
         if os.path.exists(made):
-            with open(made, encoding="utf-8") as source:
-                parts = source.read().count("<score-part ")
+            parts = content(made).count(b"<score-part ")
             os.remove(made)
         tries.judge(f"{name}, by {program}", None if parts == wanted - 1 else f"{parts} parts in place of {wanted - 1}")
         tries.compared.append(f"{name} by {program}: {parts} parts")
@@ -268,42 +272,33 @@ def opened(tries, name, file, wanted):
         tries.compared.append(f"{name} by fluidsynth")
 
 
-def main():
-    parts = __doc__.split("\n\n")
-    parser = argparse.ArgumentParser(description=parts[0], epilog=parts[2],
-                                     formatter_class=argparse.RawDescriptionHelpFormatter)
-    parser.add_argument("--program", help="the program that is tried")
+def arguments(parser: argparse.ArgumentParser) -> None:
+    """What the verb takes."""
     parser.add_argument("files", nargs="*", metavar="FILE.mid", help="files to be compared besides")
-    words = parser.parse_args()
-    program = words.program or subprocess.run([os.path.join(TOP, "scripts", "formula"), "--program"],
-                                              stdout=subprocess.PIPE, text=True, check=False).stdout.strip()
-    if not os.access(program, os.X_OK):
-        sys.exit(f"outside: there is no program {program}")
+
+
+def run(program: str, asked: argparse.Namespace) -> harness.Count:
+    """Compares all of them."""
     with tempfile.TemporaryDirectory() as folder:
-        tries = Tries(os.path.abspath(program), folder)
+        tries = Tries(program, folder)
         csv_is_there = has("midicsv")
         for name in scores():
             score = os.path.join(EXAMPLES, name + ".score")
             whole, split = tries.path("whole.mid"), tries.path("split.mid")
-            for file, options in ((whole, []), (split, ["--parts"])):
+            ways: tuple[tuple[str, list[str]], ...] = ((whole, []), (split, ["--parts"]))
+            for file, options in ways:
                 status, said = tries.run(score, file, *options)
                 if status:
                     tries.judge(name, f"status {status}: {said}")
                 elif csv_is_there:
                     tries.compare(" ".join([name, *options]), file)
             if name in SPLIT:
-                with open(split, "rb") as source:
-                    wanted = int.from_bytes(source.read()[10:12], "big")
+                wanted = int.from_bytes(content(split)[10:12], "big")
                 count(tries, name, split, wanted)
                 opened(tries, name, split, wanted)
         if csv_is_there:
-            for name, file in [*others(tries), *((file, file) for file in words.files)]:
+            for name, file in [*others(tries), *((file, file) for file in asked.files)]:
                 tries.compare(name, file)
     for line in tries.compared:
         print("  " + line)
-    print(f"{tries.passed} passed, {tries.failed} failed")
-    return 1 if tries.failed else 0
-
-
-if __name__ == "__main__":
-    sys.exit(main())
+    return tries.count

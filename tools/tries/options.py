@@ -1,59 +1,45 @@
-#!/usr/bin/env python3
-"""Runs the proved program with the options that make something else of a score or a file, and compares.
-
-    scripts/options [--places N] [PROGRAM]
+"""Runs the program with the options that make something else of a score or a file, and compares: for scripts/examples.
 
 What is wanted stands in examples/, or comes from tools/file_model and tools/score_model, which are programs apart
 from the command: the listings of the files of examples/files, of those of all example scores and of the large ones,
 and the first fault of each refused file and of changed ones; where ticks lie; the tracks of each score, excerpts,
-and what an audit makes of records, of those of each score in sixteen schedules and of changed ones too. The program
-is the proved one, which scripts/formula builds on first use. The last line is 'N passed, M failed'.
-"""
-import argparse
+and what an audit makes of records, of those of each score in sixteen schedules and of changed ones too."""
+
+from __future__ import annotations
+
+import importlib
 import os
 import random
 import re
-import subprocess
 import sys
-import tempfile
+from typing import Any, Iterator, Optional, Sequence
 
-TOP = os.path.dirname(os.path.dirname(os.path.abspath(__file__)))
-EXAMPLES = os.path.join(TOP, "examples")
-sys.dont_write_bytecode = True
-sys.path[:0] = [os.path.join(TOP, "tools", name) for name in ("file_model", "score_model", "core_model", "bench")]
-sys.path.append(os.path.join(TOP, "python"))
-import audit as core_audit  # noqa: E402
-import file_model as model  # noqa: E402
-import score_model  # noqa: E402
-import texts  # noqa: E402
-from formula_score import records as record_parts  # noqa: E402
+from formula_score import records as record_parts
+from harness import EXAMPLES, TOP, Count, Runs, bytes_of, content, difference
+
+sys.path[:0] = [str(TOP / "tools" / name) for name in ("file_model", "score_model", "core_model", "bench")]
+#: Programs apart from the command, which are no part of the library.
+core_audit: Any = importlib.import_module("audit")
+model: Any = importlib.import_module("file_model")
+score_model: Any = importlib.import_module("score_model")
+texts: Any = importlib.import_module("texts")
 
 WORDS_REFUSED = "formula: words refused\n"
 READ_FAULT = "formula: read fault\n"
 NO_PROCESS = "formula: no such process\n"
-# The large scores that are tried: 32,000, 128,000 and 992,000 events.
+#: The large scores that are tried: 32,000, 128,000 and 992,000 events.
 LARGE = (0, 3, 30)
 RECORDED = [(workers, room, lead) for workers in (1, 2, 4, 16) for room in (1, 64) for lead in (0, 7680)]
 SCHEDULES = ((), ("--workers", "0"), ("--workers", "16", "--room", "1", "--lead", "0"), ("--rounds",))
 
 
-def content(path):
-    with open(path, "rb") as file:
-        return file.read()
-
-
-def bytes_of(path):
-    """The bytes of a file of hexadecimal digits, where what follows a '#' does not count."""
-    return bytes.fromhex(re.sub(r"#.*", "", content(path).decode()))
-
-
-def within(folder, ending):
+def within(name: str, ending: str) -> list[str]:
     """The names in a folder of the examples that end so, without their endings."""
-    folder = os.path.join(EXAMPLES, folder)
+    folder = os.path.join(EXAMPLES, name)
     return [os.path.join(folder, name[:-len(ending)]) for name in sorted(os.listdir(folder)) if name.endswith(ending)]
 
 
-def scores():
+def scores() -> Iterator[tuple[str, bytes]]:
     """The example scores, each with the bytes of its file."""
     for score in within("scores", ".score"):
         yield score + ".score", bytes_of(os.path.join(EXAMPLES, "expected", os.path.basename(score) + ".hex"))
@@ -61,62 +47,33 @@ def scores():
         yield score + ".score", bytes_of(score + ".hex")
 
 
+#: Status, what was printed on both outputs, and OUT.
+Ended = tuple[int, bytes, Optional[bytes]]
+
+
 class Tries:
-    def __init__(self, program, folder, places):
-        self.program, self.folder, self.places = program, folder, places
-        self.passed = self.failed = 0
+    """Runs in a folder, and how often each file and record is changed."""
 
-    def path(self, name):
-        return os.path.join(self.folder, name)
+    def __init__(self, program: str, folder: str, count: Count, places: int):
+        self.runs, self.folder, self.count, self.places = Runs(program, folder), folder, count, places
+        self.path, self.put, self.judge = self.runs.path, self.runs.put, count.judge
 
-    def judge(self, name, problems):
-        if problems:
-            self.failed += 1
-            print(f"{name}: {'; '.join(problems)}", flush=True)
-        else:
-            self.passed += 1
+    def run(self, words: Sequence[str], given: Optional[bytes] = None) -> Ended:
+        """How a run on these words ends."""
+        ran = self.runs.anew(words, given)
+        return ran.status, ran.said + ran.complained, ran.out
 
-    def run(self, words, given=None):
-        """Status, what was said on both outputs, and OUT."""
-        out = self.path("out")
-        if os.path.exists(out):
-            os.remove(out)
-        done = subprocess.run([self.program, *words], input=given, stdout=subprocess.PIPE, stderr=subprocess.PIPE)
-        return done.returncode, done.stdout + done.stderr, content(out) if os.path.exists(out) else None
+    def ends(self, name: str, words: Sequence[str], status: int, said: str, wanted: Optional[bytes]) -> None:
+        """A run on these words ends so, prints this, and leaves this in OUT; without OUT, none is made."""
+        self.count.ends(name, self.runs.anew(words), status, said.encode(), wanted)
 
-    def ends(self, name, words, status, said, wanted):
-        """A run on these words ends so, says this, and leaves this in OUT; without OUT, none is made."""
-        found, told, out = self.run(words)
-        problems = []
-        if found != status:
-            problems.append(f"status {found} in place of {status}")
-        if told != said.encode():
-            problems.append(f"it said {told.decode('utf-8', 'replace')!r} in place of {said!r}")
-        if out != wanted:
-            problems.append(difference(wanted, out))
-        self.judge(name, problems)
-
-    def makes(self, source, options, wanted, said=""):
+    def makes(self, source: str, options: Sequence[str], wanted: Optional[bytes], said: str = "") -> None:
+        """A run with these options makes this of a source."""
         name = " ".join([os.path.relpath(source, EXAMPLES), *options])
         self.ends(name, [source, self.path("out"), *options], 0, said, wanted)
 
-    def put(self, name, data):
-        with open(self.path(name), "wb") as file:
-            file.write(data)
-        return self.path(name)
 
-
-def difference(wanted, found):
-    if wanted is None:
-        return "OUT was made"
-    if found is None:
-        return "OUT is not there"
-    pairs = enumerate(zip(wanted, found))
-    at = next((at for at, (a, b) in pairs if a != b), min(len(wanted), len(found)))
-    return f"OUT differs from byte {at} on: {len(found)} bytes in place of {len(wanted)}"
-
-
-def pages(tries):
+def pages(tries: Tries) -> None:
     """What docs/MIDI_FILE.md shows of a score with an option comes so."""
     with open(os.path.join(TOP, "docs", "MIDI_FILE.md"), encoding="utf-8") as file:
         page = file.read()
@@ -130,7 +87,7 @@ def pages(tries):
     tries.judge("the listing of docs/MIDI_FILE.md", [] if f"```\n{listing}```" in page else ["it is another one"])
 
 
-def changed(chance, data):
+def changed(chance: random.Random, data: bytes) -> tuple[int, bytes]:
     """The place of a change, and the bytes with one of them changed, left out, doubled or taken for the end."""
     place = chance.randrange(len(data))
     way = chance.randrange(4)
@@ -142,7 +99,7 @@ def changed(chance, data):
     return place, data[:place + (way == 2)] + data[place + (way == 3):]
 
 
-def judged(data):
+def judged(data: bytes) -> Ended:
     """Status, line and OUT of a listing by tools/file_model."""
     try:
         return 0, b"", model.listing(model.read(data))
@@ -150,7 +107,7 @@ def judged(data):
         return 3, f"formula: file refused: {fault}\n".encode(), None
 
 
-def damaged(tries, name, data):
+def damaged(tries: Tries, name: str, data: bytes) -> None:
     """Changes of a file are listed, or refused with their first fault."""
     problems, chance = [], random.Random(len(data))
     for _ in range(tries.places):
@@ -162,7 +119,8 @@ def damaged(tries, name, data):
     tries.judge(f"{name}, changed", problems)
 
 
-def listings(tries):
+def listings(tries: Tries) -> None:
+    """Files are listed, or refused."""
     out = tries.path("out")
     for name in within("files", ".hex"):
         file = tries.put("in.mid", bytes_of(name + ".hex"))
@@ -170,8 +128,7 @@ def listings(tries):
         damaged(tries, os.path.relpath(name, EXAMPLES), bytes_of(name + ".hex"))
     for name in within("files/refused", ".hex"):
         file = tries.put("in.mid", bytes_of(name + ".hex"))
-        said = content(name + ".console").decode()
-        tries.ends(os.path.relpath(name, EXAMPLES), [file, out, "--list"], 3, said, None)
+        tries.ends(os.path.relpath(name, EXAMPLES), [file, out, "--list"], 3, content(name + ".console").decode(), None)
     for score, data in scores():
         name = os.path.basename(score)[:-len(".score")]
         wanted = model.listing(model.read(data))
@@ -197,33 +154,33 @@ def listings(tries):
     whole = content(note)
     most = tries.put("most.mid", whole + model.chunk(b"none", bytes(model.MOST_BYTES - len(whole) - 8)))
     tries.makes(most, ["--list"], wanted)
-    with open(most, "ab") as file:
-        file.write(b"\0")
+    with open(most, "ab") as longer:
+        longer.write(b"\0")
     tries.ends("one byte too many", [most, out, "--list"], 3, "formula: file refused: byte 0 fault 35\n", None)
 
 
-def located(tries, score, tick, process, line):
+def located(tries: Tries, score: str, tick: Any, process: Any, line: Optional[str]) -> None:
     """The console is told this line, and OUT is untouched."""
     words = [score, tries.path("out"), "--locate", str(tick), "--process", str(process)]
-    there = line is not None
     name = f"{os.path.relpath(score, EXAMPLES)}, tick {tick} in process {process}"
-    tries.ends(name, words, 0 if there else 7, line + "\n" if there else NO_PROCESS, None)
+    tries.ends(name, words, 7 if line is None else 0, NO_PROCESS if line is None else f"{line}\n", None)
 
 
-def positions(tries):
+def positions(tries: Tries) -> None:
+    """Where ticks are in each process."""
     out = tries.path("out")
     for name in within("positions", ".located"):
         for line in content(name + ".located").decode().splitlines():
-            tick, process, told = re.fullmatch(r"([0-9]+) ([0-9]+): (.*)", line).groups()
+            tick, process, told = re.findall(r"^([0-9]+) ([0-9]+): (.*)$", line)[0]
             located(tries, name + ".score", tick, process, told if told.startswith("process") else None)
     for score, data in scores():
         text, end = content(score), model.read(data).tracks[0][-1].tick
         for number, tick in enumerate((0, 1, end // 3, end // 2 + 1, end, model.LAST_TICK)):
             located(tries, score, tick, number, score_model.located(text, tick, number))
-    text = tries.put("large.score", texts.generated(0))
+    large = tries.put("large.score", texts.generated(0))
     for process in (0, 1, 16, 17, 18):
         line = score_model.located(texts.generated(0), 100_000, process)
-        located(tries, text, 100_000, process, line)
+        located(tries, large, 100_000, process, line)
         said = NO_PROCESS if line is None else line + "\n"
         words = ["none", out, "--generate", "0", "--locate", "100000", "--process", str(process)]
         tries.ends(f"a large score, process {process}", words, 7 if line is None else 0, said, None)
@@ -244,7 +201,8 @@ def positions(tries):
     tries.makes(note, ["--process", "16383"], bytes_of(os.path.join(EXAMPLES, "expected", "one_note.hex")))
 
 
-def parts(tries):
+def parts(tries: Tries) -> None:
+    """Each score with a track for each channel."""
     out = tries.path("out")
     for number, (score, data) in enumerate(scores()):
         file = model.read(data)
@@ -257,11 +215,11 @@ def parts(tries):
         tries.makes(split, ["--list"], model.listing(model.read(wanted)))
     for number in LARGE[:2]:
         file = tries.path("large.mid")
-        said = tries.run(["none", file, "--generate", str(number), "--workers", "0"])[1].decode()
+        printed = tries.run(["none", file, "--generate", str(number), "--workers", "0"])[1].decode()
         whole = model.read(content(file))
         wanted = model.parts(whole.division, *model.events(whole))
-        said = re.sub(r"bytes [0-9]+", f"bytes {len(wanted)}", said)
-        tries.makes("none", ["--parts", "--generate", str(number)], wanted, said)
+        printed = re.sub(r"bytes [0-9]+", f"bytes {len(wanted)}", printed)
+        tries.makes("none", ["--parts", "--generate", str(number)], wanted, printed)
     canon = os.path.join(EXAMPLES, "scores", "canon.score")
     wanted = bytes_of(os.path.join(EXAMPLES, "parts", "canon.hex"))
     status, said, _ = tries.run([canon, "/dev/stdout", "--parts"])
@@ -272,23 +230,24 @@ def parts(tries):
     tries.ends("--parts=1", [canon, out, "--parts=1"], 1, WORDS_REFUSED, None)
 
 
-def is_running(score):
+def is_running(score: str) -> bool:
     """Whether the file of a score has running status: that of version 2 has."""
     text = re.sub(rb"#[^\n]*", b"", content(score))
     return re.match(rb"\s*formula\s+0*2\s*;", text) is not None
 
 
-def cut(begin, until):
+def cut(begin: Any, until: Any) -> list[str]:
     """The words that ask for an excerpt, where None leaves one out."""
     asked = [(name, str(tick)) for name, tick in (("--from", begin), ("--to", until)) if tick is not None]
     return [word for words in asked for word in words]
 
 
-def excerpts(tries):
+def excerpts(tries: Tries) -> None:
+    """Excerpts of each score."""
     out = tries.path("out")
     for name in within("excerpts", ".cuts"):
         for line in content(name + ".cuts").decode().splitlines():
-            begin, until, digits = re.fullmatch(r"([0-9]+|-) ([0-9]+|-): (.*)", line).groups()
+            begin, until, digits = re.findall(r"^([0-9]+|-) ([0-9]+|-): (.*)$", line)[0]
             words = cut(None if begin == "-" else begin, None if until == "-" else until)
             tries.makes(name + ".score", words, bytes.fromhex(digits))
     for number, (score, data) in enumerate(scores()):
@@ -323,7 +282,7 @@ def excerpts(tries):
         tries.ends(" ".join(words), [score, out, *words], 1, WORDS_REFUSED, None)
 
 
-def verdict(record):
+def verdict(record: Optional[bytes]) -> Ended:
     """Status, line and OUT of an audit by tools/core_model."""
     try:
         return 0, b"", core_audit.audit(record)
@@ -331,15 +290,18 @@ def verdict(record):
         return 3, f"formula: record refused: {fault}\n".encode(), None
 
 
-def audited(tries, name, record):
+def audited(tries: Tries, name: str, record: Optional[bytes]) -> None:
     """Changes of a record have the verdict that they should; a changed score is refused, or it is what OUT has."""
+    whole = record_parts.parts(record or b"")
+    if record is None or whole is None:
+        tries.judge(f"{name}, changed", ["it is no record"])
+        return
     problems, chance = [], random.Random(len(record))
-    score = record_parts.parts(record).text
     for _ in range(tries.places):
         place, data = changed(chance, record)
         found = tries.run([tries.put("changed.record", data), tries.path("out"), "--audit"])
         parts = record_parts.parts(data)
-        if parts is None or parts.text == score:
+        if parts is None or parts.text == whole.text:
             wanted = verdict(data)
         elif found[0] == 0:
             file = tries.put("changed.score", parts.text)
@@ -355,7 +317,7 @@ def audited(tries, name, record):
     tries.judge(f"{name}, changed", problems)
 
 
-def recorded(tries, number, score, wanted):
+def recorded(tries: Tries, number: int, score: str, wanted: bytes) -> None:
     """The score is recorded in each schedule, and its records are audited."""
     for way, (workers, room, lead) in enumerate(RECORDED):
         options = ["--workers", str(workers), "--room", str(room), "--lead", str(lead)]
@@ -371,16 +333,17 @@ def recorded(tries, number, score, wanted):
         tries.judge(name, problems)
         if problems:
             continue
-        file = tries.put("in.record", record)
+        file = tries.put("in.record", record or b"")
         tries.ends(f"{name}, audited", [file, tries.path("out"), "--audit"], 0, "", wanted)
         if way == number % len(RECORDED):
-            status, said, out = verdict(record)
-            problems = [f"{said!r}"] if status else [] if out == wanted else [difference(wanted, out)]
+            status, said, made = verdict(record)
+            problems = [f"{said!r}"] if status else [] if made == wanted else [difference(wanted, made)]
             tries.judge(f"{name}, audited by tools/core_model", problems)
         audited(tries, name, record)
 
 
-def records(tries):
+def records(tries: Tries) -> None:
+    """Scores are recorded, and records are audited or refused."""
     out = tries.path("out")
     for name in within("records", ".hex"):
         record, wanted = bytes_of(name + ".hex"), bytes_of(name + ".file")
@@ -388,8 +351,7 @@ def records(tries):
         audited(tries, os.path.relpath(name, EXAMPLES), record)
     for name in within("records/refused", ".hex"):
         file = tries.put("in.record", bytes_of(name + ".hex"))
-        said = content(name + ".console").decode()
-        tries.ends(os.path.relpath(name, EXAMPLES), [file, out, "--audit"], 3, said, None)
+        tries.ends(os.path.relpath(name, EXAMPLES), [file, out, "--audit"], 3, content(name + ".console").decode(), None)
     for number, (score, wanted) in enumerate(scores()):
         recorded(tries, number, score, wanted)
     status, said, whole = tries.run(["none", out, "--generate", "0", "--workers", "0"])
@@ -398,8 +360,8 @@ def records(tries):
     tries.put("large.record", found[2] or b"")
     tries.makes(file, ["--audit", "--generate", "1", "--list", "--workers", "0"], whole)
     score, wanted = next(scores())
-    record = tries.run([score, out, "--record", "--workers", "0", "--locate", "1", "--parts"])[2]
-    tries.judge("with no workers there is one", [] if record and record[4] == 2 else ["the seats are not two"])
+    alone = tries.run([score, out, "--record", "--workers", "0", "--locate", "1", "--parts"])[2]
+    tries.judge("with no workers there is one", [] if alone and alone[4] == 2 else ["the seats are not two"])
     status, said, _ = tries.run([score, "/dev/stdout", "--record"])
     file = tries.put("in.record", said)
     tries.ends("a record that came through a pipe", [file, out, "--audit"], 0, "", wanted)
@@ -418,27 +380,9 @@ def records(tries):
 TASKS = (pages, listings, positions, parts, excerpts, records)
 
 
-def main():
-    head, _, rest = __doc__.split("\n\n")
-    parser = argparse.ArgumentParser(
-        description=head, epilog=rest, formatter_class=argparse.RawDescriptionHelpFormatter)
-    parser.add_argument("--places", type=int, default=2, metavar="N", help="how often each file and record is changed, else 2")
-    parser.add_argument("program", nargs="?", metavar="PROGRAM")
-    words = parser.parse_args()
-    program = words.program or subprocess.run(
-        [os.path.join(TOP, "scripts", "formula"), "--program"], stdout=subprocess.PIPE, text=True).stdout.strip()
-    os.environ.pop("FORMULA", None)
-    if not os.access(program, os.X_OK):
-        print(f"options: there is no program {program}", file=sys.stderr)
-        return 70
-    with tempfile.TemporaryDirectory() as folder:
-        tries = Tries(os.path.abspath(program), folder, words.places)
-        sys.setrecursionlimit(10_000)
-        for task in TASKS:
-            task(tries)
-    print(f"{tries.passed} passed, {tries.failed} failed")
-    return 1 if tries.failed else 0
-
-
-if __name__ == "__main__":
-    sys.exit(main())
+def try_all(program: str, folder: str, count: Count, places: int = 2) -> None:
+    """Tries all of them; each file and record is changed at so many places."""
+    tries = Tries(program, folder, count, places)
+    sys.setrecursionlimit(10_000)
+    for task in TASKS:
+        task(tries)
