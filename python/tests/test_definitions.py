@@ -29,6 +29,27 @@ class Lists(unittest.TestCase):
         self.assertEqual((running.length(more), running.length(more)), (11, 11))
         self.assertEqual(list(more), [0, 1, 2, 3, 4, 5, 1, 2, 3, 4, 5])
 
+    def test_lists_are_equal_by_their_elements(self) -> None:
+        front, back = running.listed([1, 2]), running.listed([3])
+        both = running.joined(front, back)
+        self.assertEqual(both, running.listed([1, 2, 3]))
+        self.assertEqual(running.Pair(0, both), running.Pair(0, both))
+        for other in (front, back, running.NIL, running.listed([1, 2, 4]), running.listed([1, 2, 3, 4]), [1, 2, 3]):
+            self.assertNotEqual(both, other)
+            self.assertNotEqual(other, both)
+
+    def test_functions_of_the_library(self) -> None:
+        library = {name: function for name, (_, function) in running.LIBRARY.items()}
+        numbers = running.listed(range(5))
+        self.assertEqual(list(library["map"](lambda it: it + 1, numbers)), [1, 2, 3, 4, 5])
+        self.assertEqual(list(library["flat_map"](lambda it: running.listed([it] * (it % 3)), numbers)), [1, 2, 2, 4])
+        self.assertEqual(library["count_by"](lambda it: it > 1, numbers), 3)
+        self.assertEqual(library["find"](lambda it: it > 1, numbers), running.some(2))
+        self.assertEqual(library["find"](lambda it: it > 9, numbers), running.NONE)
+        self.assertEqual(running.curried(lambda a, b, c: (a, b, c), 3, 1, 2)(3), (1, 2, 3))
+        self.assertEqual(running.curried(lambda a, b, c: (a, b, c), 3, 1)(2)(3), (1, 2, 3))
+        self.assertEqual(running.curried(lambda a, b, c: (a, b, c), 3)(1)(2)(3), (1, 2, 3))
+
 
 class Plain(unittest.TestCase):
     def test_the_score_of_the_model(self) -> None:

@@ -22,8 +22,9 @@ command_line: Any = importlib.import_module("formula_score.words")
 score_model: Any = importlib.import_module("score_model")
 
 MOST_TEXT, MOST_FILE = 20_000, 8_000
-# The definition of an excerpt goes over all events for each controller of each channel.
-MOST_EVENTS = 200
+# The definition of an excerpt goes over all events for each controller of each channel. Where a run is recorded too, the
+# score may have more of them.
+FEW_EVENTS, MOST_EVENTS = 60, 200
 SCHEDULES = (("--workers", "0"), ("--rounds",), (), ("--workers", "3", "--room", "1", "--lead", "0"))
 # Options, and what may stand behind one.
 OPTIONS = ("workers", "lead", "room", "rounds", "list", "parts", "audit", "record", "locate", "process", "from", "to",
@@ -162,7 +163,7 @@ class Case:
             self.records(mine)
 
     def tokens(self) -> None:
-        mine = [bytes(token.args[0].text).decode() for token in self.definitions.tokens(listed(self.text))]
+        mine = [bytes(token.args[0].text).decode() for token in self.definitions.tokens_of(self.text)]
         self.judge("tokens", mine, {"tools/score_model": score_model.tokens(self.text)})
 
     def lines(self, it: Played, events: Any) -> None:
@@ -177,7 +178,7 @@ class Case:
         self.judge("tracks", (0, b"", definitions.parts_of_score(it)), {"the program": program.run(self.text, "--parts")})
         begin, until = sorted(draw.randrange(it.end + 2) for _ in range(2)) if draw.randrange(4) else (it.end, 0)
         stop = draw.choice((None, until, until))
-        if sum(1 for _ in it.piece) <= MOST_EVENTS:
+        if sum(1 for _ in it.piece) <= (MOST_EVENTS if self.recorded else FEW_EVENTS):
             words = ["--from", str(begin)] + ([] if stop is None else ["--to", str(stop)])
             excerpt = definitions.excerpt_of(it, begin, stop)
             self.judge("excerpt", (0, b"", excerpt), {"the program": program.run(self.text, *words)})

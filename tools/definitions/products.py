@@ -92,6 +92,15 @@ class Fault:
     number: int
 
 
+@dataclass(frozen=True)
+class Read:
+    """A text with its tokens, and its fault or the score that it means."""
+
+    text: bytes
+    tokens: Any
+    verdict: Fault | Record
+
+
 @dataclass
 class Played:
     """An accepted text, as far as the definitions have been run on it."""
@@ -102,6 +111,7 @@ class Played:
     lines: Any
     piece: Any
     end: int
+    file: bytes = b""
 
 
 class NotJudged(Exception):
@@ -114,6 +124,9 @@ class Definitions:
     def __init__(self, repository: Repository):
         self.translator = Translator(repository)
         self.names: dict[str, str] = {}
+        # the last text and the last score that were asked for
+        self.last_read: Read | None = None
+        self.last_played: Played | None = None
         # how many steps of records were gone through
         self.steps = 0
         for name, path in ASKED.items():
@@ -128,6 +141,7 @@ class Definitions:
     def load(self) -> None:
         """Makes the module anew, as after a definition was changed."""
         self.space = run(self.translator.module())
+        self.last_read = self.last_played = None
 
     def __getattr__(self, name: str) -> Any:
         return self.space[self.names[name]]
@@ -144,10 +158,23 @@ class Definitions:
 
     def verdict(self, text: bytes) -> Fault | Record:
         """The fault of a text, or the score that it means."""
-        running.forget()
         if len(text) > MAX_TEXT:
             return Fault(1, 1, self.too_much_text())
-        tokens = self.tokens(listed(text))
+        return self.read(text).verdict
+
+    def tokens_of(self, text: bytes) -> Any:
+        return self.read(text).tokens
+
+    def read(self, text: bytes) -> Read:
+        """A text with what the definitions make of it, once for each text that is asked for again and again."""
+        if self.last_read is None or self.last_read.text != text:
+            running.forget()
+            self.last_read = self.last_played = None
+            tokens = self.tokens(listed(text))
+            self.last_read = Read(text, tokens, self.judged(tokens))
+        return self.last_read
+
+    def judged(self, tokens: Any) -> Fault | Record:
         trips = self.first_fault(tokens)
         form = form_of(tokens)
         spelt = form is not None and self.score_text(form) == tokens
@@ -164,13 +191,20 @@ class Definitions:
         return Fault(fault.spot.line, fault.spot.column, fault.number)
 
     def played(self, score: Record) -> Played:
+        if self.last_played is None or self.last_played.score is not score:
+            self.last_played = self.performed(score)
+        return self.last_played
+
+    def performed(self, score: Record) -> Played:
         resolved = self.resolved(score)
         made = self.score_plays(resolved)
         lines = self.played_lines(resolved)
         return Played(score, resolved, made, lines, self.piece(lines), made.after.position)
 
     def file_of(self, it: Played) -> bytes:
-        return bytes(self.file(self.profile_of(it.score), it.piece, it.end))
+        if not it.file:
+            it.file = bytes(self.file(self.profile_of(it.score), it.piece, it.end))
+        return it.file
 
     def track_of(self, it: Played) -> bytes:
         return bytes(self.track(self.profile_of(it.score), it.piece, it.end))

@@ -5,7 +5,9 @@ is no copy. A record has its fields; any other value has the name of its constru
 from __future__ import annotations
 
 import itertools
+import operator
 from collections.abc import Callable, Iterable, Iterator
+from functools import partial
 from typing import Any
 
 
@@ -22,7 +24,7 @@ class Made:
         self.tag, self.args = tag, args
 
     def __eq__(self, other: object) -> bool:
-        return isinstance(other, Made) and self.tag == other.tag and self.args == other.args
+        return self is other or isinstance(other, Made) and self.tag == other.tag and self.args == other.args
 
     def __hash__(self) -> int:
         return hash((self.tag, self.args))
@@ -38,7 +40,7 @@ class Record:
         self.__dict__.update(fields)
 
     def __eq__(self, other: object) -> bool:
-        return isinstance(other, Record) and self.__dict__ == other.__dict__
+        return self is other or isinstance(other, Record) and self.__dict__ == other.__dict__
 
     def __hash__(self) -> int:
         return hash(tuple(sorted(self.__dict__.items())))
@@ -82,8 +84,14 @@ class Pair:
     def __eq__(self, other: object) -> bool:
         if not isinstance(other, Pair):
             return False
-        end = object()
-        return all(a == b for a, b in itertools.zip_longest(self, other, fillvalue=end))
+        left: Any = self
+        right: Any = other
+        # what is shared is equal
+        while left is not right:
+            if left is NIL or right is NIL or not left.head == right.head:
+                return False
+            left, right = left.tail, right.tail
+        return True
 
     def __hash__(self) -> int:
         return hash(tuple(self))
@@ -94,7 +102,7 @@ class Pair:
 
 def listed(items: Iterable[Any], tail: Any = NIL) -> Any:
     """The list of some items, in front of another list."""
-    for item in reversed(list(items)):
+    for item in reversed(items if isinstance(items, (list, bytes)) else list(items)):
         tail = Pair(item, tail)
     return tail
 
@@ -184,7 +192,7 @@ def curried(function: Callable[..., Any], count: int, *given: Any) -> Any:
     if left == 1 and not given:
         return function
     if left == 1:
-        return lambda last: function(*given, last)
+        return partial(function, *given)
     if left == 2:
         return lambda first: lambda last: function(*given, first, last)
     return lambda argument: curried(function, count, *given, argument)
@@ -224,6 +232,27 @@ def drop(count: int, items: Any) -> Any:
     return items
 
 
+def mapped(function: Callable[[Any], Any], items: Any) -> Any:
+    return listed([function(item) for item in items])
+
+
+def flat_mapped(function: Callable[[Any], Any], items: Any) -> Any:
+    made: list[Any] = []
+    for item in items:
+        inner = function(item)
+        if inner is not NIL:
+            made.extend(inner)
+    return listed(made)
+
+
+def count_by(test: Callable[[Any], bool], items: Any) -> int:
+    count = 0
+    for item in items:
+        if test(item):
+            count += 1
+    return count
+
+
 def slice_index_or(items: Any, index: int, default: Any) -> Any:
     rest = drop(index, items)
     return default if rest is NIL else rest.head
@@ -240,7 +269,10 @@ def slice_set(items: Any, index: int, value: Any) -> Any:
 
 
 def find(test: Callable[[Any], bool], items: Any) -> Made:
-    return next((some(item) for item in items if test(item)), NONE)
+    for item in items:
+        if test(item):
+            return some(item)
+    return NONE
 
 
 def option_map(function: Callable[[Any], Any], value: Made) -> Made:
@@ -299,16 +331,16 @@ def to_bytes(width: int, value: int) -> Any:
 # Each function of the libraries by name: how many arguments it takes, and what it gives.
 LIBRARY: dict[str, tuple[int, Callable[..., Any]]] = {
     "length": (1, length),
-    "map": (2, lambda f, xs: listed(f(x) for x in xs)),
+    "map": (2, mapped),
     "reverse": (1, lambda xs: listed(reversed(list(xs)))),
     "take": (2, lambda n, xs: listed(itertools.islice(xs, n))),
     "drop": (2, drop),
     "replicate": (2, lambda n, x: listed([x] * n)),
     "filter": (2, lambda p, xs: listed(x for x in xs if p(x))),
-    "flat_map": (2, lambda f, xs: listed(y for x in xs for y in f(x))),
+    "flat_map": (2, flat_mapped),
     "list_all": (2, lambda p, xs: all(p(x) for x in xs)),
     "list_any": (2, lambda p, xs: any(p(x) for x in xs)),
-    "count_by": (2, lambda p, xs: sum(1 for x in xs if p(x))),
+    "count_by": (2, count_by),
     "find": (2, find),
     "take_while": (2, lambda p, xs: listed(itertools.takewhile(p, xs))),
     "prefix_len": (2, lambda p, xs: sum(1 for _ in itertools.takewhile(p, xs))),
@@ -336,12 +368,12 @@ LIBRARY: dict[str, tuple[int, Callable[..., Any]]] = {
     "IsSome": (1, lambda o: o.tag == "Some"),
     "IsNone": (1, lambda o: o.tag == "None"),
     "IfSome": (2, lambda o, p: o.tag == "None" or p(o.args[0])),
-    "nat_eq": (2, lambda a, b: a == b),
-    "nat_lt": (2, lambda a, b: a < b),
-    "nat_le": (2, lambda a, b: a <= b),
-    "int_lt": (2, lambda a, b: a < b),
-    "int_le": (2, lambda a, b: a <= b),
-    "int_eq": (2, lambda a, b: a == b),
+    "nat_eq": (2, operator.eq),
+    "nat_lt": (2, operator.lt),
+    "nat_le": (2, operator.le),
+    "int_lt": (2, operator.lt),
+    "int_le": (2, operator.le),
+    "int_eq": (2, operator.eq),
     "int_max": (2, max),
     "int_min": (2, min),
     "max": (2, max),
@@ -352,7 +384,7 @@ LIBRARY: dict[str, tuple[int, Callable[..., Any]]] = {
     "pred": (1, lambda a: max(0, a - 1)),
     "codes": (1, lambda text: listed(map(ord, text))),
     "decimal": (1, lambda n: listed(map(ord, str(n)))),
-    "bytes_eq": (2, lambda a, b: a == b),
+    "bytes_eq": (2, operator.eq),
     "append_known": (2, lambda o, xs: option_map(lambda c: listed(c, xs), o)),
     "prepend_known": (2, lambda xs, o: option_map(lambda c: listed(xs, c), o)),
     "digits_value": (2, digits_value),

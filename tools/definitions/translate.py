@@ -146,6 +146,12 @@ class Translator:
         return head + "\n\n\n".join(text for text in self.made.values() if text) + "\n"
 
 
+def used(lets: list[tuple[str, str]], text: str) -> list[tuple[str, str]]:
+    """What a pattern binds, without what a text does not name."""
+    names = set(re.findall(r"\w+", text))
+    return [(name, value) for name, value in lets if name in names]
+
+
 def block_parameters(block: Block) -> list[str]:
     """The explicit names that a section is given."""
     words, found, at = block.head, [], 0
@@ -244,14 +250,15 @@ class Body:
             inner = "        " if tests else "    "
             if tests:
                 lines.append(f"    if {' and '.join(tests)}:")
-            lines += [f"{inner}{name} = {value}" for name, value in lets]
+            made: list[str] = []
             body = clause.body
             while body.kind == "let":
                 parts: Any = body.parts
-                made = self.term(parts[1], bound)
-                lines += [f"{inner}{name} = {it}" for name, it in self.let_parts(parts[0], made, bound)]
+                value = self.term(parts[1], bound)
+                made += [f"{name} = {it}" for name, it in self.let_parts(parts[0], value, bound)]
                 body = parts[2]
-            lines.append(f"{inner}return {self.term(body, bound)}")
+            made.append(f"return {self.term(body, bound)}")
+            lines += [f"{inner}{it}" for it in (*(f"{name} = {value}" for name, value in used(lets, "\n".join(made))), *made)]
             if not tests:
                 break
         else:
@@ -269,6 +276,10 @@ class Body:
             return
         if pattern.kind == "variable":
             name = pattern.word.parts[0]
+            if value.isidentifier():
+                # an argument needs no other name
+                bound[name] = value
+                return
             bound[name] = local(name)
             lets.append((local(name), value))
         elif pattern.kind == "tuple":
@@ -370,7 +381,8 @@ class Body:
                 inside[pattern.word.parts[0]] = name
             else:
                 self.match(pattern, name, [], lets, inside)
-        made = self.let(lets, self.term(body, inside))
+        made = self.term(body, inside)
+        made = self.let(used(lets, made), made)
         for name in reversed(names):
             made = f"(lambda {name}: {made})"
         return made
@@ -385,7 +397,8 @@ class Body:
             lets: list[tuple[str, str]] = []
             inside = dict(bound)
             self.match(case.patterns[0], value, tests, lets, inside)
-            body = self.let(lets, self.term(case.body, inside))
+            body = self.term(case.body, inside)
+            body = self.let(used(lets, body), body)
             made = f"({body} if {' and '.join(tests) or 'True'} else {made})"
         function = f"(lambda {value}: {made})"
         return f"{function}({self.term(matched, bound)})" if matched else function  # type: ignore[arg-type]
@@ -509,8 +522,11 @@ class Body:
         if name == "negsuc":
             return self.call("(lambda n: -1 - n)", 1, arguments)
         if name in ("Some", "Ok", "Err", "Less", "Equal", "Greater"):
-            count = 1 if name in ("Some", "Ok", "Err") else 0
-            return self.call(f"(lambda *it: Made({name!r}, it))", count, arguments)
+            if name in ("Less", "Equal", "Greater"):
+                return self.translator.plain(name)
+            if len(arguments) == 1:
+                return f"Made({name!r}, ({arguments[0]},))"
+            return self.call(f"(lambda *it: Made({name!r}, it))", 1, arguments)
         plain = name.strip("◌")
         if "◌" in name and plain in OPERATORS:
             return self.call(f"(lambda a, b: {OPERATORS[plain].format('a', 'b')})", 2, arguments)
