@@ -131,7 +131,7 @@ def kept(uses: Uses) -> set[str]:
     made: dict[str, float] = {}
     for name in uses:
         with contextlib.suppress(OSError):
-            made[name] = os.path.getmtime(f"{TOP}/crates/{name}/out/rlib")
+            made[name] = os.path.getmtime(f"{TOP}/crates/{name}/out/rlib/{name}.rlib")
             if max(map(os.path.getmtime, sources_of(name)), default=0.0) > made[name]:
                 del made[name]
     return {name for name in made if all(made.get(crate, math.inf) <= made[name] for crate in all_below(uses, name))}
