@@ -42,18 +42,15 @@ def read_rows() -> dict[str, Row]:
 ROWS = read_rows()
 USES = {name: row.below for name, row in ROWS.items()}
 ORDER = [name for name in ROWS if name != PROGRAM]
-#: What each crate takes alone on one processor, on this machine and on the other one.
-HERE = {name: (row.ended - row.begun) / left.part(row.jobs) for name, row in ROWS.items()}
+#: What each crate takes on this machine and on the other one.
+HERE = {name: row.ended - row.begun for name, row in ROWS.items()}
 ELSEWHERE = {name: row.elsewhere for name, row in ROWS.items()}
 
 
 def another_build(seconds: Mapping[str, float], lanes: int) -> dict[str, Row]:
     """The build on so many processors, where each crate takes so many seconds."""
-    def takes(name: str, jobs: int) -> float:
-        return seconds[name] * left.part(jobs)
-
-    rows = {name: Row(now - takes(name, jobs), now, jobs, 0, USES[name])
-            for now, name, jobs in left.ends(USES, ORDER, lanes, takes)}
+    rows = {name: Row(now - seconds[name], now, jobs, 0, USES[name])
+            for now, name, jobs in left.ends(USES, ORDER, lanes, lambda name: seconds[name])}
     last = max(row.ended for row in rows.values())
     return {**rows, PROGRAM: Row(last, last + seconds[PROGRAM], 1, 0, USES[PROGRAM])}
 
@@ -67,7 +64,7 @@ class Left(unittest.TestCase):
         for name in sorted(ORDER, key=lambda each: build[each].ended):
             now = build[name].ended
             done.add(name)
-            forecast.took(name, build[name].jobs, now - build[name].begun)
+            forecast.took(name, now - build[name].begun)
             running = {other: left.Running(row.jobs, now - row.begun) for other, row in build.items()
                        if row.begun < now and other not in done}
             told = forecast.left(done, running, lanes)
@@ -90,9 +87,9 @@ class Left(unittest.TestCase):
     def test_what_was_proved_before_takes_no_time(self) -> None:
         kept = set(ORDER) - {"fm_top"}
         forecast = left.Forecast(USES, ORDER, PROGRAM, HERE, kept)
-        wanted = HERE["fm_top"] * left.part(4) + HERE[PROGRAM]
+        wanted = HERE["fm_top"] + HERE[PROGRAM]
         self.assertAlmostEqual(forecast.left((), {}, 4), wanted, delta=wanted / 4)
-        forecast.took(ORDER[0], 1, 2)
+        forecast.took(ORDER[0], 2)
         self.assertAlmostEqual(forecast.left(ORDER[:1], {}, 4), wanted, delta=wanted / 4)
 
     def test_the_table_has_each_crate_of_the_program(self) -> None:

@@ -9,8 +9,8 @@ copies of their sources, the lanes, in fm_main/out. What each proof leaves is mo
 work that a later proof begins with. The other lanes get the library. Before rt uses a library it compares the sources
 with those that the library was made from. If a check is killed, the build continues with one crate at a time.
 
-What rt prints goes to standard output. A line for each crate goes to standard error, with the time left as
-tools/gate/seconds.txt predicts it. The status is 0, or that of the rt that failed.
+What rt prints goes to standard output, below a line with the seconds of the crate. A line for each crate goes to
+standard error, with the time left as tools/gate/seconds.txt predicts it. The status is 0, or that of the rt that failed.
 
 A build that was interrupted continues with the crates that are not proved. If it was killed, the next one first ends the
 checks that are still at work in the lanes, and moves what they left to the checkout."""
@@ -131,7 +131,7 @@ def kept(uses: Uses) -> set[str]:
     made: dict[str, float] = {}
     for name in uses:
         with contextlib.suppress(OSError):
-            made[name] = os.path.getmtime(f"{TOP}/crates/{name}/out/rlib")
+            made[name] = os.path.getmtime(f"{TOP}/crates/{name}/out/rlib/{name}.rlib")
             if max(map(os.path.getmtime, sources_of(name)), default=0.0) > made[name]:
                 del made[name]
     return {name for name in made if all(made.get(crate, math.inf) <= made[name] for crate in all_below(uses, name))}
@@ -176,6 +176,11 @@ def prove(checks: Checks, proof: Proof) -> tuple[int, str]:
             os.rename(there, here)
 
 
+def show(crate: str, seconds: float, jobs: int, printed: str) -> None:
+    """Prints what rt printed of a crate, below a line with its seconds and on how many processors it was proved."""
+    print(f"== {crate} {seconds:.0f} s, jobs: {jobs}\n{printed}", end="", flush=True)
+
+
 def tell(crate: str, left: int, seconds: Optional[float] = None) -> None:
     """Prints that a crate is done, how many are left, and how long these take."""
     after = "" if seconds is None else f", {in_words(seconds)}"
@@ -206,7 +211,7 @@ def prove_all(checks: Checks, uses: Uses, lanes: list[str]) -> int:
                 proof = at_work.pop(ended)
                 status, printed = ended.result()
                 now = time.monotonic()
-                print(f"== {proof.crate} {now - proof.begun:.0f} s, jobs: {proof.jobs}\n{printed}", end="", flush=True)
+                show(proof.crate, now - proof.begun, proof.jobs, printed)
                 idle.append(proof.lane)
                 if status == KILLED and at_once > 1:
                     left.insert(0, proof.crate)
@@ -217,7 +222,7 @@ def prove_all(checks: Checks, uses: Uses, lanes: list[str]) -> int:
                     return status
                 done.add(proof.crate)
                 hand_on(proof.crate, lanes)
-                forecast.took(proof.crate, proof.jobs, now - proof.begun)
+                forecast.took(proof.crate, now - proof.begun)
                 running = {other.crate: Running(other.jobs, now - other.begun) for other in at_work.values()}
                 tell(proof.crate, len(uses) - len(done), forecast.left(done, running, at_once))
     return 0
@@ -300,8 +305,9 @@ def main() -> int:
     if status:
         return status
     # It is run without words, which it refuses: only the program tells whether it was built.
+    begun = time.monotonic()
     _, printed = checks.run(f"{TOP}/crates/{PROGRAM}", "run")
-    print(f"== {PROGRAM}\n{printed}", end="", flush=True)
+    show(PROGRAM, time.monotonic() - begun, 1, printed)
     if not os.path.isfile(f"{TOP}/crates/{PROGRAM}/out/{PROGRAM}"):
         return 1
     tell(PROGRAM, 0)

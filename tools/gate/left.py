@@ -15,9 +15,6 @@ KEPT = 10
 # The most processors that a crate gets: more gain nothing.
 MOST = 4
 
-# The part of a proof that gets no shorter by a second processor.
-ALONE = 0.75
-
 # A table of so many seconds of proofs counts as much as what crates have taken in this build.
 TABLE = 15
 
@@ -49,23 +46,18 @@ def shares(ready: Sequence[str], free: int) -> Iterator[tuple[str, int]]:
         yield name, jobs
 
 
-def part(jobs: int) -> float:
-    """Returns the part of its time that a proof takes on so many processors."""
-    return ALONE + (1 - ALONE) / jobs
-
-
-def ends(uses: Uses, order: Sequence[str], lanes: int, takes: Callable[[str, int], float], done: Collection[str] = (),
+def ends(uses: Uses, order: Sequence[str], lanes: int, takes: Callable[[str], float], done: Collection[str] = (),
          at_work: Mapping[str, Running] = {}) -> Iterator[tuple[float, str, int]]:
     """Returns when each crate that is left is done, and its processors, as build.py proves them in this order."""
     done, now = set(done), 0.0
     left = [name for name in order if name not in done and name not in at_work]
     jobs = {name: run.jobs for name, run in at_work.items()}
-    end = {name: max(takes(name, run.jobs) - run.since, run.since * LONGER) for name, run in at_work.items()}
+    end = {name: max(takes(name) - run.since, run.since * LONGER) for name, run in at_work.items()}
     while left or end:
         ready = [name for name in left if done.issuperset(uses[name])]
         for name, share in shares(ready, lanes - sum(jobs.values())):
             left.remove(name)
-            jobs[name], end[name] = share, now + takes(name, share)
+            jobs[name], end[name] = share, now + takes(name)
         first = min(end, key=lambda name: end[name])
         now = end.pop(first)
         done.add(first)
@@ -73,7 +65,9 @@ def ends(uses: Uses, order: Sequence[str], lanes: int, takes: Callable[[str, int
 
 
 class Forecast:
-    """Tells the time left, by how fast the crates of this build have been."""
+    """Tells the time left, by how fast the crates of this build have been.
+
+    A crate takes as long on four processors as on one: each check first loads all that the crate stands on."""
 
     def __init__(self, uses: Uses, order: Sequence[str], program: str, seconds: Mapping[str, float],
                  kept: Collection[str] = ()) -> None:
@@ -81,24 +75,24 @@ class Forecast:
         self.uses, self.order, self.program, self.seconds, self.kept = uses, order, program, seconds, kept
         self.taken = self.foretold = float(TABLE)
 
-    def by_table(self, name: str, jobs: int) -> float:
+    def by_table(self, name: str) -> float:
         """Returns how many seconds a crate takes on the machine of the table."""
-        return self.seconds.get(name, UNKNOWN) * part(jobs)
+        return self.seconds.get(name, UNKNOWN)
 
-    def takes(self, name: str, jobs: int) -> float:
+    def takes(self, name: str) -> float:
         """Returns how many seconds a crate takes in this build."""
-        return COMPARED if name in self.kept else self.by_table(name, jobs) * self.taken / self.foretold
+        return COMPARED if name in self.kept else self.by_table(name) * self.taken / self.foretold
 
-    def took(self, name: str, jobs: int, seconds: float) -> None:
+    def took(self, name: str, seconds: float) -> None:
         """Notes how long a crate took. One that took next to nothing was there from an earlier build."""
-        if name not in self.kept and seconds >= self.takes(name, jobs) / KEPT:
+        if name not in self.kept and seconds >= self.takes(name) / KEPT:
             self.taken += seconds
-            self.foretold += self.by_table(name, jobs)
+            self.foretold += self.by_table(name)
 
     def left(self, done: Collection[str], at_work: Mapping[str, Running], lanes: int) -> float:
         """Returns how many seconds are left, where these crates are done and these are at work."""
         *_, (end, _, _) = [(0.0, "", 0), *ends(self.uses, self.order, lanes, self.takes, done, at_work)]
-        return end + self.takes(self.program, 1)
+        return end + self.takes(self.program)
 
 
 def in_words(seconds: float) -> str:
