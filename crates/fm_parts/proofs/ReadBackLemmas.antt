@@ -28,7 +28,7 @@ use Rattle.fm_read.proofs.Messages.{track_decoded, track_end}
 use Rattle.fm_read.proofs.TrackWritten.{events_written, end_written, track_written}
 use Rattle.fm_parts.specs.Format1.{is_on_channel, on_channel, track_behind, tempo_track, track_of, numbers, channel_tracks, track_chunk, format1_header, all_tracks, format1}
 use Rattle.fm_parts.specs.ReadBack.{parts_contents, heard, heard_of, all_heard}
-use Rattle.fm_parts.proofs.Rising.{rises_filter, track_small}
+use Rattle.fm_parts.proofs.Rising.{RisesTo, rises_filter, track_small}
 use Rattle.fm_parts.proofs.WrittenBounds.{bounds}
 
 -- ---- bodies that are read

@@ -21,6 +21,7 @@ file_of profile score =
     let m = score_plays score in file profile (sorted (events_of (length m.after.births) m.marks)) m.after.position
 
 -- the tokens of the text say how the file of a score is written and what it plays, and these are the bytes of that file
+-- (a text has at most one such file: `each_text_is_one_file`)
 pub record IsFileOf (text bytes : List ℕ) : Type 0 where
   pub profile : Profile
   pub score : Resolved

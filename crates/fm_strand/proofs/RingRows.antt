@@ -1,5 +1,5 @@
 -- The worked plan of notes that overlap fits.
-use Rattle.std.proofs.Common.{arith, ◌≡◌, refl, sym, ◌∙◌, ap, subst, List, [], ◌∷◌, map}
+use Rattle.std.proofs.Common.{arith, false, ◌≡◌, refl, sym, ◌∙◌, ap, subst, List, [], ◌∷◌, map}
 use Rattle.fm_msg.specs.declared.profile.Profile.{Profile}
 use Rattle.fm_line.specs.Line.{total}
 use Rattle.fm_program.specs.declared.program.Program.{Program}

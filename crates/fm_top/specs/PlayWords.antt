@@ -4,7 +4,8 @@ use Rattle.fm_words.specs.Asked.{flagged, numbered}
 use Rattle.fm_words.specs.Rules.{Choice, keeps_rules, parts_of}
 use Rattle.fm_words.specs.declared.limits.TheConstants.{MAX_LEAD, MAX_PROCESS, MAX_ROOM, MAX_WORKERS, MIN_ROOM}
 
--- the options that say how a score is played, and not what else is done
+-- the options that say how a score is played, and not what else is done; the file of a text is defined without them, so
+-- none of them changes a byte of it
 abbrev pub play_options : List Choice
 play_options = numbered (codes "workers") 0 MAX_WORKERS
     ∷ numbered (codes "lead") 0 MAX_LEAD
