@@ -64,7 +64,7 @@ class Prose(unittest.TestCase):
     def test_the_readme_of_a_crate(self) -> None:
         for text, told in (("x\n" * 61, "61 lines"), ("x" * 161, "a line of 161 characters"), ("It stood there.\n", "`stood` means")):
             self.assertIn(told, "\n".join(it.told for it in plain.faults_of_readme(text)), text)
-        self.assertEqual(plain.faults_of_readme(("x" * 160 + "\n") * 60), [])
+        self.assertEqual(plain.faults_of_readme(("- " + "x" * 157 + ".\n") * 60), [])
 
 
 class Options(unittest.TestCase):

@@ -1,8 +1,8 @@
 """Whether pages are in plain English: how long their sentences and the cells of their tables are, and words that mean too much.
 
 The pages of HELD keep the limits, and so do the beginnings of those of HELD_TO. Those of NOT_YET do not yet: they are
-measured, and not judged. A page that is rewritten goes from one list to the other. The README of a crate has limits of
-its own."""
+measured, and not judged. A page that is rewritten goes from one list to the other. The README of a crate keeps them, and
+limits of its own."""
 
 from __future__ import annotations
 
@@ -90,13 +90,13 @@ def measure(page: str) -> Measure:
 
 
 def faults_of_readme(page: str) -> list[Fault]:
-    """What is wrong with a crate's README: too many lines, long ones, and vague words."""
+    """What is wrong with a crate's README: too many lines, long ones, and what is wrong with any page."""
     lines = page.removesuffix("\n").split("\n")
     found = [Fault(number, f"a line of {len(line)} characters: {line[:50]}..") for number, line in enumerate(lines, 1)
              if len(line) > MOST_OF_A_LINE]
     if len(lines) > MOST_LINES:
         found.insert(0, Fault(1, f"{len(lines)} lines"))
-    return found + [fault for passage in passages(page) for fault in _vague_in(passage)]
+    return found + faults_of(page)
 
 
 def _judged_text(top: pathlib.Path, name: str) -> str:
