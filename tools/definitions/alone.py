@@ -17,7 +17,8 @@ import subprocess
 import sys
 
 sys.dont_write_bytecode = True
-from notation import File, Named, NotRead, Uses, names_in_item, parameters_of, parts_of  # noqa: E402
+from free_names import Named, Uses, names_in_item  # noqa: E402
+from notation import File, NotRead, parameters_of, parts_of  # noqa: E402
 from page import heads  # noqa: E402
 from repository import Needed, Repository, Target  # noqa: E402
 from statement import Statement, statement_of, text_of  # noqa: E402

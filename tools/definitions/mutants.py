@@ -12,8 +12,9 @@ from typing import Any
 
 from notation import Item, NotRead, Word, signature_of
 from repository import Repository, Target
+from sizes import says_only
 from terms import Clause, Pattern, Term
-from translate import Translator, says_only
+from translate import Translator
 
 # What stands for what.
 OTHER = {

@@ -14,7 +14,8 @@ import running
 from forms import form_of
 from repository import Repository, Target
 from running import Made, Record, listed
-from translate import Translator, global_name, run
+from sizes import global_name
+from translate import Translator, run
 
 # The definitions that are asked, by the name under which they are here.
 ASKED = {

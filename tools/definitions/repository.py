@@ -8,10 +8,9 @@ import shutil
 from dataclasses import dataclass, field
 from functools import cached_property
 
+from free_names import Named, Uses, names_in_item
+from notation import Block, File, Import, Item, NotRead, Reader, Word, parameters_of, parts_of
 from rust import CodeFile, CodeItem, code_files
-from notation import (
-    Block, File, Import, Item, Named, NotRead, Reader, Uses, Word, names_in_item, parameters_of, parts_of,
-)
 
 # What the notation itself brings.
 BUILT_IN = frozenset("Unit tt absurd ⊥ ¬ IsProp IsSet Dec yes no search grind cc rw simp omega refl ℓ ∥◌∥₁".split())

@@ -15,8 +15,9 @@ from typing import Any
 sys.dont_write_bytecode = True
 from notation import File, Item, NotRead, Word, groups_of, is_row, signature_of  # noqa: E402
 from repository import Repository, Target, kit_of, row_files  # noqa: E402
+from sizes import local  # noqa: E402
 from terms import Parser, Term  # noqa: E402
-from translate import Body, Translator, local, run  # noqa: E402
+from translate import Body, Translator, run  # noqa: E402
 
 TOP = os.path.dirname(os.path.dirname(os.path.dirname(os.path.abspath(__file__))))
 

@@ -7,7 +7,8 @@ import os
 from collections import defaultdict
 from dataclasses import dataclass, field
 
-from notation import Block, File, Item, NotRead, Uses, is_row, names_in_signature
+from free_names import Uses, names_in_signature
+from notation import Block, File, Item, NotRead, is_row
 from repository import Needed, Repository, Target, row_files
 from rust import Clause, Function, code_files
 

@@ -5,15 +5,16 @@ it becomes a test where a row or a definition asks for it and it is made of equa
 Whatever else is not known ends the translation with file and line."""
 from __future__ import annotations
 
-import keyword
-import re
 from typing import Any
 
 import running
-from notation import Block, File, Item, NotRead, Word, is_row, signature_of
+from notation import File, Item, NotRead, Word, is_row
+from patterns import Patterns, used
 from repository import Repository, Target
 from running import LIBRARY
-from rust import CodeItem
+from sizes import (
+    block_parameters, constant, constructor_size, global_name, label_of, local, safe, says_only, variant_size,
+)
 from terms import FIXITY, Clause, Parser, Pattern, Term
 
 OPERATORS = {
@@ -24,38 +25,6 @@ OPERATORS = {
 }
 # Constructors that are values of Python's own.
 PLAIN = {"zero": "0", "true": "True", "false": "False", "[]": "NIL", "tt": "()", "None": "NONE", "Unit": "True", "⊥": "False"}
-
-
-def safe(name: str) -> str:
-    """A name as Python takes it."""
-    made = "".join(sign if sign.isascii() and (sign.isalnum() or sign == "_") else f"_{ord(sign):x}" for sign in name)
-    return f"{made}_" if keyword.iskeyword(made) else made
-
-
-def local(name: str) -> str:
-    return f"v_{safe(name)}"
-
-
-def label_of(name: str) -> str:
-    return f"[{name}]" if name.isdigit() else f".{safe(name)}"
-
-
-def global_name(target: Target) -> str:
-    module = target.module.removeprefix("Rattle.").replace(".specs.", ".").replace(".proofs.", ".")
-    return safe(f"{module}__{target.name}".replace(".", "_"))
-
-
-def says_only(item: Item) -> bool:
-    """Whether the value of a definition is a type."""
-    behind, unfolded, _ = signature_of(item)
-    depth, last = 0, ""
-    for word in item.words[behind + 1:unfolded]:
-        depth += (word.text in "({[") - (word.text in ")}]") if len(word.text) == 1 else 0
-        if word.text == "→" and depth == 0:
-            last = ""
-        elif not last:
-            last = word.text
-    return last == "Type"
 
 
 class Translator:
@@ -146,95 +115,13 @@ class Translator:
         return head + "\n\n\n".join(text for text in self.made.values() if text) + "\n"
 
 
-def used(lets: list[tuple[str, str]], text: str) -> list[tuple[str, str]]:
-    """What a pattern binds, without what a text does not name."""
-    names = set(re.findall(r"\w+", text))
-    return [(name, value) for name, value in lets if name in names]
-
-
-def block_parameters(block: Block) -> list[str]:
-    """The explicit names that a section is given."""
-    words, found, at = block.head, [], 0
-    while at < len(words):
-        if words[at].text == "(":
-            at += 1
-            while words[at].text != ":":
-                found.append(words[at].text)
-                at += 1
-            depth = 1
-            while depth:
-                depth += (words[at].text == "(") - (words[at].text == ")")
-                at += 1
-        else:
-            at += 1
-    return found if block.kind == "module" else []
-
-
-def constructor_size(item: Item, name: str) -> int:
-    """The number of explicit arguments of a constructor of a `data`."""
-    line = item.constructors[name]
-    at = next(k for k, word in enumerate(item.words) if word.line == line and word.parts[-1] == name)
-    while item.words[at].text != ":":
-        at += 1
-        if at == len(item.words):
-            return 0
-    column = next(word.column for word in item.words if word.line == line)
-    depth, count, k = 0, 0, at + 1
-    while k < len(item.words) and (item.words[k].line == line or item.words[k].column > column):
-        text = item.words[k].text
-        if text == "(" and depth == 0 and names_before_colon(item.words, k):
-            count += names_before_colon(item.words, k) - 1
-        if text == "{" and depth == 0:
-            count -= 1
-        depth += (text in "({") - (text in ")}") if len(text) == 1 else 0
-        if text == "→" and depth == 0:
-            count += 1
-        elif text in ("(", "{") and depth == 1 and item.words[k - 1].text in (")", "}") and k > at + 1:
-            # `(x : A) (y : B) →`
-            count += 1
-        k += 1
-    return count
-
-
-def names_before_colon(words: list[Word], at: int) -> int:
-    """How many names `(x y : A)` binds; 0 where the bracket holds something else."""
-    k = at + 1
-    while words[k].kind == "name" and words[k].text not in (":", "→"):
-        k += 1
-    return k - at - 1 if words[k].text == ":" else 0
-
-
-def variant_size(item: CodeItem, name: str) -> int:
-    """The number of fields of a variant of an enum, or of a struct."""
-    text = re.sub(r"//.*", "", item.text)
-    match = re.search(rf"^ *{name}\b *([({{])?", text[text.index("{"):], re.M)
-    if match is None:
-        raise NotRead(f"{item.path}:{item.first}: no variant {name}")
-    if not match[1]:
-        return 0
-    inner = text[text.index("{") + match.end():]
-    depth, count, filled = 1, 0, False
-    for sign in inner:
-        depth += (sign in "({[<") - (sign in ")}]>")
-        if depth == 0:
-            break
-        if sign == "," and depth == 1:
-            count, filled = count + 1, False
-        elif not sign.isspace():
-            filled = True
-    return count + filled
-
-
-class Body:
+class Body(Patterns):
     """One definition on its way to Python; its clauses may be others than those of its file."""
 
     def __init__(self, translator: Translator, file: File, item: Item, target: Target, clauses: list[Clause] | None = None):
-        self.translator, self.file, self.item, self.target = translator, file, item, target
+        super().__init__(translator.repository, file)
+        self.translator, self.item, self.target = translator, item, target
         self.clauses = clauses
-        self.fresh = 0
-
-    def refuse(self, word: Word, why: str) -> NotRead:
-        return NotRead(f"{self.file.path}:{word.line}: {why}: {word.text}")
 
     def text(self) -> str:
         item, fixed = self.item, self.translator.parameters(self.file, self.item)
@@ -267,58 +154,6 @@ class Body:
         place = f"    # {self.file.path}:{item.start}"
         kept = [f"@kept{len(names)}"] if len(names) < 2 else []
         return "\n".join([*kept, f"def {global_name(self.target)}({', '.join(names)}):", place, *lines])
-
-    # ---- patterns
-
-    def match(self, pattern: Pattern, value: str, tests: list[str], lets: list[tuple[str, str]], bound: dict[str, str]) -> None:
-        """Adds the tests of a pattern and what it binds."""
-        if pattern.kind == "any":
-            return
-        if pattern.kind == "variable":
-            name = pattern.word.parts[0]
-            if value.isidentifier():
-                # an argument needs no other name
-                bound[name] = value
-                return
-            bound[name] = local(name)
-            lets.append((local(name), value))
-        elif pattern.kind == "tuple":
-            for k, part in enumerate(pattern.parts):
-                self.match(part, f"{value}[{k}]", tests, lets, bound)
-        elif pattern.kind == "record":
-            for label, part in zip(pattern.labels, pattern.parts, strict=True):
-                self.match(part, f"{value}{label_of(label)}", tests, lets, bound)
-        else:
-            self.match_constructor(pattern, value, tests, lets, bound)
-
-    def match_constructor(self, pattern: Pattern, value: str, tests: list[str], lets: list[tuple[str, str]],
-                          bound: dict[str, str]) -> None:
-        name, parts = pattern.word.parts[-1], pattern.parts
-        known: dict[str, tuple[str, list[str]]] = {
-            "zero": (f"{value} == 0", []), "suc": (f"{value} > 0", [f"({value} - 1)"]),
-            "true": (value, []), "false": (f"not {value}", []), "tt": ("True", []),
-            "[]": (f"{value} is NIL", []), "∷": (f"{value} is not NIL", [f"{value}.head", f"{value}.tail"]),
-            "pos": (f"{value} >= 0", [value]), "negsuc": (f"{value} < 0", [f"(-1 - {value})"]),
-        }
-        own = self.resolved(pattern.word) if name not in known else None
-        if own is None and name in known:
-            test, values = known[name]
-        else:
-            test, values = f"{value}.tag == {name!r}", [f"{value}.args[{k}]" for k in range(len(parts))]
-        tests.append(test)
-        for part, inner in zip(parts, values, strict=True):
-            self.match(part, inner, tests, lets, bound)
-
-    def let_parts(self, pattern: Pattern, value: str, bound: dict[str, str]) -> list[tuple[str, str]]:
-        if pattern.kind == "variable":
-            name = pattern.word.parts[0]
-            bound[name] = local(name)
-            return [(local(name), value)]
-        self.fresh += 1
-        whole = f"t{self.fresh}"
-        lets: list[tuple[str, str]] = []
-        self.match(pattern, whole, [], lets, bound)
-        return [(whole, value), *lets]
 
     # ---- terms
 
@@ -413,9 +248,6 @@ class Body:
         return OPERATORS[term.word.text].format(left, right)
 
     # ---- names
-
-    def resolved(self, word: Word) -> Target | None:
-        return self.translator.repository.resolve(self.file, tuple(word.parts), word.line)
 
     def applied(self, head: Term, arguments: list[Term], bound: dict[str, str]) -> str:
         made = [self.term(it, bound) for it in arguments]
@@ -536,20 +368,6 @@ class Body:
         if name not in LIBRARY:
             raise self.refuse(word, f"a name of {target.module} that is not known to compute")
         return self.call(f"L_{safe(name)}", LIBRARY[name][0], arguments)
-
-
-def constant(repository: Repository, crate: str, name: str) -> int:
-    """The value of a constant of the code."""
-    item = repository.code(crate)[name]
-    match = re.search(r"=\s*(.*);", item.text.split("\n")[-1])
-    if match is None:
-        raise NotRead(f"{item.path}:{item.first}: a constant of another form")
-    text = re.sub(r"\bas \w+", "", match[1])
-    needed = repository.code_needed(Target("code", crate, name)).names
-    names = {it.name: constant(repository, it.module, it.name) for it in needed if it.kind == "code"}
-    if not re.fullmatch(r"[\w\s+*<>()-]*", text):
-        raise NotRead(f"{item.path}:{item.first}: a constant of another form: {text}")
-    return int(eval(text, {"__builtins__": {}}, dict(names)))
 
 
 def run(text: str) -> dict[str, Any]:

@@ -34,8 +34,9 @@ from notation import NotRead  # noqa: E402
 from repository import Repository, Target, kit_of, row_files  # noqa: E402
 from rows import TOP, Rows  # noqa: E402
 from scores import Scores  # noqa: E402
+from sizes import global_name  # noqa: E402
 from statement import named_in_row, statement_of  # noqa: E402
-from translate import Body, Translator, global_name, run  # noqa: E402
+from translate import Body, Translator, run  # noqa: E402
 
 
 # Changes that leave a definition as it is: what no row and no score finds is looked up here, with the reason.

@@ -9,9 +9,10 @@ from . import marks, meter as meters
 from .marks import Finding
 from .meter import Meter
 from .playing import judge
-from .reading import Phrase, Reading, Statement, read
+from .reading import read
 from .structure import Section, Span, Structure, sections
 from .ticks import agreed, happening_at, position_at, spots_at, ticks_of
+from .tree import Phrase, Reading, Statement
 from .walk import Happening, Place, Played, Process
 
 _SHOWN = 6

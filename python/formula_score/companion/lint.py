@@ -9,7 +9,8 @@ from typing import Iterator, Optional
 from ..expected import MOST_WAITING, outside
 from .marks import Finding
 from .playing import judge
-from .reading import Reading, Statement, read
+from .reading import read
+from .tree import Reading, Statement
 from .walk import Entries, Happening, Place, Walk, parts_of, tick_of
 
 #: Stretches that read like beats a minute; the least of them is still three times as fast as written.

@@ -12,8 +12,8 @@ from bisect import bisect_right
 from typing import Iterable, NamedTuple, Optional
 
 from .meter import Meter
-from .reading import Comment, Phrase, Reading, Statement
 from .structure import Sequence, Span, Structure, sequences
+from .tree import Comment, Phrase, Reading, Statement
 from .walk import Place
 
 _BARS = re.compile(r"bars?\s+([0-9]{1,6})(?:\s*(to|-|–|and|,)\s*([0-9]{1,6}))?(?![0-9/])", re.IGNORECASE)

@@ -16,8 +16,9 @@ from .drawing import Rule, bars, drawn, piece_of, quarters
 from .meter import Meter
 from .midi_file import save
 from .playing import Failed, Listing, listed, listing_of_file, must_differ, needs, run as play, text_of
-from .reading import Reading, read
+from .reading import read
 from .ticks import spots_of, ticks_of
+from .tree import Reading
 from .walk import Played
 
 _LOOK = 0.2  # seconds between two looks at a score that is followed

@@ -4,7 +4,7 @@ from __future__ import annotations
 
 from typing import Callable, Iterable, NamedTuple, Optional, Union
 
-from .reading import Block, Comment, Phrase, Reading, Statement
+from .tree import Block, Comment, Phrase, Reading, Statement
 from .walk import Happening, Place, Walk
 
 

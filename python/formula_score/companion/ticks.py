@@ -12,7 +12,8 @@ from typing import Iterator, Optional, Sequence
 
 from ..shapes import Part
 from .playing import Failed, listing_of, located
-from .reading import Reading, read
+from .reading import read
+from .tree import Reading
 from .walk import Happening, Level, Played, tick_of
 
 _ROWS = 1000             # in one score: each is a process

@@ -11,7 +11,7 @@ from typing import Callable, NamedTuple, Optional, Union
 
 from ..expected import DEFAULT_GATE, DEFAULT_VELOCITY, RELEASE_VELOCITY, Event, Made, come_out, outside
 from ..shapes import Curve
-from .reading import Amount, Block, Computed, Expression, Length, Phrase, Reading, Shape, Statement
+from .tree import Amount, Block, Computed, Expression, Length, Phrase, Reading, Shape, Statement
 
 _LIMIT = 1_000_000
 _WORD = 2 ** 64

@@ -5,7 +5,7 @@ from __future__ import annotations
 from typing import Iterator, NamedTuple, Optional
 
 from ..companion.marks import bars_of
-from ..companion.reading import Block, Reading, Statement
+from ..companion.tree import Block, Reading, Statement
 from ..companion.walk import Place, Played
 from ..midi import INSTRUMENTS
 from .axis import Heard

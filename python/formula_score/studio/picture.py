@@ -19,8 +19,9 @@ from ..companion.bars import process_name, ring
 from ..companion.drawing import bars as rules_of
 from ..companion.meter import Meter, groups_of, part_of
 from ..companion.playing import Failed, located, needs, run
-from ..companion.reading import Reading, read
+from ..companion.reading import read
 from ..companion.ticks import Spot, positions_at, spots_of, ticks_of
+from ..companion.tree import Reading
 from ..companion.walk import Happening, Level, Played, messages_of, tick_of
 from ..editing.places import Places
 from ..expected import come_out
