@@ -11,7 +11,8 @@ from proved import STRANGE, files_below, page
 OWN = "lib/formula", "share/doc/rosetrowel", "share/formula"
 PROGRAM, PAGE, LIBRARY = "lib/formula/formula", "lib/formula/proved.txt", "lib/formula/python/formula_score"
 PAGES = "README.md", "CHANGELOG.md", "COPYING"
-LEFT_OUT = {"__pycache__", ".mypy_cache"}
+#: Names of folders that are not installed: `releases` is for the tests alone.
+LEFT_OUT = {"__pycache__", ".mypy_cache", "releases"}
 
 
 class File(NamedTuple):

@@ -21,7 +21,7 @@ MOST_LINES, MOST_OF_A_LINE = 60, 160
 HELD = ("README.md", "docs/PROOF.md", "docs/POSITIONS.md", "docs/MIDI_FILE.md", "docs/SCHEDULER.md", "docs/RECORDS.md",
         "docs/ARCHITECTURE.md", "CONTRIBUTING.md", "docs/GUARANTEES.md", "docs/CLAIMS.md", "docs/TUTORIAL.md", "docs/STUDIO.md",
         "docs/GLOSSARY.md", "docs/LANGUAGE.md", "python/README.md", "python/COOKBOOK.md", "editors/README.md",
-        "examples/README.md")
+        "examples/README.md", "examples/releases/README.md")
 NOT_YET = ("docs/SLIPS.md", "CHANGELOG.md")
 
 #: Pages of which the beginning keeps the limits, each with the heading at which it ends. An entry of DECISIONS is never changed.
@@ -111,7 +111,7 @@ def judged(top: pathlib.Path) -> list[str]:
                 for fault in faults_of(_judged_text(top, name))]
     problems += [f"{path.relative_to(top)}:{fault.line}: {fault.told}" for path in sorted(top.glob("crates/*/README.md"))
                  for fault in faults_of_readme(path.read_text(encoding="utf-8"))]
-    there = {path.relative_to(top).as_posix() for folder in (".", "docs", "python", "editors", "examples")
+    there = {path.relative_to(top).as_posix() for folder in (".", "docs", "python", "editors", "examples", "examples/releases")
              for path in (top / folder).glob("*.md")}
     listed = {*HELD, *HELD_TO, *NOT_YET}
     problems += [f"{name}: tools/pages/plain.py names it in no list" for name in sorted(there - listed)]
