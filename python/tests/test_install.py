@@ -12,6 +12,8 @@ import tempfile
 import unittest
 from typing import Any
 
+from formula_score import __version__
+
 from .program import PROGRAM, TOP, needs_program
 
 sys.path.insert(0, str(TOP / "tools" / "package"))
@@ -87,6 +89,25 @@ class Packaged(unittest.TestCase):
         said = {subprocess.run([sys.executable, "-B", "-W", "ignore", "-c", shown], cwd=TOP, stdout=subprocess.PIPE, check=True,
                                env={**os.environ, "TZ": zone}).stdout for zone in ("UTC", "Asia/Tokyo", "America/Lima")}
         self.assertEqual(len(said), 1, said)
+
+    def test_only_the_commit_that_makes_a_release_has_its_number(self) -> None:
+        with tempfile.TemporaryDirectory() as folder:
+            env = {**os.environ, **{f"GIT_{who}_{what}": "a@b" for who in ("AUTHOR", "COMMITTER") for what in ("NAME", "EMAIL")}}
+            shown = ("import importlib.machinery as m, pathlib; package = m.SourceFileLoader('package', 'scripts/package').load_module();"
+                     f"package.TOP = pathlib.Path({folder!r}); print(package.facts_of_commit().version)")
+            versions: list[bool] = []
+            subprocess.run(["git", "init", "--quiet", folder], check=True)
+            for sections in (["Unreleased"], [__version__], [__version__], ["Unreleased", __version__]):
+                page = "".join(f"## {section}\n\nText.\n\n" for section in sections)
+                pathlib.Path(folder, "CHANGELOG.md").write_text(f"# Changes\n\n{page}")
+                pathlib.Path(folder, "other").write_text(str(len(versions)))
+                subprocess.run(["git", "add", "."], cwd=folder, check=True)
+                subprocess.run(["git", "commit", "--quiet", "--message", "a"], cwd=folder, env=env, check=True)
+                said = subprocess.run([sys.executable, "-B", "-W", "ignore", "-c", shown], cwd=TOP, stdout=subprocess.PIPE,
+                                      text=True, check=True).stdout.strip()
+                versions.append(said == __version__)
+                self.assertTrue(said == __version__ or said.startswith(f"{__version__}+"), said)
+        self.assertEqual(versions, [False, True, False, False])
 
 
 class Suggested(unittest.TestCase):
