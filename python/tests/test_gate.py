@@ -5,7 +5,7 @@ import unittest
 
 sys.path.insert(0, os.path.join(os.path.dirname(__file__), "..", "..", "tools", "gate"))
 import report  # noqa: E402
-from sampling import Task, task_of  # noqa: E402
+from sampling import Sampler, Task, task_of  # noqa: E402
 
 
 class Tasks(unittest.TestCase):
@@ -17,6 +17,13 @@ class Tasks(unittest.TestCase):
         self.assertEqual(task_of([*kept, "/tmp/rt-edits-1/seed"], "/tmp/rt-edit-2"), Task("fm_msg", "ground"))
         self.assertEqual(task_of([*kept, "/tmp/rt-edits-1/3"], "/tmp/rt-edit-2"), Task("fm_msg", "edits", 3))
         self.assertIsNone(task_of(["rattle", "check"], "/tmp/fm_msg"))
+
+    def test_without_its_number_an_edit_is_known_by_its_folder(self) -> None:
+        sampler, task = Sampler(), task_of(["rattle", "check", "--crate-name", "fm_msg", "--incremental", "/tmp/rt-edits-1"], "/tmp/rt-edit-2")
+        self.assertEqual(task, Task("fm_msg", "edits"))
+        assert task
+        numbers = [sampler.numbered(task, folder).edit for folder in ("/tmp/rt-edit-2", "/tmp/rt-edit-9", "/tmp/rt-edit-2")]
+        self.assertEqual(numbers, [0, 1, 0])
 
 
 class Report(unittest.TestCase):

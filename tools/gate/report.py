@@ -23,7 +23,10 @@ def by_crate(seconds: dict[Task, float]) -> dict[str, Row]:
     rows: dict[str, Row] = {}
     for task, taken in seconds.items():
         row = rows.setdefault(task.crate, dict.fromkeys(KINDS, 0.0))
-        row[task.kind] += taken
+        edits = len(edit_names(task.crate))
+        # what is checked behind the last edit is their ground
+        is_behind = task.edit is not None and 0 < edits <= task.edit
+        row["ground" if is_behind else task.kind] += taken
     return rows
 
 

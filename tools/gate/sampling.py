@@ -8,8 +8,9 @@ TICKS_PER_SECOND = os.sysconf("SC_CLK_TCK")
 # What the prover does for a crate: its code, its tests, the check on which its edits are tried, the edits.
 KINDS = ("code", "tests", "ground", "edits")
 
-# What the folder begins with in which a crate is checked with an edit, and the last part of the path of the proofs that such a
-# check begins with: this word for the ground itself, else the number of the edit among the crate's, from 0.
+# What the folder begins with in which a crate is checked with an edit. In some kits the last part of the path of the proofs that
+# such a check begins with is this word for the ground itself, else the number of the edit among the crate's, from 0. In others the
+# edits of a crate are checked in their order, each in a folder of its own, and the ground comes behind them.
 EDIT_FOLDER = "/rt-edit-"
 GROUND = "seed"
 
@@ -86,6 +87,8 @@ class Sampler:
     def __init__(self) -> None:
         self.tasks: dict[tuple[int, str], Task] = {}
         self.taken: dict[tuple[int, str], float] = {}
+        # the folders in which edits of a crate were checked, in the order in which they were seen
+        self.folders: dict[str, list[str]] = {}
 
     def look(self, top: int) -> None:
         """Looks once at all processes below this one."""
@@ -97,13 +100,23 @@ class Sampler:
             if key not in self.tasks:
                 words = text_of(f"/proc/{process.number}/cmdline").decode(errors="replace").split("\0")
                 try:
-                    task = task_of(words, os.readlink(f"/proc/{process.number}/cwd"))
+                    folder = os.readlink(f"/proc/{process.number}/cwd")
                 except OSError:
-                    task = None
+                    continue
+                task = task_of(words, folder)
                 if task:
-                    self.tasks[key] = task
+                    self.tasks[key] = self.numbered(task, folder)
             if key in self.tasks:
                 self.taken[key] = process.seconds
+
+    def numbered(self, task: Task, folder: str) -> Task:
+        """Returns the task with the number of its edit: without another one that of its folder among those of the crate's edits."""
+        if task.kind != "edits" or task.edit is not None:
+            return task
+        folders = self.folders.setdefault(task.crate, [])
+        if folder not in folders:
+            folders.append(folder)
+        return Task(task.crate, task.kind, folders.index(folder))
 
     def seconds(self) -> dict[Task, float]:
         """Returns the processor seconds of each task."""

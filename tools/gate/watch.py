@@ -8,7 +8,8 @@ costs, which are those of it and of all crates above; and how the run compares w
 What the command prints goes to standard output as it comes, the tables behind it to standard error. With --edits a
 table of the edits is written to FILE: crate, edit, seconds, these by the median of the crate, and the goal at which
 the edit is refused. It ends with the command's status. Needs Linux; what a process takes in its last half second is
-not counted. Crates that were kept from an earlier run take nothing, so a comparison needs `rt ci --anew`."""
+not counted. Where `rt ci` keeps what it proved, crates that were kept take nothing, and a comparison needs `rt ci --anew`.
+A kit without that option keeps nothing."""
 from __future__ import annotations
 
 import subprocess
