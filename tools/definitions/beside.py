@@ -13,7 +13,7 @@ from typing import Any, Optional
 
 import plain_values
 from products import TOP, Definitions, Fault, Played
-from running import Made, Record, listed
+from values import Made, Record, listed
 
 sys.path += [os.path.join(TOP, "tools", "score_model"), os.path.join(TOP, "python")]
 #: The reader of the command's words in Python.

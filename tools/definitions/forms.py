@@ -7,7 +7,7 @@ from __future__ import annotations
 from collections.abc import Sequence
 from typing import Any
 
-from running import NIL, Made, Record
+from values import NIL, Made, Record
 
 
 class NoForm(Exception):

@@ -4,7 +4,7 @@ from __future__ import annotations
 
 from typing import Any
 
-from running import NIL, Made, Pair
+from values import NIL, Made, Pair
 
 # What an operation of the model's trees is called among the nodes of an expression.
 OPERATIONS = {"+": "Add", "-": "Subtract", "*": "Multiply", "/": "Divide", "%": "Remain", "min": "Min", "max": "Max",

@@ -10,12 +10,11 @@ from collections.abc import Sequence
 from dataclasses import dataclass
 from typing import Any
 
-import running
 from forms import form_of
 from repository import Repository, Target
-from running import Made, Record, listed
 from sizes import global_name
 from translate import Translator, run
+from values import Made, Record, forget, listed
 
 # The definitions that are asked, by the name under which they are here.
 ASKED = {
@@ -151,7 +150,7 @@ class Definitions:
 
     def settings_of(self, words: Sequence[bytes]) -> Any:
         """What words ask for, None where they are refused."""
-        running.forget()
+        forget()
         found = self.settings_by_rules(listed(map(listed, words)))
         return None if found.tag == "None" else found.args[0]
 
@@ -169,7 +168,7 @@ class Definitions:
     def read(self, text: bytes) -> Read:
         """A text with what the definitions make of it, once for each text that is asked for again and again."""
         if self.last_read is None or self.last_read.text != text:
-            running.forget()
+            forget()
             self.last_read = self.last_played = None
             tokens = self.tokens(listed(text))
             self.last_read = Read(text, tokens, self.judged(tokens))
@@ -223,7 +222,7 @@ class Definitions:
 
     def listing_of(self, data: bytes) -> bytes | tuple[int, int]:
         """The listing of a file, or the position and the number of its fault."""
-        running.forget()
+        forget()
         fault = self.file_fault(listed(data))
         if fault.tag == "Some":
             place: tuple[int, int] = fault.args[0]
@@ -271,7 +270,7 @@ class Definitions:
     def audit(self, data: bytes) -> bytes | tuple[int, int] | Fault:
         """The file of an accepted record, or the place and the number of its fault, or the fault of its text. The steps are
         gone through by the definitions of the core one by one."""
-        running.forget()
+        forget()
         record = listed(data)
         bad = self.bad_field(record)
         if bad.tag == "Some":

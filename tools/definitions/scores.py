@@ -16,14 +16,13 @@ from dataclasses import dataclass
 from types import FrameType
 from typing import Any
 
-import running
 from beside import command_line, words_drawn
 from forms import form_of
 from limits import TooLong, within
 from products import Definitions
 from repository import Repository
 from rows import TOP
-from running import Record, listed
+from values import Record, forget, listed
 
 sys.path += [os.path.join(TOP, "tools"), os.path.join(TOP, "tools", "stress")]
 from bent import Texts  # noqa: E402
@@ -184,7 +183,7 @@ class Scores:
         return found
 
     def run(self, name: str, stage: str, known: dict[str, Any]) -> Part:
-        running.forget()
+        forget()
         uses: set[str] = set()
 
         def called(frame: FrameType, event: str, argument: Any) -> None:
@@ -201,7 +200,7 @@ class Scores:
         return Part(f"{stage} of {name}", stage, known, outcome, uses, time.process_time() - begin)
 
     def differs(self, part: Part) -> bool:
-        running.forget()
+        forget()
         within(3 + 20 * part.seconds)
         try:
             return not STAGES[part.stage](self.definitions, part.known) == part.outcome

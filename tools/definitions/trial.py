@@ -27,7 +27,6 @@ from typing import Any
 
 sys.dont_write_bytecode = True
 import limits  # noqa: E402
-import running  # noqa: E402
 from limits import within  # noqa: E402
 from mutants import Mutant, mutants_of  # noqa: E402
 from notation import NotRead  # noqa: E402
@@ -37,6 +36,7 @@ from scores import Scores  # noqa: E402
 from sizes import global_name  # noqa: E402
 from statement import named_in_row, statement_of  # noqa: E402
 from translate import Body, Translator, run  # noqa: E402
+from values import KEPT, forget  # noqa: E402
 
 
 # Changes that leave a definition as it is: what no row and no score finds is looked up here, with the reason.
@@ -119,7 +119,7 @@ class Trial:
 
     def look_at(self, row: Row) -> None:
         """Which definitions a row uses, and how long it takes."""
-        running.forget()
+        forget()
         uses: set[str] = set()
 
         def called(frame: FrameType, event: str, argument: Any) -> None:
@@ -152,7 +152,7 @@ class Trial:
             return next((row for row in rows if not self.is_so(row)), None)
 
     def is_so(self, row: Row) -> bool:
-        running.forget()
+        forget()
         within(1 + 20 * row.seconds)
         try:
             return eval(row.code, self.space) is True
@@ -166,14 +166,14 @@ class Trial:
 def changed(space: dict[str, Any], target: Target, text: str) -> Iterator[None]:
     """A module in which one definition is another one for a while."""
     name = global_name(target)
-    old, kept = space[name], len(running.KEPT)
+    old, kept = space[name], len(KEPT)
     exec(compile(text, "<definitions>", "exec"), space)
     try:
         yield
     finally:
         space[name] = old
-        del running.KEPT[kept:]
-        running.forget()
+        del KEPT[kept:]
+        forget()
 
 
 def names_of_rows(repository: Repository) -> dict[str, set[Target]]:
