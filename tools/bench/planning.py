@@ -16,7 +16,7 @@ MOST_OF_MUCH_ROOM = 10
 MOST_BYTES_A_BYTE = 100
 MOST_BYTES_AN_OPERATION = 64
 
-WAYS: dict[str, list[str]] = {"0 workers": ["--workers", "0"], "rounds": ["--rounds"], "free threads": []}
+WAYS: dict[str, list[str]] = {"0 workers": ["--workers", "0"], "rounds": ["--rounds"], "by default": []}
 
 
 def stages(bench: Bench, shape: texts.Shape, size: int, refused: bytes,

@@ -40,7 +40,7 @@ use Rattle.fm_board.specs.Starting as answers
 use Rattle.fm_core.specs.declared.step.Step.TheVariants.{Start}
 use Rattle.fm_board.specs.Runs.{Extends}
 use Rattle.fm_board.specs.Minds.{did, spotted, turned}
-use Rattle.fm_board.specs.Plays.{Begins, Marked, Holder, Tells, starts}
+use Rattle.fm_board.specs.Plays.{HandsUnborn, Marked, Holder, Tells, starts}
 use Rattle.fm_board.specs.Seats.{IsOurs, SeatState, carried}
 use Rattle.fm_board.specs.View.{is_over}
 use Rattle.fm_board.specs.StandsFor.{StandsForSome}
@@ -141,7 +141,7 @@ start_low a p =
     let end = (valid.ends p).0 in
     omega (arith, begun, last, end)
 
-pub begun_tidy : (n p : ℕ) (o : Bool) (xs : List Look) (s : ℕ) (m m1 m2 : Holder) → Tidy n o xs s m → m.0.view.holds ≡ None → Begins m p m1
+pub begun_tidy : (n p : ℕ) (o : Bool) (xs : List Look) (s : ℕ) (m m1 m2 : Holder) → Tidy n o xs s m → m.0.view.holds ≡ None → HandsUnborn m p m1
     → m2 ≡ (m1.0, (p, None) ∷ rest m1.1) → Tidy n false xs s m2
 begun_tidy n p o xs s m m1 m2 tidy idle hit is =
     let holds : m2.0.view.holds ≡ Some hit.hold = ap (λ (y : Holder). y.0.view.holds) is ∙ ap (λ (y : Mind). y.view.holds) hit.mind in
@@ -168,7 +168,7 @@ none_waits p h none_computed =
 
 -- the berth of a process that was started
 pub begun_berth : (a : About) (t : TableId) (p : ℕ) (m m1 : Holder) (r : Deposit) (s : Strand) (x : SeatState) → IsOurs t a x → m.0 ≡ x.mind
-    → (hit : Begins m p m1)
+    → (hit : HandsUnborn m p m1)
     → r ≡ hit.stock → s.process ≡ p → strands.InCourse a.plan s → strands.clock_of a.plan s ≡ start (plan_lines a.plan) p
     → strands.rest a.plan s ≡ (line (plan_lines a.plan) p).events → strands.steps_left a.plan s ≡ steps_of a.plan p
     → IsBerth a p hit.hold (record { process = p; strand = s; outbox = r.outbox }) × (hit.hold.clock ≡ start (plan_lines a.plan) p)
@@ -201,9 +201,9 @@ begun_berth a t p m m1 r s x ours is hit room process course clock whole steps =
 -- what is said of a process that was started
 pub begun_as : (a : About) (t t1 t2 t3 : TableId) (p : ℕ) (m m1 m2 : Holder) (o : Option Deposit) (r : Deposit) (s : Strand) (x : SeatState)
     → IsOurs t a x
-    → (hit : Begins m p m1) → m2 ≡ (m1.0, (p, None) ∷ rest m1.1) → o ≡ Some r → o ≡ Some hit.stock → IsBegun a.plan p s
+    → (hit : HandsUnborn m p m1) → m2 ≡ (m1.0, (p, None) ∷ rest m1.1) → o ≡ Some r → o ≡ Some hit.stock → IsBegun a.plan p s
     → t3 ≡ t2 → t2 ≡ t1 → record { table = t1; mind = m.0 } ≡ x
-    → answers.Begins a x p (record { process = p; strand = s; outbox = r.outbox }) (record { table = t3; mind = m2.0 })
+    → answers.HasBegun a x p (record { process = p; strand = s; outbox = r.outbox }) (record { table = t3; mind = m2.0 })
 begun_as a t t1 t2 t3 p m m1 m2 o r s x ours hit now e f begun k2 k1 seen =
     let minds : m.0 ≡ x.mind = ap (λ (y : SeatState). y.mind) seen in
     let logs : m1.0.log ≡ m2.0.log = ap (λ (y : Holder). y.0.log) (sym now) in

@@ -11,7 +11,7 @@ use Rattle.fm_board.specs.declared.seen.Seen.{Seen}
 use Rattle.fm_board.specs.declared.view.Log.{Log}
 use Rattle.fm_board.specs.declared.view.Mind.{Mind}
 use Rattle.fm_board.specs.declared.view.View.{View}
-use Rattle.fm_board.specs.Answers.{Found, Hands}
+use Rattle.fm_board.specs.Answers.{Found, HasClaimed}
 use Rattle.fm_board.specs.Knowing.{Knows}
 use Rattle.fm_board.specs.Minds.{left_seen, spotted, turned}
 use Rattle.fm_board.specs.Plays.{Tells}
@@ -82,7 +82,7 @@ found_knows old p s v xs new found =
     subst (Knows old.mind) (sym (ap (λ (x : SeatState). x.mind) found.sight))
     (spotted_knows old.mind p s.tag s.clock _ v xs found.tells)
 
-pub hands_knows : (a : About) (old : SeatState) (p : ℕ) (s : Seen) (b : Berth) (new : SeatState) → Hands a old p s b new
+pub hands_knows : (a : About) (old : SeatState) (p : ℕ) (s : Seen) (b : Berth) (new : SeatState) → HasClaimed a old p s b new
     → Knows old.mind new.mind
 hands_knows a old p s b new hands =
     subst (Knows old.mind) (sym (ap (λ (x : SeatState). x.mind) hands.sight))

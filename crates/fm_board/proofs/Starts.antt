@@ -26,7 +26,7 @@ use Rattle.fm_board.specs.declared.deposit.Deposit.{Deposit}
 use Rattle.fm_board.specs.declared.view.Hold.{Hold}
 use Rattle.fm_board.specs.declared.view.Mind.{Mind}
 use Rattle.fm_board.specs.Minds.{did, spotted, turned}
-use Rattle.fm_board.specs.Plays.{Begins, Finds, Marked, Holder, Tells, starts}
+use Rattle.fm_board.specs.Plays.{HandsUnborn, Finds, Marked, Holder, Tells, starts}
 use Rattle.fm_board.specs.StandsFor.{AtHome, Going, HoldsIn, IsHoldOf, IsSeat, IsViewOf, Shown, StandsFor, StandsForSome, Table, count, setting}
 use Rattle.std.specs.Prelude.{All}
 use Rattle.std.proofs.lemmas.List.Elements.{All-nil}
@@ -221,7 +221,7 @@ module _ (a : About) (s : Table) (k : StandsForSome a s) (p id : ℕ) (m : Holde
               omega (arith, inside_now, n)));
         },
         λ q e. let same : p ≡ q = omega (arith, e) in (
-          (λ _. subst (λ (y : ℕ). Begins m y (w, (p, Some home.0) ∷ m.1)) same (record {
+          (λ _. subst (λ (y : ℕ). HandsUnborn m y (w, (p, Some home.0) ∷ m.1)) same (record {
             hold = hold;
             stock = home.0;
             process = refl;

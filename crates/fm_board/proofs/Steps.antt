@@ -166,7 +166,7 @@ pub hands_as : (a : About) (t0 t1 t2 t3 : TableId) (p n : ℕ) (e : Seen) (m m1 
     → IsOurs t0 a x → n ≡ spell e.tag e.clock e.seat → (hit : Hands m p e.tag e.clock n m1) → m2 ≡ (m1.0, (p, None) ∷ rest m1.1)
     → o ≡ Some r → o ≡ Some (record { strand = Some hit.strand; outbox = hit.box }) → r.strand ≡ Some s
     → t3 ≡ t2 → t2 ≡ t1 → record { table = t1; mind = m.0 } ≡ x
-    → answers.Hands a x p e (record { process = p; strand = s; outbox = r.outbox }) (record { table = t3; mind = m2.0 })
+    → answers.HasClaimed a x p e (record { process = p; strand = s; outbox = r.outbox }) (record { table = t3; mind = m2.0 })
 hands_as a t0 t1 t2 t3 p n e m m1 m2 o r s x ours word hit is out was some k2 k1 seen =
     let room = room_is o r hit.strand hit.box out was in
     let strand : hit.strand ≡ s = same_some hit.strand s (sym (ap (λ (y : Deposit). y.strand) room) ∙ some) in

@@ -27,7 +27,7 @@ pub record IsBerth (a : About) (p : ℕ) (h : Hold) (b : Berth) : Type 0 where
   pub process : b.process ≡ p
 
 -- the seat was handed a process whose word, as this call found it, said this
-pub record Hands (a : About) (old : SeatState) (p : ℕ) (s : Seen) (b : Berth) (new : SeatState) : Type 0 where
+pub record HasClaimed (a : About) (old : SeatState) (p : ℕ) (s : Seen) (b : Berth) (new : SeatState) : Type 0 where
   pub hold : Hold
   pub berth : IsBerth a p hold b
   pub was_ended : hold.was_ended ≡ is_ended s.tag
@@ -60,7 +60,7 @@ Looks old p s new =
 
 -- the answer of a claim
 abbrev pub Claims : About → SeatState → ℕ → Seen → Claim → SeatState → Type 0
-Claims a old p expected (claim.Held b) new = Hands a old p expected b new
+Claims a old p expected (claim.Held b) new = HasClaimed a old p expected b new
 Claims a old p expected (claim.Busy found) new =
     Found old p found old.mind.view old.mind.log new × (found ≢ expected)
     × (spell found.tag found.clock found.seat ≢ spell expected.tag expected.clock expected.seat)

@@ -115,7 +115,7 @@ Marked m p n =
     (i : ℕ) → i < n → slice_index_or m.over (slice_index_or (line (lines_of m.view) p).predecessors i 0) false ≡ true
 
 -- the seat was handed a process that nobody had
-pub record Begins (m : Holder) (p : ℕ) (m' : Holder) : Type 0 where
+pub record HandsUnborn (m : Holder) (p : ℕ) (m' : Holder) : Type 0 where
   pub hold : Hold
   pub stock : Deposit
   pub process : hold.process ≡ p
@@ -136,7 +136,7 @@ pub record Begins (m : Holder) (p : ℕ) (m' : Holder) : Type 0 where
 -- the exchange of an unborn process's word
 abbrev pub starts : Step (Option Deposit) → Holder → ℕ → Holder → Type 0
 starts st m r m' = (p : ℕ) → st.word ≡ word_at p
-    → (r ≡ 0 → Begins m p m') × (r ≢ 0 → Finds m p r (λ t c. m.0.view) (λ t. m.0.log) m')
+    → (r ≡ 0 → HandsUnborn m p m') × (r ≢ 0 → Finds m p r (λ t c. m.0.view) (λ t. m.0.log) m')
 
 -- ---- give
 

@@ -99,7 +99,7 @@ pub record IsAtStart (a : About) (p : ℕ) (h : Hold) (b : Berth) : Type 0 where
   pub at : h.clock ≡ start (plan_lines a.plan) p
 
 -- the process was not born, and the seat was handed it
-pub record Begins (a : About) (old : SeatState) (p : ℕ) (b : Berth) (new : SeatState) : Type 0 where
+pub record HasBegun (a : About) (old : SeatState) (p : ℕ) (b : Berth) (new : SeatState) : Type 0 where
   pub hold : Hold
   pub is : IsAtStart a p hold b
   pub tells : Tells old.mind p Unborn 0
@@ -117,7 +117,7 @@ pub record IsBorn (old : SeatState) (p : ℕ) (s : Seen) (new : SeatState) : Typ
 
 -- the answer of the exchange
 abbrev pub BeginsAs : About → SeatState → ℕ → Claim → SeatState → Type 0
-BeginsAs a old p (claim.Held b) new = Begins a old p b new
+BeginsAs a old p (claim.Held b) new = HasBegun a old p b new
 BeginsAs a old p (claim.Busy found) new = IsBorn old p found new
 
 -- ---- start
@@ -126,7 +126,7 @@ BeginsAs a old p (claim.Busy found) new = IsBorn old p found new
 pub record IsStarted (a : About) (old : SeatState) (p : ℕ) (b : Berth) (new : SeatState) : Type 0 where
   pub between : SeatState
   pub ended : EndsFound old p between
-  pub begins : Begins a between p b new
+  pub begins : HasBegun a between p b new
 
 -- all predecessors were ended, and the process was born
 pub record WasStarted (old : SeatState) (p : ℕ) (s : Seen) (new : SeatState) : Type 0 where

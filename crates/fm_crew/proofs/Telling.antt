@@ -9,7 +9,7 @@ use Rattle.fm_program.specs.Parts.{PlanParts}
 use Rattle.fm_board.specs.declared.about.About.{About}
 use Rattle.fm_board.specs.declared.view.Hold.{Hold}
 use Rattle.fm_board.specs.declared.view.View.{View}
-use Rattle.fm_board.specs.Answers.{Hands}
+use Rattle.fm_board.specs.Answers.{HasClaimed}
 use Rattle.fm_board.specs.Seats.{SeatState}
 use Rattle.fm_board.specs.declared.seen.Seen.{Seen}
 use Rattle.fm_board.specs.declared.berth.Berth.{Berth}
@@ -35,7 +35,7 @@ takes_none v (Some h) above =
 
 -- so of a process that it claimed
 pub takes_held : (a : About) (old : SeatState) (p : ℕ) (s : Seen) (b : Berth) (new : SeatState) → 0 < old.mind.view.number
-    → Hands a old p s b new → 0 ≡ takes_of new.mind.view new.mind.view.holds
+    → HasClaimed a old p s b new → 0 ≡ takes_of new.mind.view new.mind.view.holds
 takes_held a old p s b new above hands =
     takes_none (holding old.mind.view hands.hold) (Some hands.hold) above
     ∙ ap (λ (x : SeatState). takes_of x.mind.view x.mind.view.holds) (sym hands.sight)

@@ -11,7 +11,7 @@ use Rattle.fm_core.specs.declared.tag.Tag.TheVariants.{Unborn, Home, Full, Out, 
 use Rattle.fm_buffer.specs.Gather.{EventGather}
 use Rattle.fm_program.specs.Parts.{PlanParts}
 use Rattle.fm_strand.specs.Course.{steps_of}
-use Rattle.fm_board.specs.Answers.{Hands, Looks}
+use Rattle.fm_board.specs.Answers.{HasClaimed, Looks}
 use Rattle.fm_board.specs.Knowing.{IsWide, Knows}
 use Rattle.fm_board.specs.Plays.{Marked}
 use Rattle.fm_board.specs.Seats.{SeatState}
@@ -48,7 +48,7 @@ brings_behind due limit p a b c before after brings tick is within full back =
 -- ---- a process that was claimed
 
 -- what the hold says is left, the seat knows of
-hold_left : (a : About) (x z : SeatState) (p : ℕ) (s : Seen) (b : Berth) (hands : Hands a x p s b z) → x.mind.view.plan ≡ a.plan
+hold_left : (a : About) (x z : SeatState) (p : ℕ) (s : Seen) (b : Berth) (hands : HasClaimed a x p s b z) → x.mind.view.plan ≡ a.plan
     → IsFull x.mind → p < processes x.mind.view → hands.hold.left ≤ get_or z.mind.left p 0
 hold_left a x z p s b hands plan full there =
     subst (λ (m : Mind). hands.hold.left ≤ get_or m.left p 0) (sym (ap (λ (y : SeatState). y.mind) hands.sight))
@@ -81,7 +81,7 @@ hold_left a x z p s b hands plan full there =
         omega (arith, is, most)
 
 module _ (a : About) (due : Due) (limit p : ℕ) (old mid new : Conductor) (s : Seen) (b : Berth)
-    (hands : Hands a old.seat p s b mid.seat) (plan : old.seat.mind.view.plan ≡ a.plan) (same : mid.gather ≡ old.gather)
+    (hands : HasClaimed a old.seat p s b mid.seat) (plan : old.seat.mind.view.plan ≡ a.plan) (same : mid.gather ≡ old.gather)
     (grows : Grows mid new) where
   claimed_knows : Knows old.seat.mind mid.seat.mind
   claimed_knows = hands_knows a old.seat p s b mid.seat hands

@@ -1,5 +1,5 @@
 //! Plays a plan: alone, in rounds of threads, or by a crew of threads that run freely.
-ghost use Rattle.std.specs.Prelude.{IfOk, IfErr};
+ghost use Rattle.std.specs.Prelude.{◌≡◌, ◌*◌, IfOk, IfErr, nat_lt};
 ghost use Rattle.fm_edge.specs.Content.{IsNew};
 ghost use Rattle.fm_play.specs.Performance.{HasWholeFile};
 ghost use Rattle.fm_words.specs.View.{HasRanges, options_view};
@@ -15,9 +15,14 @@ use std::alloc::Global;
 use std::sync::Wait;
 use std::thread::Threads;
 
+/// How many processes free threads may have for each event of an outbox's room. With the usual
+/// room this is as many as a score may have.
+const MOST_FOR_AN_EVENT: u64 = 512;
+
 /// Writes the file of the plan's piece into a new sink, in the way that the options ask for, and
 /// gives its size. All memory is taken before the first byte. Without workers, and for a plan of one
-/// process, which has nothing to run beside it, no call is handed the runtime: none waits.
+/// process, which has nothing to run beside it, no call is handed the runtime: none waits. Nor does
+/// one where free threads have too little room for the processes, unless rounds are asked for.
 pub fn play<R: Threads + Wait + Sync, G: Gate + Sync, K: Sink>(
     rt: &R,
     alloc: Global,
@@ -37,9 +42,20 @@ pub fn play<R: Threads + Wait + Sync, G: Gate + Sync, K: Sink>(
         conduct_only(alloc, plan, options, gate, sink)
     } else if options.rounds {
         play_in_rounds(rt, alloc, plan, options, gate, sink)
+    } else if is_crowded(plan.processes(), options.room) {
+        play_alone(alloc, plan, options, sink)
     } else {
         play_by_crew(rt, alloc, plan, options, gate, sink)
     }
+}
+
+// Whether so many processes have too little room for free threads. Where more events of a tick are
+// to come than an outbox holds, their conductor goes over all processes for each one that ends the
+// tick; one thread goes over them once.
+fn is_crowded(processes: u32, room: u32) -> bool
+    ensures { result ≡ nat_lt (MOST_FOR_AN_EVENT * room) processes }
+{
+    u64::from(room) * MOST_FOR_AN_EVENT < u64::from(processes)
 }
 
 // The same on this thread alone.
