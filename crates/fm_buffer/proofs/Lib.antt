@@ -1,3 +1,4 @@
 pub mod Through
 pub mod Settled
+mod Merged
 mod Numerals

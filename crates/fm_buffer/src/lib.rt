@@ -7,6 +7,7 @@
 #![tactic(auto)]
 
 mod gather;
+mod merging;
 mod outbox;
 
 pub use gather::Gather;

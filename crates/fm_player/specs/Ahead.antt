@@ -1,6 +1,5 @@
 -- What a player has ahead: its sounds to come, the pitches that begin where it stands, and note-offs that are taken.
 use Rattle.std.specs.Prelude.{◌≡◌, ℕ, ◌+◌, ◌*◌, ◌<◌, ◌⊎◌, List, ◌∷◌, map, length, false, true, nat_eq, nat_lt, if◌then◌else◌, Some}
-use Rattle.fm_msg.specs.declared.msg.Msg.TheVariants.{Off}
 use Rattle.fm_msg.specs.Event.{TimedMessage}
 use Rattle.fm_line.specs.Sounds.{Sound, is_note_off, is_note_on, most_waiting, ons_ahead}
 use Rattle.fm_offs.specs.declared.note_off.NoteOff.{NoteOff}

@@ -78,7 +78,8 @@ impl Draws {
         ensures frames { self.new.frames ≡ self.old.frames }
         ensures within { IsWithin result }
     {
-        let indices = self.indices(stock, scope);
+        let mut indices = ArrayVec::new();
+        self.put_indices(stock, scope, &mut indices);
         value(
             &stock.exprs[expr as usize],
             &self.registers,
@@ -87,23 +88,24 @@ impl Draws {
         )
     }
 
-    // The indices of the slots of a scope, in turn.
-    fn indices(&self, stock: &Stock, scope: u32) -> ArrayVec<u32, MAX_LOOPS>
+    // Puts the indices of the slots of a scope into an empty list, in turn.
+    #[inline(always)]
+    fn put_indices(&self, stock: &Stock, scope: u32, indices: &mut ArrayVec<u32, MAX_LOOPS>)
         requires stock { stock_fits (stock_parts stock.now) ≡ true }
         requires frames { All (IsFrame (stock_parts stock.now)) self.now.frames.items }
         requires scope { scope < length (stock_parts stock.now).scopes }
-        ensures count { length result.items ≡ loops_of (stock_parts stock.now) scope }
-        ensures within { All (λ i. i < MAX_INDEX) result.items }
+        requires empty { indices.old.items ≡ [] }
+        ensures count { length indices.new.items ≡ loops_of (stock_parts stock.now) scope }
+        ensures within { All (λ i. i < MAX_INDEX) indices.new.items }
         ensures indices { (s : Standing) → DrawsStand (stock_parts stock.now) self.now s
-            → result.items ≡ map (slot_index s.frames) (scope_at (stock_parts stock.now) scope) }
+            → indices.new.items ≡ map (slot_index s.frames)
+            (scope_at (stock_parts stock.now) scope) }
     {
-        let mut indices = ArrayVec::new();
         let mut rest = scope;
         while let Some((slot, outer)) = stock.scopes.innermost(rest) {
             indices.push(self.index(stock, slot));
             rest = outer;
         }
-        indices
     }
 
     // The index that a slot gives.

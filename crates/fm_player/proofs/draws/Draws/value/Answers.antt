@@ -14,7 +14,7 @@ pub value-requires-clause-expr : goal.value-requires-clause-expr
 value-requires-clause-expr c =
     let t = stock_parts c.args.stock.now in
     let counted : length c.as_slice.result.now ≡ length (scope_at t c.args.scope) =
-    ap length c.as_slice.ensures.value ∙ c.indices-indices.ensures.count in
+    ap length c.as_slice.ensures.value ∙ c.put_indices.ensures.count in
     let known = expr-fits t (length (scope_at t c.args.scope)) c.args.expr (expr_at t c.args.expr) c.requires.expr refl in
     let held : c.args.expr < length c.args.stock.now.exprs.items =
     omega (arith, known.0, length-map c.args.stock.now.exprs.items expr_nodes) in
@@ -34,6 +34,6 @@ returns-clause-draws c =
     looked_up expr_nodes _ c.args.expr _ [] c.index.ensures held in
     let reads : (s : Standing) → DrawsStand t c.args.self.now s
     → c.as_slice.result.now ≡ map (slot_index s.frames) (scope_at t c.args.scope) =
-    λ s stands. c.as_slice.ensures.value ∙ c.indices-indices.ensures.indices s stands in
+    λ s stands. c.as_slice.ensures.value ∙ c.put_indices.ensures.indices s stands in
     value-draws t c.args.self.now _ _ c.args.expr c.args.scope c.as_slice.result.now c.index.result.now.nodes.items refl refl nodes
     reads (to_z-of_z fits ∙ c.value.ensures.value) c.value.ensures.dice

@@ -4,7 +4,7 @@ use Rattle.std.proofs.lemmas.List.Elements.{All-cons, All-nil, All-append}
 use Rattle.fm_program.specs.declared.op.TheConstants.{MAX_INDEX}
 use Rattle.fm_program.specs.declared.op.Slot.{Slot}
 use Rattle.fm_program.specs.State.{slot_index}
-use Rattle.fm_player.proofs.draws.Draws.indices.Goals as goal
+use Rattle.fm_player.proofs.draws.Draws.put_indices.Goals as goal
 
 -- what is added is the first of the rest
 maps_more : (f : Slot → ℕ) (xs : List ℕ) (i : ℕ) (slot : Slot) (inner outer whole : List Slot) → inner ≡ slot ∷ outer

@@ -4,7 +4,7 @@ use Rattle.fm_program.specs.Parts.{stock_parts}
 use Rattle.fm_program.specs.Action.{scope_at}
 use Rattle.fm_program.specs.State.{Standing, slot_index}
 use Rattle.fm_player.specs.Drawing.{DrawsStand}
-use Rattle.fm_player.proofs.draws.Draws.indices.Given as goal
+use Rattle.fm_player.proofs.draws.Draws.put_indices.Given as goal
 
 -- the indices so far, and then those of the scope that is left, are those of the whole scope
 abbrev pub invariant-loop-slot : goal.invariant-loop-slot
