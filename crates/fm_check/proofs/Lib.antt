@@ -9,3 +9,4 @@ pub mod LongestLemmas
 pub mod LimitLemmas
 pub mod WalkLemmas
 mod Numerals
+mod ListLemmas

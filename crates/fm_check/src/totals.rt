@@ -12,7 +12,8 @@ ghost use Rattle.fm_meaning.specs.Resolved.{Play, Passage, done, item};
 ghost use Rattle.fm_meaning.specs.Resolve.{resolved};
 ghost use Rattle.fm_meaning.specs.Bounds.{score_bounds, fourth_walk};
 ghost use Rattle.fm_meaning.specs.Faults.{first_found};
-ghost use Rattle.fm_outline.specs.View.{tables_view, look_in, phrases_view};
+ghost use Rattle.fm_expansion.specs.Numbering.{outline as outline_of};
+ghost use Rattle.fm_outline.specs.View.{outline_view, tables_view, look_in, phrases_view};
 ghost use Rattle.fm_outline.specs.OfScore.{passage_of_outline};
 ghost use Rattle.fm_rules.specs.Why.{fault_at};
 ghost use Rattle.fm_rules.specs.declared.why.Why.{Why};
@@ -91,6 +92,19 @@ fn finish(before: Sums) -> Bounds
     }
 }
 
+// The greatest entry of all rhythm lists. A score whose outline has no list at all has none, and is
+// not searched.
+fn longest_entry(whole: u32, score: &Score, outline: &Outline) -> u64
+    requires whole { whole ≡ (score_rules (score_view score.now)).whole_note }
+    requires outline { outline_view outline.now ≡ outline_of (score_view score.now) }
+    ensures { result ≡ capped (resolved (score_view score.now)).longest }
+{
+    if outline.tables.lists.is_empty() {
+        return 0;
+    }
+    longest_rhythm(whole, &score.entries)
+}
+
 /// The static totals of a score for which an outline stands, or the first statement with which one
 /// of them passes its limit.
 pub(crate) fn find_bounds(
@@ -98,7 +112,8 @@ pub(crate) fn find_bounds(
     score: &Score,
     outline: &Outline,
 ) -> Result<Bounds, CheckFault>
-    requires { passage_of_outline outline.now ≡ (resolved (score_view score.now)).passage }
+    requires outline { outline_view outline.now ≡ outline_of (score_view score.now) }
+    requires passage { passage_of_outline outline.now ≡ (resolved (score_view score.now)).passage }
     ensures bounds { IfOk result
         (λ b. totals_of b ≡ score_bounds (resolved (score_view score.now))) }
     ensures faultless { OnOk result
@@ -108,7 +123,7 @@ pub(crate) fn find_bounds(
         first_found (fourth_walk (score_rules s) (resolved s)) ≡ Some (fault_at spot why) }
 {
     let rules = rules_of(score);
-    let longest = longest_rhythm(rules.whole_note, &score.entries);
+    let longest = longest_entry(rules.whole_note, score, outline);
     let phrases = weigh_phrases(alloc, &outline.tables, longest, &outline.phrases)?;
     let mut before = Sums::NONE;
     for step in &outline.block {

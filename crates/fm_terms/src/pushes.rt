@@ -9,13 +9,13 @@ use fm_lex::Spot;
 use fm_value::{Expr, Node, Spot2};
 use std::alloc::Global;
 
-/// Puts an item at the end of a list. The first one takes room for itself alone, since most lists
-/// of a score have one entry.
+/// Puts an item at the end of a list. The first and the second take room for themselves alone, since
+/// most lists of a score have one entry or two.
 pub fn push<T: Drop>(items: &mut Vec<T>, item: T) -> Result<(), ParseFault>
     ensures ok { OnOk result (items.new.items ≡ items.old.items ++ item ∷ []) }
     ensures memory { IfErr result (λ e. e ≡ ParseFault.Memory) }
 {
-    if items.is_empty() && items.reserve_exact(1).is_err() {
+    if items.len() < 2 && items.reserve_exact(1).is_err() {
         return Err(ParseFault::Memory);
     }
     match items.push(item) {

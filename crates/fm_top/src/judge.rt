@@ -92,5 +92,7 @@ pub fn judge(alloc: Global, text: &[u8]) -> Result<Plan, RunFault>
         Ok(checked) => checked,
         Err(fault) => return Err(fault_of_check(fault)),
     };
+    // The plan takes the memory of the tree.
+    drop(score);
     Ok(plan_outline(alloc, outline, &bounds)?)
 }

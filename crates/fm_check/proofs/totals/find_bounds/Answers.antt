@@ -1,17 +1,16 @@
-use Rattle.std.proofs.Common.{◌≡◌, ◌+◌, ◌∙◌, map, drop, ap, ap₂}
-use Rattle.fm_grammar.specs.View.{score_view, entry_view}
+use Rattle.std.proofs.Common.{◌+◌, drop, ap}
+use Rattle.fm_grammar.specs.View.{score_view}
 use Rattle.fm_meaning.specs.Rules.{VersionRules}
-use Rattle.fm_meaning.specs.Resolve.{longest_of, resolved}
+use Rattle.fm_meaning.specs.Resolve.{resolved}
 use Rattle.fm_expansion.specs.Outline.{play_in, passage_in}
 use Rattle.fm_outline.specs.View.{tables_view, look_of, step_view, block_view}
 use Rattle.fm_outline.specs.OfScore.{passage_of_outline}
 use Rattle.fm_outline.proofs.RefusalLemmas.{handed}
-use Rattle.fm_check.specs.Saturation.{capped}
 use Rattle.fm_check.proofs.WalkLemmas.{begun, at_end, at_step}
 use Rattle.fm_check.proofs.totals.find_bounds.Goals as goal
 
 pub loop-step-init : goal.loop-step-init
-loop-step-init c = begun (score_view c.args.score.now) (passage_of_outline c.args.outline.now) c.requires
+loop-step-init c = begun (score_view c.args.score.now) (passage_of_outline c.args.outline.now) c.requires.passage
 
 pub loop-step-preserved : goal.loop-step-preserved
 loop-step-preserved c =
@@ -20,15 +19,12 @@ loop-step-preserved c =
     let t = tables_view o.tables in
     let look = look_of o in
     let i = c.loop-step.step-index in
-    let is : c.longest_rhythm-longest.result ≡ capped (resolved s).longest
-    = c.longest_rhythm-longest.ensures
-    ∙ ap₂ (λ w es. capped (longest_of w (map entry_view es))) (ap VersionRules.whole_note c.rules_of-rules.ensures.rules)
-    c.deref.ensures.value in
+    let is = c.longest_entry-longest.ensures in
     c.in_ok-before.ensures.ok s (play_in t (step_view look c.step-item.result).what)
     (passage_in t (block_view look (drop (i + 1) o.block.items)))
     (ap VersionRules.most_processes c.rules_of-rules.ensures.rules)
     (c.weigh_step-weight.ensures (resolved s).longest look is (rw c.deref-in-loop-step.ensures.value
-    (rw c.deref-2.ensures.value at (c.in_ok-phrases.ensures (resolved s).longest is))))
+    (rw c.deref.ensures.value at (c.in_ok-phrases.ensures (resolved s).longest is))))
     (at_step s c.loop-step.before t look o.block.items i c.step-item.result
     (rw c.deref-step-items.ensures.value at c.loop-step-test.true)
     (rw c.deref-step-items.ensures.value at c.step-item.is) c.loop-step.invariant)
@@ -40,15 +36,12 @@ returns-in_err-before-clause-refused c = λ why spot failed.
     let t = tables_view o.tables in
     let look = look_of o in
     let i = c.loop-step.step-index in
-    let is : c.longest_rhythm-longest.result ≡ capped (resolved s).longest
-    = c.longest_rhythm-longest.ensures
-    ∙ ap₂ (λ w es. capped (longest_of w (map entry_view es))) (ap VersionRules.whole_note c.rules_of-rules.ensures.rules)
-    c.deref.ensures.value in
+    let is = c.longest_entry-longest.ensures in
     c.in_err-before.ensures.refused why spot (handed failed c.from_residual-in_err-before.ensures.1) s
     (play_in t (step_view look c.step-item.result).what) (passage_in t (block_view look (drop (i + 1) o.block.items)))
     (ap VersionRules.most_processes c.rules_of-rules.ensures.rules)
     (c.weigh_step-weight.ensures (resolved s).longest look is (rw c.deref-in-loop-step.ensures.value
-    (rw c.deref-2.ensures.value at (c.in_ok-phrases.ensures (resolved s).longest is))))
+    (rw c.deref.ensures.value at (c.in_ok-phrases.ensures (resolved s).longest is))))
     (at_step s c.loop-step.before t look o.block.items i c.step-item.result
     (rw c.deref-step-items.ensures.value at c.loop-step-test.true)
     (rw c.deref-step-items.ensures.value at c.step-item.is) c.loop-step.invariant)
