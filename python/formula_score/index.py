@@ -57,7 +57,7 @@ INDEX = (
     Word("crescendo",
          "loud [50, 60, 70, 80] { note c4 1/4; note d4 1/4; note e4 1/4; note f4 1/4; }",
          "an entry for each note; a shorter list starts again without a word",
-         "cresc decresc decrescendo dim diminuendo hairpin fade fadein fadeout fade_in fade_out"),
+         "cresc decresc decrescendo dim diminuendo hairpin fade fadein fadeout fade_in fade_out louder softer quieter"),
     Word("da capo, coda",
          "phrase theme { note c4 1/4; } phrase middle { note e4 1/4; } do theme; do middle; do theme;",
          "what comes again is a phrase",
@@ -73,7 +73,8 @@ INDEX = (
     Word("dynamics",
          "volume 96 { note c4 1/4; }",
          "the velocity: pp 33, p 49, mp 64, mf 80, f 96, ff 112",
-         "dynamic vol ppp pp p mp mf f ff fff velocity vel forte mezzoforte fortissimo pianissimo loudness"),
+         "dynamic vol ppp pp p mp mf f ff fff velocity vel forte mezzoforte fortissimo pianissimo loudness soft softly "
+         "quiet quietly"),
     Word("fermata",
          "shape hold = flat 1/4 by 1000, pause 1/2; warp hold { note c4 1/2; note c4 1/2; }",
          "a pause in the middle of the note, in each voice by one `warp` round the `par`",
@@ -130,7 +131,8 @@ INDEX = (
          "shape ninety = flat 500/1 by 1333; warp ninety { repeat 2 { note c4 1/1; } }",
          "120,000 divided by the quarter notes a minute, for at least as long as the block with its repeats: "
          "`flat 500/1` is longer than most pieces; the file's own tempo stays 120",
-         "bpm speed metronome allegro andante adagio largo presto moderato vivace lento use_bpm allegretto tempi"),
+         "bpm speed metronome allegro andante adagio largo presto moderato vivace lento use_bpm allegretto tempi fast "
+         "slow"),
     Word("tie",
          "note c4 5/8;",
          "both lengths as one, over a bar line too",

@@ -83,8 +83,16 @@ def _doubled(spot: Spot) -> Optional[str]:
         return None
     if here.text == spot.last.text and (here.kind in KEYWORDS or here.text in (",", "[") or is_written) and (
             not spot.is_over_line):
-        return f"one `{here.text}` is enough: take this one away"
+        notes = re.match(rf"note {re.escape(here.text)} {re.escape(here.text)} ([0-9]+/[0-9]+|ticks [0-9]+)\s*;", _statement_on(spot))
+        more = f", or one after another `{' '.join([f'note {here.text} {notes[1]};'] * 2)}`" if notes else ""
+        return f"one `{here.text}` is enough: take this one away{more}"
     return None
+
+
+def _statement_on(spot: Spot) -> str:
+    """The present statement from its beginning on."""
+    begun = spot.statement[0].start if spot.statement else spot.place
+    return re.sub(r"\s+", " ", spot.source[begun:begun + 200])
 
 
 def _unopened(spot: Spot) -> Optional[str]:

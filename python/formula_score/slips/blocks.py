@@ -68,6 +68,12 @@ def at_block(spot: Spot) -> Optional[str]:
         return "one shape at a time: write `warp a { warp b { .. } }`"
     if here.text in ("(", "[", "<"):
         return f"the block stands between `{{` and `}}`: write `{shown} {{ .. }}`"
+    many = re.match(r",[0-9, ]+(?=\s*\{)", spot.rest) if head in ("volume", "gate") else None
+    if many and spot.last.kind == NUMBER:
+        word = {"volume": "loud", "gate": "artic"}[head]
+        entries = re.sub(r"\s*,\s*", ", ", f"{spot.last.text}{many[0]}".strip(" ,"))
+        return Computed(f"`{head}` has one number, and a list from note to note is `{word}`: write `{word} "
+                        f"[{entries}] {{ .. }}`")
     if head == "channel" and here.kind == "," and spot.next().kind == NUMBER:
         return ("one channel holds for a block, and a voice on another one is a branch of its own, as in "
                 f"`{FORMS['par']}`")
@@ -253,8 +259,10 @@ def at_setting(spot: Spot) -> Optional[str]:
         more = "; for a velocity from note to note, a `loud` list" if head == "volume" else ""
         return f"the number of `{head}` is written, and never computed, as in `{FORMS[head]}`{more}"
     if here.kind == "-":
-        return f"{_RANGE_OF[head]}: write `{FORMS[head]}`"
-    if here.kind in ("=", "+") or here.text == ":":
+        return f"{_RANGE_OF[head]}, as in `{FORMS[head]}`"
+    if here.kind == "+":
+        return f"the number of `{head}` adds nothing to the one of a block round it: {_RANGE_OF[head]}, as in `{FORMS[head]}`"
+    if here.kind == "=" or here.text == ":":
         text = spot.mended(spot.place, spot.place + 1, " ")
         return f"the number stands directly behind `{head}`: write `{text or FORMS[head]}`"
     if here.text == "[":

@@ -36,7 +36,7 @@ TEXT = Known("text is not in the file, and a `#` makes what follows it in its li
 HEAD = Known("a score begins with its head, `formula 1;`: write it in place of the lines of another language")
 #: Places that know what is meant by a text in quotes.
 _QUOTED = ("pitch", "length", "amount", "controller", "name", "new name", "slash", "end", "key", "setting", "entry",
-           "count", "stretch", "most", "ticks", "register", "version", "formula")
+           "count", "stretch", "most", "ticks", "register", "version", "formula", "value", "seed", "division")
 
 
 def at_byte(spot: Spot) -> Optional[str]:
@@ -81,7 +81,7 @@ def _capital(spot: Spot) -> Optional[str]:
     word = found[0] if found else spot.rest[:1]
     lower = word.lower()
     pitches = spot.where in ("pitch", "length", "key", "end") or spot.where == "statement"
-    if spot.where == "end" and spot.last.kind == NUMBER and spot.last.end == spot.place:
+    if spot.where == "end" and (word == "L" or spot.last.kind == NUMBER and spot.last.end == spot.place):
         return AT["end"](spot)
     if spot.where == "statement" and re.match(r"[RZ][0-9]*(?![A-Za-z:])", spot.rest):
         return _bars_of_rest(spot.rest)
@@ -237,8 +237,12 @@ def _mark(spot: Spot, first: str) -> Optional[str]:
         return by_index("volta")
     if first == "~":
         told = AT[spot.where](spot) if spot.where == "end" and spot.head in ("note", "rest") else None
-        if told and "in place of" in told:
+        if told and ("in place of" in told or isinstance(told, Computed)):
             return told
+        named = re.match(r"~([a-z][a-z0-9_]*)\s*=\s*\{", rest)
+        if spot.where == "statement" and named:
+            return (f"music with a name is a `phrase`: write `phrase {named[1]} {{ .. }}`, and play it by `do "
+                    f"{named[1]};`")
         if spot.where == "statement":
             silence = "skip;" if spot.is_inside("rhythm") else "rest 1/4;"
             return Known(f"if `~` stands for silence, write `{silence}`, and a tie is one note with both lengths in "

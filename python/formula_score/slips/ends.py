@@ -16,6 +16,7 @@ from .marks import angle, mark_behind
 from .near import near
 from .pitches import chord_plus
 from .reading import STATEMENTS
+from .several import in_a_row, tied
 from .shapes import end_of_shape
 from .spot import Spot, is_statement
 from .tokens import END, NAME, NUMBER, PITCH, Token
@@ -27,6 +28,9 @@ def at_end(spot: Spot) -> Optional[str]:
     here, head = spot.here, spot.head
     if here.text in (",", ":", ".", "|") and is_statement(spot.next()) and head not in ("note", "rest", "shape"):
         return f"each statement ends with `;`: write `;` in place of the `{here.text}`"
+    one = tied(spot) if head == "note" else None
+    if one:
+        return one
     between = _before_statement(spot)
     if between and stands(spot, between):
         return between
@@ -44,6 +48,9 @@ def at_end(spot: Spot) -> Optional[str]:
     if here.text in (")", "]"):
         return f"there is no open `{'(' if here.text == ')' else '['}` for this `{here.text}`: take it away"
     if here.kind == PITCH or here.kind == NAME and pitch_at(spot.text) and head in ("note", "play"):
+        row = in_a_row(spot)
+        if row:
+            return row
         return spot.write("each note is a statement of its own", spot.last.end, spot.place, f"; {head} ",
                           spot.statement[0].start) if head == "note" else None
     if here.text == ":" or here.text == "." and is_statement(spot.next()):
@@ -64,7 +71,7 @@ def _before_statement(spot: Spot) -> Optional[str]:
     parts = spot.after[:count]
     if not count or spot.is_over_line or "\n" in spot.source[spot.place:spot.next(count).start]:
         return None
-    if not all(each.text in _BETWEEN or each.kind == NAME and not musical(each.text) for each in parts):
+    if not all(each.text in (*_BETWEEN, "L") or each.kind == NAME and not musical(each.text) for each in parts):
         return None
     if any(pitch_at(each.text) or each.text in spot.names or near(each.text, STATEMENTS) for each in parts):
         return None
@@ -100,9 +107,12 @@ def _end_of_sound(spot: Spot) -> Optional[str]:
             length = length_at(text)
             return f"a statement ends with `;`: {ended(spot)}" + (
                 f", or `{length.write}` for the length if it is dotted" if length else "")
+        times = re.match(r"[0-9]+ ?/ ?[0-9]+ ?\* ?([0-9]{1,4})\s*;", text)
         for meant in (sum_at(text), length_at(text)):
             if meant and begun + len(meant.wrote) > spot.place:
-                return spot.write(meant.why, begun, begun + len(meant.wrote), meant.write)
+                cure = spot.write(meant.why, begun, begun + len(meant.wrote), meant.write)
+                return Computed(f"{cure} for one note, or `repeat {times[1]} {{ {statement_text(spot)} }}` for "
+                                f"{times[1]} of them") if cure and times and head == "note" else cure
     if here.kind in (*_ROUND, "warp") and not spot.is_over_line and _block_round(spot):
         return _block_round(spot)
     if spot.is_over_line:
@@ -135,10 +145,16 @@ def _end_of_sound(spot: Spot) -> Optional[str]:
                 return f"the velocity is that of a block, as in `volume 80 {{ {statement_text(spot)} }}`"
             return f"a {head} has one length, and nothing behind it but `;`"
         if after.kind in (PITCH, NAME) and head == "note":
+            row = in_a_row(spot)
+            if row:
+                return row
             found = pitch_at(spot.source[after.start:])
             pitch = found.write if found and found.write else after.text
             end = after.start + len(found.wrote if found else after.text)
-            apart = spot.write("each note is a statement of its own", spot.last.end, end, f"; note {pitch}")
+            why = "each note is a statement of its own"
+            apart = spot.write(why, spot.last.end, end, f"; note {pitch}")
+            if not apart:
+                return f"{why}, with its length, as in `note {pitch} 1/4;`"
             chord = re.match(r"note ([^;]*?) ([0-9]+/[0-9]+|ticks [0-9]+);", statement_text(spot))
             return Computed(f"{apart}, or `note {chord[1]}, {pitch} {chord[2]};` for a chord") if chord else apart
         if after.kind == "rest" or after.kind == "note":
@@ -248,7 +264,8 @@ def _end_of_message(spot: Spot) -> Optional[str]:
     if here.kind == "%" and spot.next().kind == ";":
         return "a value is a number alone: take the `%` away"
     if here.kind == "{":
-        return f"a `{head}` holds from its place on, and has no block: write `;`, and take the `{{` and its `}}` away"
+        return (f"a `{head}` holds from its place on, and has no block: write `;` in place of the `{{`, and take its "
+                "`}` away")
     if here.kind == "," or here.kind == NUMBER:
         if head == "control":
             return ("a `control` has a controller and a value: write one `control` for each, as `control 7 100; "

@@ -27,7 +27,8 @@ def _followed(spot: Spot, cure: str) -> Iterator[Changes]:
     meant = re.match(r"did you mean (.*)\?", cure)
     if meant:
         for word in re.findall(r"`([^`]*)`", meant[1]):
-            yield (Change(place, _run(spot)[1], word),)
+            end = max(spot.end_of_statement(place), here.end) if word.endswith(";") else _run(spot)[1]
+            yield (Change(place, end, word),)
         return
     both = _BOTH.search(cure)
     if both:
@@ -114,7 +115,7 @@ def _written(spot: Spot, code: str) -> Iterator[Changes]:
 def _run(spot: Spot) -> tuple[int, int]:
     """The letters and digits at the place, also where they are no token."""
     joined = spot.last.is_word and spot.last.end == spot.place
-    found = re.match(r"[A-Za-z0-9_]+", spot.rest)
+    found = re.match(r"[A-Za-z0-9_]+|[\x80-\xff][\x80-\xbf]*", spot.rest)
     return (spot.last.start if joined else spot.place,
             max(spot.place + (len(found[0]) if found else 0), spot.here.end, spot.place))
 

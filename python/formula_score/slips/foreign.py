@@ -70,6 +70,10 @@ def pitch_at(text: str, with_comma: bool = False) -> Optional[Foreign]:
         key = _STEPS[lowest[1].lower()] + _ACCIDENTALS[lowest[2] or ""]
         why = "named pitches go from `cb0` to `g9`, and lower ones are a `key`"
         return Foreign(lowest[0], f"key {max(0, key)}", why)
+    bare = re.match(r"(es|as)(?![A-Za-z0-9'’])", text)
+    if bare:
+        return Foreign(bare[0], f"{bare[0][0]}b4", f"of `{bare[0]}` the flat is `{bare[0][0]}b4`, and the sharp "
+                       f"`{bare[0][0]}s4`", False)
     found = _PITCH.match(text)
     if not found:
         found = re.match(r"([AaEe])(s)([0-9]*)(?![A-Za-z0-9])()", text)
@@ -81,7 +85,7 @@ def pitch_at(text: str, with_comma: bool = False) -> Optional[Foreign]:
     wrote = found.group()
     if marks and marks.startswith(",") and not with_comma:
         marks, wrote = "", wrote[:-len(marks)]
-    rise = _ACCIDENTALS[mark]
+    rise = -1 if marks and mark == "s" and letter in "ae" else _ACCIDENTALS[mark]
     octave = int(digits) if digits else 4
     if marks:
         octave = _octaves(letter, marks)[0]
@@ -229,13 +233,16 @@ def _foreign(wrote: str, value: Fraction, why: str) -> Optional[Foreign]:
 
 def sum_at(text: str) -> Optional[Foreign]:
     """Two or more lengths that others would add, multiply or tie: `1/4 + 1/8`, `1/4~1/16`, `1/2 * 3`."""
-    found = re.match(r"([0-9]{1,4})/([0-9]{1,4})((?: ?[-+~_&] ?[0-9]{1,4}/[0-9]{1,4})+| ?\* ?[0-9]{1,4})(?![0-9a-z/])",
-                     text)
+    found = re.match(r"([0-9]{1,4})/([0-9]{1,4})((?: ?[-+~_&] ?[0-9]{1,4}/[0-9]{1,4})+|"
+                     r" ?\* ?[0-9]{1,4}(?:/[0-9]{1,4})?)(?![0-9a-z/])", text)
     if not found or not int(found[2]):
         return None
     value = Fraction(int(found[1]), int(found[2]))
     if "*" in found[3]:
-        value *= int(found[3].replace("*", "").strip())
+        over, _, under = found[3].replace("*", "").strip().partition("/")
+        if not int(under or 1):
+            return None
+        value *= Fraction(int(over), int(under or 1))
     else:
         for sign, over, under in re.findall(r"([-+~_&]) ?([0-9]+)/([0-9]+)", found[3]):
             if not int(under):

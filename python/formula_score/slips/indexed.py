@@ -20,7 +20,7 @@ def by_index(word: str, number: str = "") -> Optional[str]:
     line = musical(word)
     if line is None:
         return None
-    if line.words == "tempo" and number and 2 <= int(number[:6]) <= 1000:
+    if line.words == "tempo" and number and word != "speed" and 20 <= int(number[:6]) <= 400:
         stretch = round(120_000 / int(number))
         return Known("a tempo is a `warp` round the piece, by 120,000 divided by the tempo: write `shape "
                        f"tempo_{number} = flat 500/1 by {stretch}; warp tempo_{number} {{ .. }}`")

@@ -147,12 +147,16 @@ def _behind_pitch(spot: Spot) -> Optional[str]:
         if here.kind == "-" and spot.next().kind == NUMBER:
             return "a computed pitch is `key` and parentheses: write `note key (60 - 2) 1/4;`"
     if here.text == "'" or here.text == "’":
-        return "the octave is a digit, and `c4` is middle C: take the `'` away"
+        return f"the octave is the digit, and `c4` is middle C: take the `{here.text}` away, or write another digit"
     if here.text == "." and re.match(r"\. +[0-9]", spot.rest):
         return (f"a pitch has no dot: staccato is `gate 50 {{ {sounding(spot)} }}`, and a dotted quarter has the "
                 "length `3/8`")
     if here.text == "." and not re.match(r"\.(?: ;|[0-9])", spot.rest):
         return by_mark(".", "triplet")
+    times = re.match(r"[*x] ?([0-9]{1,4}) ([0-9]+/[0-9]+|ticks [0-9]+)\s*;", spot.rest)
+    if times:
+        return Computed(f"a loop plays a note more than once: write `repeat {times[1]} {{ {statement_text(spot)[:-1]} "
+                        f"{times[2]}; }}`")
     if here.kind == "*" or here.text == "x" and spot.next().kind == NUMBER:
         return (f"the length is missing behind `{pitch}`, and a loop plays a note more than once: write `repeat 4 {{ "
                 f"note c4 1/4; }}`")
@@ -223,81 +227,6 @@ def _length_of_part(spot: Spot) -> str:
     if spot.here.kind in ("(", REGISTER, INDEX, *FUNCTIONS):
         return f"the length of a part is written, and never computed, as in `{form}`"
     return f"a length stands behind `{kind}`, as in `{form}`"
-
-
-def at_slash(spot: Spot) -> Optional[str]:
-    """Behind the first number of a length."""
-    here = spot.here
-    start = spot.last.start
-    mixed = re.match(r"([0-9]{1,3}) ([0-9]{1,3})/([0-9]{1,3})(?![0-9/])", spot.source[start:])
-    if mixed and int(mixed[3]) and int(mixed[2]) < int(mixed[3]):
-        whole, over, under = map(int, mixed.groups())
-        cure = write_length(spot, start, mixed[0], f"{whole * under + over}/{under}", "a length is one fraction")
-        if whole == over and cure:
-            return Computed(f"{cure}, or take one `{whole}` away")
-        times = spot.mended(start, start + len(mixed[0]), f"{whole * over}/{under}")
-        return Computed(f"{cure} for the sum, or `{times}` for the product") if cure and times else cure
-    if here.kind == NUMBER:
-        return spot.write("a length has a `/` between its two numbers", spot.last.end, spot.place, "/")
-    if here.kind == "ticks":
-        return write_length(spot, start, spot.source[start:here.end], f"ticks {spot.last.text}",
-                            "the number stands behind `ticks`")
-    product = re.match(r"([0-9]+) ?\* ?([0-9]+) ?/ ?([0-9]+)(?![0-9])", spot.source[start:])
-    if product:
-        return write_length(spot, start, product[0], f"{int(product[1]) * int(product[2])}/{product[3]}",
-                            "lengths are written as one")
-    pair = re.match(r"([0-9]+)([-,|?!&^_;])([0-9]+)(?![0-9/])", spot.source[start:])
-    if pair and pair[2] == "," and spot.head in ("note", "rest") and pair[1] in ("0", "1", "2", "3"):
-        decimal = length_at(f"{pair[1]}.{pair[3]}")
-        if decimal:
-            return write_length(spot, start, pair[0], decimal.write, decimal.why)
-    if pair and pair[2] != ",":
-        return write_length(spot, start, pair[0], f"{pair[1]}/{pair[3]}", "a length has a `/` between its two numbers")
-    if here.kind == NAME and length_at(here.text):
-        part = length_at(here.text)
-        if part and re.fullmatch(r"1/[0-9]+", part.write) and not here.text.startswith("dotted"):
-            return write_length(spot, start, spot.source[start:here.end], f"{spot.last.text}/{part.write[2:]}",
-                                part.why)
-    if here.kind == NAME:
-        return "a length is a part of a whole note, as `1/4`, or `ticks N`"
-    meant = length_at(spot.source[start:])
-    if spot.head == "shape" and here.kind in ("by", ",", ";", "}", END):
-        number = spot.last.text
-        return f"a length is a part of a whole note: write `{number}/1` for {number} of them, or `1/{number}`"
-    both = re.fullmatch(r"([1-9])(2|4|8|12|16|24|32|48|64)", spot.last.text)
-    if both and int(spot.last.text) > 128 and spot.head in ("note", "rest"):
-        text = spot.mended(start, spot.last.end, f"{both[1]}/{both[2]}")
-        if text:
-            return Computed(f"a length is a part of a whole note, or ticks: write `{text}`, or `ticks "
-                            f"{spot.last.text}` for its length")
-    beats = _beats(spot) if spot.head in ("note", "rest") and here.kind in (";", "}", END) and (
-        spot.next().text != "/") else None
-    if beats:
-        return beats
-    if meant and not meant.is_sure and spot.head in ("note", "rest"):
-        text = spot.mended(start, start + len(meant.wrote), meant.write)
-        why = "a length is a part of a whole note, as `1/4`"
-        return Computed(f"{why}: if it is in ticks, write `{text}`") if text else None
-    if meant and start + len(meant.wrote) >= spot.last.end:
-        if spot.head == "shape" and here.kind == "by" or here.kind != OTHER or len(meant.wrote) > len(spot.last.text):
-            return write_length(spot, start, meant.wrote, meant.write, meant.why)
-    if here.kind in (";", "}", ",", "]", "by", END):
-        return f"a length is a part of a whole note, as `1/{spot.last.text}` or `{spot.last.text}/4`, or `ticks N`"
-    return None
-
-
-def _beats(spot: Spot) -> Optional[str]:
-    """A length that is a number of one digit: a part of a whole note, or so many quarters."""
-    number = spot.last
-    if number.text not in ("1", "2", "4", "8"):
-        return None
-    part, beats = (spot.mended(number.start, number.end, each) for each in (f"1/{number.text}", f"{number.text}/4"))
-    if not part or not beats:
-        return None
-    named = {"1": "a whole note", "2": "a half", "4": "a quarter", "8": "an eighth"}[number.text]
-    many = "quarter" if number.text == "1" else "quarters"
-    return Computed(f"a length is a part of a whole note, or `ticks N`: write `{part}` for {named}, or `{beats}` for "
-                    f"{number.text} {many}")
 
 
 def at_denominator(spot: Spot) -> Optional[str]:

@@ -14,6 +14,7 @@ from .forms import FORMS
 from .indexed import by_index, instrument
 from .near import near
 from .reading import STATEMENTS, reads
+from .several import with_words
 from .spot import Spot, is_statement
 from .tokens import END, INDEX, NAME, NUMBER, OTHER, PITCH, REGISTER, tokens
 
@@ -44,10 +45,10 @@ def at_pitch(spot: Spot) -> Optional[str]:
         return spot.write("no comma stands before the length", spot.last.start, spot.last.end, "")
     if here.kind == NAME and near(here.text, ["key"]) and spot.next().kind in ("(", NUMBER):
         return "did you mean `key`?"
-    apart = re.match(r"([a-g][sb]?) ([0-9])([0-9]+) ?/", spot.rest)
-    if apart and here.kind == NAME:
+    parted = re.match(r"([a-g][sb]?) ([0-9])([0-9]+) ?/", spot.rest)
+    if parted and here.kind == NAME:
         return spot.write("the octave stands directly behind the letter, and the length behind a blank", spot.place,
-                          spot.place + len(apart[0]) - 1, f"{apart[1]}{apart[2]} {apart[3]}")
+                          spot.place + len(parted[0]) - 1, f"{parted[1]}{parted[2]} {parted[3]}")
     split = re.match(r"([a-g][sb]?[0-9])([0-9]+) ?/", spot.rest)
     if split and here.kind == NAME:
         return spot.write("a blank stands between a pitch and its length", spot.place + len(split[1]),
@@ -56,6 +57,12 @@ def at_pitch(spot: Spot) -> Optional[str]:
         joined = pitch_at(here.text + spot.next().text)
         if joined and joined.write:
             return spot.write("no blank stands in a pitch", spot.place, spot.next().end, joined.write)
+    run = re.match(r"(?:[a-g][sb]?[0-9]){2,}(?![a-z0-9_])", spot.rest)
+    if run and here.kind == NAME:
+        each = re.findall(r"[a-g][sb]?[0-9]", run[0])
+        text = spot.mended(spot.place, spot.place + len(run[0]), ", ".join(each))
+        if text:
+            return Computed(f"commas stand between the pitches of a chord: write `{text}`{apart(text)}")
     both = re.match(r"([a-h](?:is|es|s|f|isis|eses)?[',]+)([0-9]+\.*)(?![0-9a-z])", spot.rest)
     if both and here.kind == NAME:
         pitch, length = pitch_at(both[1], True), length_at(both[2])
@@ -90,6 +97,8 @@ def _rest_for_note(spot: Spot) -> str:
         meant = length_at(found[1])
         length = meant.write if meant and int(found[1].strip(".")) <= 64 else length
     why = "silence is a statement of its own"
+    if spot.head == "play" and not length:
+        return Computed(f"{why}: write `skip;`")
     return Computed(f"{why}: write `rest {length};`") if length else f"{why}, as in `rest 1/4;`"
 
 
@@ -123,6 +132,13 @@ def _number_for_pitch(spot: Spot, commas: bool) -> str:
 def _no_pitch(spot: Spot) -> Optional[str]:
     here, head = spot.here, spot.head
     form = f"`{FORMS[head]}`" if head in FORMS else "`note c4 1/4;`"
+    if here.text == "do" and spot.last.text == head:
+        return f"pitches have the letters a to g, and an octave, as in {form}"
+    chord = with_words(spot) if here.kind == "note" and spot.last.text == "," else None
+    if chord:
+        return chord
+    if is_statement(here) and spot.last.text == "," and not spot.is_over_line:
+        return Computed(f"each statement ends with `;`: write `;` in place of the `,` before `{here.text}`")
     if here.kind in (";", "}", END) or is_statement(here):
         return f"a pitch is missing, as in {form}"
     if here.text in ("(", "[", "{", "<"):

@@ -8,10 +8,11 @@ from typing import Callable, Optional
 from .blocks import at_block, at_branch, at_count, at_entries, at_entry, at_list, at_name, at_new_name, at_setting
 from .ends import at_end
 from .forms import FORMS
-from .lengths import at_denominator, at_length, at_max, at_most, at_slash, at_ticks
+from .lengths import at_denominator, at_length, at_max, at_most, at_ticks
 from .near import near
 from .pitches import at_amount, at_controller, at_key, at_pitch
 from .shapes import at_by, at_part, at_stretch, at_to
+from .slash import at_slash
 from .spot import Spot, is_statement
 from .tokens import END, NAME, NUMBER, OTHER
 from .values import at_equals, at_function, at_operator, at_register, at_value
@@ -22,7 +23,7 @@ def at_seed(spot: Spot) -> Optional[str]:
     word = spot.statement[0].text if spot.statement else "seed"
     if (spot.here.kind == "=" or spot.here.text == ":") and spot.next().kind == NUMBER:
         return f"the number stands directly behind `{word}`: write `{word} {spot.next().text};`"
-    return f"a written number stands behind `{word}`: write `{FORMS.get(word, 'seed 42;')}`"
+    return f"a written number stands behind `{word}`, as in `{FORMS.get(word, 'seed 42;')}`"
 
 
 def at_head(spot: Spot) -> Optional[str]:

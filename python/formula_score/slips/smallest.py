@@ -17,8 +17,9 @@ _SYMBOLS = re.compile(r"`?([;,{}()\[\]=/]|formula|by|to|max|branch)`?")
 
 #: Marks and words that say nothing by themselves.
 _EMPTY = (",", ";", "=", ")", "]", "then", "of", "the", "a", "an")
-#: Brackets that may be typed for a brace.
-_BRACES = {"{": "([<", "}": ")]>"}
+#: Marks that may be typed for a mark.
+_TYPED_FOR = {";": ":,.", ",": ".;:", "/": "\\|", "{": "([<", "}": ")]>", "[": "({<", "]": ")}>;", "(": "[{<",
+              ")": "]}>", "=": ":-"}
 _CLOSES = {"(": ")", "[": "]", "{": "}"}
 
 
@@ -87,9 +88,7 @@ def _edits(spot: Spot) -> Iterator[Edit]:
             yield Edit("put in", (Change(last.end, last.end, f" {symbol} "),),
                        f"write `{symbol}` behind `{last.text}`" if symbol != ")" else
                        "a `)` is missing here or before, or one `(` is too many")
-        if symbol in _BRACES and here.text not in _BRACES[symbol]:
-            continue
-        if here.kind not in (END, NAME, NUMBER, PITCH, *KEYWORDS) and here.text not in "<>^_~!&@$*+-%\"'":
+        if here.kind != END and here.text in _TYPED_FOR.get(symbol, ""):
             yield Edit("exchanged for", (Change(here.start, here.end, f" {symbol} "),),
                        f"write `{symbol}` in place of the {spot.shown(here)}")
 
@@ -193,7 +192,7 @@ def _one_number(spot: Spot) -> Iterator[Edit]:
     one, other = spot.last, spot.here
     if one.kind != NUMBER or other.kind != NUMBER or one.text == other.text or len(spot.before) < 2:
         return
-    if spot.before[-2].text != "/" and spot.source[one.end:other.start] == " ":
+    if spot.before[-2].text != "/" and spot.next().kind != "/" and spot.source[one.end:other.start] == " ":
         word = one.text + other.text
         yield Edit("joined", (Change(one.start, other.end, word),),
                    f"write `{word}` in place of `{one.text} {other.text}`, or take one of the two away")

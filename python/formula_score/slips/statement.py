@@ -58,6 +58,8 @@ def at_statement(spot: Spot) -> Optional[str]:
         return f"a blank stands behind `{joined[1]}`: write `{text or f'{joined[1]} {joined[2]}'}`"
     if after.kind == "=" and spot.rest[after.end - spot.place:].lstrip()[:1] in ("\\", "{"):
         return f"music with a name is a `phrase`: write `phrase {word} {{ .. }}`, and play it by `do {word};`"
+    if after.text == ":" and spot.next(2).kind == "=" and not musical(word):
+        return f"only registers, `r0` to `r7`, have values, as in `set r0 = 60;`, in place of `{word}`"
     if after.kind == "=" and not musical(word) and spot.next(2).kind not in ("{", "flat", "slope", "pause", "breath"):
         return f"only registers, `r0` to `r7`, have values, as in `set r0 = 60;`, in place of `{word}`"
     if after.text == ":" and after.start == here.end and word in ("piano", "violin", "guitar", "flute", "trumpet"):
@@ -92,9 +94,14 @@ def at_statement(spot: Spot) -> Optional[str]:
     rest = re.match(r"[rs]([0-9]+)(?![a-z0-9_])", spot.rest)
     if rest:
         return _rest(spot, rest[1])
-    if re.match(r"[zx][0-9]*\s*;", spot.rest):
-        return "silence is a `rest` with its length, as in `rest 1/4;`"
+    silent = re.match(r"[zx][0-9]*(?: +([0-9]+/[0-9]+|ticks [0-9]+))?\s*;", spot.rest)
+    if silent:
+        return Computed(f"silence is a `rest` with its length: write `rest {silent[1]};`") if silent[1] else (
+            "silence is a `rest` with its length, as in `rest 1/4;`")
     number = _number_of(spot)
+    pair = by_index(f"{word}_{after.text}") or by_index(f"{word} {after.text}") if after.is_word else None
+    if pair:
+        return pair
     line = musical(word)
     named = re.match(r"[a-z_]+[\s=:\"'(]+([a-z][a-z _]*[a-z])", spot.rest)
     if line and line.words == "instrument" and named:

@@ -27,7 +27,7 @@ def at_symbol(spot: Spot) -> Optional[str]:
         return ("one `;` is enough: take this one away" if last == ";" else
                 "no statement stands before this `;`: take it away")
     if text == "}":
-        return "there is no open `{` for this `}`: take it away"
+        return closes_nothing(spot)
     if text == "{":
         if last == "{":
             return f"one `{{` is enough: take this one{'' if lacks_brace(spot) else ' and its `}`'} away"
@@ -39,8 +39,10 @@ def at_symbol(spot: Spot) -> Optional[str]:
         return f"the `{{` at {spot.spelled(block.token.start)}, behind `{block.word}`, ends with `}}`: write `}}` here"
     if text in (")", "]"):
         return f"there is no open `{'(' if text == ')' else '['}` for this `{text}`: take it away"
-    if text == "/" and spot.rest[:2] in ("//", "/*"):
+    if text == "/" and spot.rest[:2] == "//":
         return Known("a comment begins with `#`, and ends with its line: write `#`")
+    if text == "/" and spot.rest[:2] == "/*":
+        return block_comment(spot)
     if text == "-" and spot.rest.startswith("--"):
         return Known("a comment begins with `#`, and ends with its line: write `#`")
     if text == "%":
@@ -50,7 +52,8 @@ def at_symbol(spot: Spot) -> Optional[str]:
     words = re.match(r"\(([A-Za-z_ ]+)\)\s*(?:\n|\Z|[a-z]+ )", spot.rest)
     if words and kind_of(words[1].split(" ")[0]) not in STATEMENTS:
         line = by_index(words[1].strip())
-        return Known("other text stands behind `#`: write `#` before it" + (f"; {line}" if line else ""))
+        return Known(f"other text stands behind `#`: {as_comment(spot, spot.place + len(words[1]) + 2)}" + (
+            f"; {line}" if line else ""))
     inside = re.match(r"\(\s*([a-z_]+)\s*([0-9]*)", spot.rest)
     if inside and by_index(inside[1]):
         return by_index(inside[1], inside[2])
@@ -65,6 +68,33 @@ def at_symbol(spot: Spot) -> Optional[str]:
     if text == ",":
         return "a `;` ends each statement, and no `,` follows it: take the `,` away"
     return None
+
+
+def closes_nothing(spot: Spot) -> str:
+    """What to do about a `}` without a `{`: it is one too many, or one before it is."""
+    why = "there is no open `{` for this `}`: take it away"
+    empty = next((each for each, other in zip(reversed(spot.before), reversed(spot.before[:-1]))
+                  if each.text == "}" and other.text == "{"), None)
+    if empty:
+        return f"{why}, or the `}}` at {spot.spelled(empty.start)}, which closes its block at once"
+    if any(each.text == "}" for each in spot.before) and spot.last.text != "}":
+        return f"{why}, or one before it that closes its block too soon"
+    return why
+
+
+def as_comment(spot: Spot, end: int) -> str:
+    """How text that ends before a byte becomes a comment: a `#` before it makes one of the rest of its line, too."""
+    behind = re.match(r"[ \t;]*(?:#[^\n]*)?(?:\n|\r|\Z)", spot.source[end:])
+    return "write `#` before it" if behind else "take it away, or put it behind a `#` at the end of the line"
+
+
+def block_comment(spot: Spot) -> Known:
+    """What to do about a comment of another language with an end of its own."""
+    found = re.match(r"/\*.*?\*/", spot.source[spot.place:], re.S)
+    why = "a comment begins with `#`, and ends with its line"
+    if found and "\n" in found[0]:
+        return Known(f"{why}: take `/*` and `*/` away, and write `#` before each line of it")
+    return Known(f"{why}: {as_comment(spot, spot.place + len(found[0])) if found else 'write `#` before it'}")
 
 
 def _brackets(spot: Spot) -> Optional[str]:
@@ -94,7 +124,7 @@ def at_number_of_statement(spot: Spot) -> Optional[str]:
     if spot.next().kind in STATEMENTS or spot.next().text in spot.phrases:
         return f"a loop plays something more than once: write `repeat {number} {{ .. }}`"
     if spot.next().text == "{":
-        return f"a loop begins with its word: write `repeat {number} {{`"
+        return f"a loop begins with its word: write `repeat {number} {{ .. }}`"
     if spot.next(1).kind == "/" or 0 <= int(number[:6]) <= 127 and spot.next().kind in (NUMBER, "ticks", ","):
         return f"a key by its number is a note of `key`: write `note key {number} 1/4;`"
     return "a statement begins with its word, as `note` or `rest`"

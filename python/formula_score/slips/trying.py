@@ -8,7 +8,7 @@ from .judging import Fault, Judge, lexed
 from .ranges import whole_note
 from .reading import There
 from .spot import Spot
-from .tokens import OTHER, Token, tokens
+from .tokens import NUMBER, OTHER, Token, tokens
 
 #: How many bytes behind the place are read anew.
 WINDOW = 600
@@ -77,7 +77,7 @@ def mends(spot: Spot, changes: Sequence[Change], once: bool = False) -> bool:
     if fault is None:
         return True
     if text[end - 1:end] == ";" and fault.place >= end and any(each.new.strip() for each in changes):
-        return True
+        return not _is_left_over(text, end, fault)
     if fault.place > _block_begun(read, end, ended):
         return True
     return not once and fault.place > max(last + grown, spot.place - part.start) and _is_again(spot, judge, text, fault)
@@ -91,10 +91,19 @@ def _block_begun(read: Sequence[Token], end: int, ended: int) -> int:
     return behind[0].start if behind else ended
 
 
+def _is_left_over(text: str, end: int, fault: Fault) -> bool:
+    """Whether what stands directly behind a mended statement can only belong to what was written before."""
+    behind = next(tokens(text, end))
+    return behind.start == fault.place and "\n" not in text[end:behind.start] and behind.kind in (
+        "/", "*", "+", "%", "=", ",", ")", "]", NUMBER)
+
+
 def _is_again(spot: Spot, judge: Judge, text: str, fault: Fault) -> bool:
     """Whether the same slip comes once more in a statement: the same kind of token at the same place of the grammar."""
     here = next(tokens(text, fault.place))
-    is_same = here.text == spot.here.text if here.kind == OTHER else here.kind == spot.here.kind
+    is_same = here.kind == spot.here.kind
+    if is_same and here.kind == OTHER:
+        is_same = here.text == spot.here.text or here.text.isalpha() and spot.here.text.isalpha()
     return is_same and judge.where == spot.where
 
 

@@ -268,6 +268,14 @@ def at_value(spot: Spot) -> Optional[str]:
         return spot.write("a register gets its value by one `=`", spot.place, spot.place + 1, "")
     if here.text == "!":
         return _logic("!", spot)
+    quoted = re.match(r"([\"'])([^\"'\n]{0,30})\1", spot.rest)
+    if quoted:
+        named = pitch_at(quoted[2])
+        if named and named.write and not named.write.startswith("key"):
+            key = int(Pitch(named.write))
+            return spot.write(f"a value is a number, and the key of `{named.write}` is {key}", spot.place,
+                              spot.place + len(quoted[0]), str(key))
+        return Known("a value is a number, without quotes, as in `60`")
     if here.kind in (")",):
         return "a value is missing before the `)`"
     if here.kind == "{" and last.text == "%" and spot.before[-2].kind == NUMBER and spot.head == "if":
