@@ -15,6 +15,7 @@ from .places import AT
 from .ranges import known_name, no_ticks, out_of_range, unknown_name
 from .smallest import meant, rearranged, smallest
 from .spot import Spot
+from .stray import or_away, outside, quoted_away
 from .statement import at_statement
 from .trying import Change, mends
 from .tokens import END, INDEX, NAME, NUMBER, PITCH, REGISTER, kind_of
@@ -43,7 +44,7 @@ def told(data: bytes, line: int, column: int, number: int) -> Optional[Told]:
         found = _BY_NUMBER[number](spot)
         return Told(found[0], worded(spot, found[1]), place) if found else None
     if number == 1:
-        return Told(_heading_of_byte(spot), _checked(spot, _word_in_parts, at_byte) or _form(spot) or _ANY_BYTE, place)
+        return Told(_heading_of_byte(spot), _checked(spot, quoted_away, _word_in_parts, at_byte) or _form(spot) or _ANY_BYTE, place)
     if number == 2:
         return Told(_heading_of_number(spot), _checked(spot, at_number), place)
     rule = at_statement if spot.where == "statement" else AT[spot.where]
@@ -57,10 +58,11 @@ def _checked(spot: Spot, *rules: Rule) -> str:
         cure = rule(spot)
         if cure and stands(spot, cure):
             if isinstance(cure, (Computed, Known)):
-                return isinstance(cure, Known) and rearranged(spot) or without_rhythm(spot, cure)
+                told = isinstance(cure, Known) and rearranged(spot) or without_rhythm(spot, cure)
+                return or_away(spot, told) if told.startswith("if `") else told
             return (rearranged(spot) if says_a_change(spot, cure) else meant(spot)) or without_rhythm(
                 spot, worded(spot, cure))
-    return smallest(spot) or ""
+    return outside(spot) or smallest(spot) or ""
 
 
 #: What is told of a place, by what stands there.

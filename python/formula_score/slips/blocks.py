@@ -182,7 +182,10 @@ def at_name(spot: Spot) -> Optional[str]:
     if here.kind in ("phrase", "shape"):
         return f"the name alone stands behind `{head}`: take `{here.text}` away"
     if here.kind in STATEMENTS and head == "do":
-        return f"`do` plays a phrase by its name, and `{here.text}` stands by itself: take `do` away"
+        why = f"`do` plays a phrase by its name, and `{here.text}` stands by itself"
+        return f"{why}: write the name behind `do`, as in `{form}`, or take `do` away"
+    if here.kind in STATEMENTS and spot.is_over_line:
+        return f"a name is missing behind `{head}`, as in `{form}`"
     if here.text.isalpha():
         return f"a name is no keyword, and `{here.text}` is one: give it another name"
     return f"a name is missing behind `{head}`, as in `{form}`"

@@ -27,6 +27,8 @@ _TYPED = {"–": "-", "—": "-", "−": "-", "×": "*", "÷": "/", "⁄": "/", 
 _FRACTIONS = {"¼": "1/4", "½": "1/2", "¾": "3/4", "⅛": "1/8", "⅜": "3/8", "⅓": "1/3", "⅔": "2/3", "⅙": "1/6"}
 _SIGNS = {"♩": "1/4", "♪": "1/8", "𝅝": "1/1", "𝅗𝅥": "1/2"}
 _FIELDS = "XTCMLQKVRNOAW"
+#: A letter and a colon before a statement in its line.
+_STATED = re.compile(r"[A-Z]:[^;{}\n]*?\b(?:note|rest|repeat|do|play|par|volume|channel)\b")
 _COMMANDS = ("relative", "absolute", "fixed", "score", "version", "language", "header", "paper", "layout", "new",
              "book")
 #: What to do about text that is no music.
@@ -48,9 +50,9 @@ def at_byte(spot: Spot) -> Optional[str]:
     if first == "\\":
         return _backslash(spot)
     if first in _TYPED:
-        return f"`{first}` is typed for `{_TYPED[first]}`: write `{_TYPED[first]}`"
+        return f"`{first}` is typed for `{_TYPED[first]}`: write `{_TYPED[first]}` in place of `{first}`"
     if first in _FRACTIONS:
-        return f"a length is written with `/`: write `{_FRACTIONS[first]}` in place of `{first}`"
+        return Computed(f"a length is written with `/`: write `{_FRACTIONS[first]}` in place of `{first}`")
     if text.startswith("♩") and re.match(r"♩\s*=\s*[0-9]+", text):
         number = re.match(r"♩\s*=\s*([0-9]+)", text)
         return by_index("tempo", number[1] if number else "")
@@ -58,6 +60,8 @@ def at_byte(spot: Spot) -> Optional[str]:
         return f"a length is a part of a whole note: write `{_SIGNS[first]}` in place of `{first}`"
     if first in "\u00a0\u2003\u2002\u2009\u202f\u3000\u200b\ufeff\u200e\u2028":
         return "this is a blank of another kind, or none that is seen: write a plain blank in its place"
+    if text.startswith(('"""', "'''")) and spot.where in ("statement", "formula"):
+        return Known(f"text is not in the file: take `{text[:3]}` away, and write `#` before each line of it")
     if spot.where == "statement" and first in "<>|\"“”„'‘’«»:~&@!^*_.":
         found = _mark_of_statement(spot, first)
         if found:
@@ -139,11 +143,18 @@ def _bars_of_rest(text: str) -> str:
 
 
 def _field(letter: str, rest: str) -> Optional[str]:
-    """A field of ABC."""
+    """A field of ABC, or a label."""
+    line = re.match(r"[A-Z]:[^;{}\n]*(?=\n|\Z)", rest)
+    found = _field_by_letter(letter, rest)
+    why = f"a field of ABC is none here: write `#` before it, or take it away; {found}"
+    return Known(why) if line and found and letter in "MKL" else found
+
+
+def _field_by_letter(letter: str, rest: str) -> Optional[str]:
     number = re.search(r"([0-9]+)\s*$", rest.split("\n")[0])
     return {"M": by_index("meter"), "K": by_index("key_signature"), "Q": by_index("tempo", number[1] if number else ""),
             "L": "each note has its own length: write `note c4 1/8;`, or `rhythm [1/8] { play c4; play d4; }`",
-            "V": by_index("voice")}.get(letter, TEXT)
+            "V": by_index("voice")}.get(letter, None if _STATED.match(rest) else TEXT)
 
 
 def _backslash(spot: Spot) -> Optional[str]:
@@ -196,6 +207,11 @@ def _command(spot: Spot, word: str) -> str:
 def _mark_of_statement(spot: Spot, first: str) -> Optional[str]:
     if first == "&":
         return Known("what sounds together is a chord, `note c4, e4 1/2;`, or the branches of a `par`")
+    tag = re.match(r"</?[a-z]+(?: [^<>\n]*)?/?>", spot.text, re.I)
+    if tag and pitch_at(tag[0][1:]) is None:
+        if tag[0].startswith("</") and spot.reading.blocks:
+            return f"a block ends with `}}`: write `}}` in place of `{tag[0]}`"
+        return Known("there are no tags: a word stands before its block, as in `repeat 2 { .. }`")
     if spot.rest.startswith(("<<", ">>")):
         return by_mark(spot.rest[:2], "voice")
     if first == "<":
@@ -203,8 +219,8 @@ def _mark_of_statement(spot: Spot, first: str) -> Optional[str]:
         if meant:
             return "a chord has no brackets, and begins with `note`: write `note c4, e4, g4 1/4;`"
     if re.match(r"[<>]\s*[a-z]", spot.rest):
-        return (f"`{first}` has no meaning here: each pitch has its octave, as `c5` above `c4`, and a chord commas, "
-                "`note c4, e4, g4 1/4;`")
+        return Known(f"`{first}` has no meaning here: an accent is `volume 100 {{ .. }}` round its note, another octave "
+                     "the digit of the pitch, and a chord has commas, as in `note c4, e4, g4 1/4;`")
     if first in "\"“”„'‘’«»":
         return TEXT
     if first == ":" and spot.rest.startswith(":|"):

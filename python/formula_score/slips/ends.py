@@ -192,8 +192,10 @@ def _end_of_play(spot: Spot) -> Optional[str]:
     if spot.is_over_line:
         return None
     if here.kind in (NUMBER, "ticks") or length_at(spot.rest) and here.kind == NAME:
-        return spot.write("`play` takes its length from the `rhythm` round it, and `note` has its own",
+        cure = spot.write("`play` takes its length from the `rhythm` round it, and `note` has its own",
                           spot.statement[0].start, spot.statement[0].end, "note")
+        return Computed(f"{cure}, or `{statement_text(spot)}` for the next length of the rhythm") if cure and (
+            spot.is_inside("rhythm")) else cure
     if here.kind == PITCH or here.kind == NAME and pitch_at(spot.text):
         meant = pitch_at(spot.text)
         other = meant.write if meant and meant.write else here.text
@@ -291,8 +293,10 @@ def _end_of_head(spot: Spot) -> Optional[str]:
 
 def _end_of_skip(spot: Spot) -> Optional[str]:
     if not spot.is_over_line and spot.here.kind in (NUMBER, "ticks"):
-        return spot.write("`skip` takes its length from the `rhythm` round it, and `rest` has its own",
+        cure = spot.write("`skip` takes its length from the `rhythm` round it, and `rest` has its own",
                           spot.statement[0].start, spot.statement[0].end, "rest")
+        return Computed(f"{cure}, or `skip;` for the next length of the rhythm") if cure and (
+            spot.is_inside("rhythm")) else cure
     return None
 
 

@@ -13,7 +13,7 @@ _ACCIDENTALS = {
     "": 0, "n": 0, "nat": 0, "natural": 0, "♮": 0, "s": 1, "is": 1, "sharp": 1, "#": 1, "♯": 1, "b": -1, "es": -1,
     "f": -1, "flat": -1, "♭": -1, "isis": 2, "ss": 2, "x": 2, "##": 2, "𝄪": 2,
     "eses": -2, "bb": -2, "ff": -2, "♭♭": -2, "𝄫": -2,
-    "dièse": 1, "bemol": -1, "k": 1, "♯♯": 2, "sharpsharp": 2, "flatflat": -2,
+    "dièse": 1, "bemol": -1, "♯♯": 2, "sharpsharp": 2, "flatflat": -2,
 }
 _SYLLABLES = {"do": "c", "re": "d", "mi": "e", "fa": "f", "sol": "g", "la": "a", "si": "b", "ti": "b"}
 _MARKS = "|".join(sorted((re.escape(each) for each in _ACCIDENTALS if each), key=len, reverse=True))
@@ -34,13 +34,14 @@ def pitch_at(text: str, with_comma: bool = False) -> Optional[Foreign]:
 
     A comma is a mark of the octave only where it is asked for, since else it stands between two pitches.
     """
-    named = re.match(r"(?:middle[-_ ]?[cC]|(do|re|mi|fa|sol|la|si|ti)([sb#]?)([0-9]))(?![A-Za-z0-9])", text)
+    named = re.match(r"(?:middle[-_ ]?[cC]|(do|re|mi|fa|sol|la|si|ti)([sb#]?)([0-9]?))(?![A-Za-z0-9])", text)
     if named and not named[1]:
         return Foreign(named[0], "c4", "middle C is `c4`")
     if named:
         mark = "s" if named[2] == "#" else named[2]
-        write = f"{_SYLLABLES[named[1]]}{mark}{named[3]}"
-        return Foreign(named[0], write, "pitches have the letters a to g")
+        write = f"{_SYLLABLES[named[1]]}{mark}{named[3] or 4}"
+        return Foreign(named[0], write, "pitches have the letters a to g" + ("" if named[3] else ", and an octave"),
+                       bool(named[3]))
     behind = re.match(rf"([A-Ha-h])([0-9])({_MARKS})(?![A-Za-z0-9'’])", text)
     if behind and abs(_ACCIDENTALS[behind[3]]) < 2:
         mark = {0: "", 1: "s", -1: "b"}[_ACCIDENTALS[behind[3]]]

@@ -96,8 +96,10 @@ def _behind_pitch(spot: Spot) -> Optional[str]:
     if here.kind in (";", "}", END, "rest", "note", "play", "do", "repeat", "par", "rhythm") or (
             is_statement(here) and spot.is_over_line):
         if spot.is_inside("rhythm"):
-            return spot.write("a `note` has its own length, and `play` takes it from the `rhythm`",
+            cure = spot.write("a `note` has its own length, and `play` takes it from the `rhythm`",
                               spot.statement[0].start, spot.statement[0].end, "play")
+            return Computed(f"{cure}, or `{statement_text(spot)[:-1]} 1/4;` with the length that is meant") if (
+                cure and here.kind == ";") else cure
         return str(insert(spot, f"the length is missing behind `{pitch}`", " 1/4")) if here.kind == ";" else (
             f"the length and a `;` are missing behind `{pitch}`: write `{statement_text(spot)[:-1]} 1/4;`")
     if here.text in DYNAMICS:

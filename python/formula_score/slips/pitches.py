@@ -2,6 +2,7 @@
 
 from __future__ import annotations
 
+import math
 import re
 from typing import Optional
 
@@ -117,11 +118,17 @@ def _number_for_pitch(spot: Spot, commas: bool) -> str:
         if head == "note" and spot.next(3).kind in (";", END, "}"):
             return f"a note has its pitch before the length: write `note c4 {length};`, or `rest {length};` for silence"
     before = spot.statement[-2].kind if commas and len(spot.statement) > 2 else ""
-    if before == PITCH and spot.next().kind in (",", NUMBER, "ticks"):
+    if before == PITCH and 20 <= int(here.text[:6]) <= 127 and spot.next().kind in (",", NUMBER, "ticks"):
         return ("a pitch stands behind a `,`, and a velocity is that of a block: write "
                 f"`volume {here.text} {{ .. }}` round it")
+    hertz = re.match(r"([0-9]{2,5})(?:\.[0-9]+)?(?: ?hz)?(?=[ ,;])", spot.rest)
+    if int(here.text) > 127 and hertz and 127 < int(hertz[1]) < 13_000:
+        wrote = re.sub("[^0-9.]", "", hertz[0])
+        nearest = Pitch(round(69 + 12 * math.log2(float(wrote) / 440)))
+        return spot.write(f"a pitch is no frequency, and a key at most 127: {wrote} Hz is about `{nearest}`",
+                          spot.place, spot.place + len(hertz[0]), str(nearest))
     if int(here.text) > 127:
-        return "a pitch stands first, and the length behind it: write `note c4 1/4;`"
+        return "a pitch stands first, and the length behind it, as in `note c4 1/4;`"
     if len(here.text) == 1:
         return "a pitch is a letter and then the octave, as `c4`, and a key by its number has `key` before it"
     if spot.next().kind in ("+", "-", "*", "%"):
@@ -133,7 +140,7 @@ def _no_pitch(spot: Spot) -> Optional[str]:
     here, head = spot.here, spot.head
     form = f"`{FORMS[head]}`" if head in FORMS else "`note c4 1/4;`"
     if here.text == "do" and spot.last.text == head:
-        return f"pitches have the letters a to g, and an octave, as in {form}"
+        return str(spot.write("pitches have the letters a to g, and an octave", spot.place, here.end, "c4"))
     chord = with_words(spot) if here.kind == "note" and spot.last.text == "," else None
     if chord:
         return chord
@@ -143,17 +150,25 @@ def _no_pitch(spot: Spot) -> Optional[str]:
         return f"a pitch is missing, as in {form}"
     if here.text in ("(", "[", "{", "<"):
         return _chord(spot)
-    if here.kind == OTHER and re.match(r"[:@$&.]\s*[a-g][sb]?[0-9](?![a-z0-9])", spot.rest):
+    if here.kind == OTHER and re.match(r"[:@$&]\s*[a-g][sb]?[0-9](?![a-z0-9])", spot.rest):
         return spot.write("a pitch has no mark before it", spot.place, spot.place + 1, "")
     if here.text in ('"', "'"):
         found = re.match(r"([\"'])([a-g][sb]?[0-9])\1", spot.rest)
         if found:
             return spot.write("a pitch has no quotes", spot.place, spot.place + len(found[0]), found[2])
+        many = re.match(r"([\"'])((?:[a-g][sb]?[0-9][ ,]*){2,16})\1( [0-9]+/[0-9]+)?\s*;", spot.rest)
+        if many and (head == "play") == (many[3] is None):
+            pitches = re.findall(r"[a-g][sb]?[0-9]", many[2])
+            row = " ".join(f"{head} {each}{many[3] or ''};" for each in pitches)
+            return Computed(f"pitches have no quotes, and each note is a statement of its own: write `{row}`, or "
+                            f"`{head} {', '.join(pitches)}{many[3] or ''};` for a chord")
         return f"a pitch has no quotes: write {form}"
     if head == "note" and re.match(r"[-_.xX*~=0]\s+(?:[0-9]+ ?/ ?[0-9]+|ticks [0-9]+)\s*;", spot.rest):
         return Known("a note has a pitch, as in `note c4 1/4;`, and silence is a `rest`, as in `rest 1/4;`")
     if here.kind == ",":
         return "a pitch is missing before this `,`: write it, or take the `,` away"
+    if here.kind in ("+", "-", "*", "/", "%", "=") and spot.next().kind == PITCH:
+        return None
     if here.kind in ("+", "-", "*", "/", "%", "="):
         return (f"a pitch stands behind `{spot.last.text}`: write {form}, or `note key (60 + 2) 1/4;` where it is "
                 "computed")

@@ -33,8 +33,11 @@ def at_head(spot: Spot) -> Optional[str]:
     if spot.where == "formula" and later and not near(here.text, ["formula"]):
         if re.match(r"//|/\*|--|%|[\"'“„«]|[A-Za-z ]+:", spot.text):
             return "a comment begins with `#`, and other text stands in one: write `#` before it"
+        if here.text == "division":
+            return "`formula 2;` stands first, and `division` directly behind it: move it there"
         if not is_statement(here):
-            return "the head stands first: take away what stands before it, or write `#` before that"
+            return ("the head stands first: write `#` before what stands before it, where that is text, else move it "
+                    "behind the head")
         return f"the head stands first: move `formula {later[1]};` before {spot.shown(here)}"
     if spot.where == "version":
         version = re.match(r"[^0-9;\n]{0,12}([12])(?![0-9])", spot.rest)

@@ -2,6 +2,7 @@
 
 from __future__ import annotations
 
+import re
 from fractions import Fraction
 from typing import Optional
 
@@ -91,13 +92,22 @@ def no_ticks(spot: Spot) -> Optional[tuple[str, str]]:
     ticks = Fraction(int(over), int(under)) * whole
     return (f"`{over}/{under}` is {float(ticks):.2f} ticks, and no whole number of them",
             f"a length is a whole number of ticks, of which a whole note has {whole:,}: the nearest are "
-            f"`{over}/{_divisor(int(over), int(under), whole)}` and `ticks {round(ticks)}`")
+            f"{_nearest(int(over), int(under), whole)} and `ticks {round(ticks)}`{_less(over, under)}")
 
 
-def _divisor(over: int, under: int, whole: int) -> int:
-    """The number nearest to `under` by which the ticks can be divided."""
-    return min((each for each in range(1, 2 * under + 1) if over * whole % each == 0),
-               key=lambda each: abs(each - under))
+def _nearest(over: int, under: int, whole: int) -> str:
+    """The next longer and the next shorter length with this number of parts."""
+    fitting = [each for each in range(1, 2 * under + 1) if over * whole % each == 0]
+    found = (max((each for each in fitting if each < under), default=0),
+             min((each for each in fitting if each > under), default=0))
+    return ", ".join(f"`{over}/{each}`" for each in found if each)
+
+
+def _less(over: str, under: str) -> str:
+    """The length without a digit that stands there twice."""
+    once = re.sub(r"(.)\1", r"\1", under, count=1)
+    return f", or `{over}/{once}` if a digit stands there twice" if once in ("1", "2", "4", "8", "16", "32") and (
+        once != under) else ""
 
 
 def known_name(spot: Spot) -> Optional[tuple[str, str]]:

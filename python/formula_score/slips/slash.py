@@ -27,6 +27,9 @@ def at_slash(spot: Spot) -> Optional[str]:
             return Computed(f"{cure}, or take one `{whole}` away")
         times = spot.mended(start, start + len(mixed[0]), f"{whole * over}/{under}")
         return Computed(f"{cure} for the sum, or `{times}` for the product") if cure and times else cure
+    parted = re.match(r"([0-9]{1,4})\s*[;,.:]\s*/\s*([0-9]{1,4})(?![0-9/])", spot.source[start:])
+    if parted:
+        return write_length(spot, start, parted[0], f"{parted[1]}/{parted[2]}", "no mark stands within a length")
     turned = _timed(spot) or (_turned_part(spot) if spot.head == "shape" else _parts_of_whole(spot) if (
         spot.head == "rhythm") else None)
     if turned:
@@ -85,6 +88,8 @@ def _velocity_before(spot: Spot, start: int, wrote: str) -> Optional[str]:
     number, length = wrote.split(" ")
     if spot.head != "note" or not 20 <= int(number) <= 127:
         return None
+    if len(spot.statement) > 1 and spot.statement[-2].text == number:
+        return f"one `{number}` is enough: take one of the two away"
     begun = spot.statement[0].start
     return Computed(f"the velocity is that of a block: write `volume {number} {{ {spot.source[begun:start].strip()} "
                     f"{length}; }}`")

@@ -161,7 +161,7 @@ def _spelled(spot: Spot) -> Iterator[Edit]:
     for word in near(here.text, [each for each in (*KEYWORDS, *spot.names) if each != here.text]):
         yield Edit("near", (Change(here.start, here.end, word),), f"did you mean `{word}`?")
     if here.kind == NAME:
-        for pitch in _pitches_near(here.text):
+        for pitch in dict.fromkeys(_pitches_near(here.text)):
             yield Edit("near", (Change(here.start, here.end, pitch),), f"did you mean `{pitch}`?")
 
 
@@ -180,9 +180,11 @@ def _apart(spot: Spot) -> Iterator[Edit]:
 
 def _pitches_near(word: str) -> Iterator[str]:
     """Pitches of which one letter was doubled or exchanged with the next one."""
-    for at in range(len(word) - 1 if word[0] not in "abcdefg" or word[:1] == word[1:2] else 0):
+    if word[0] in "abcdefg" and word[:1] != word[1:2]:
+        return
+    for at in range(len(word) - 1):
         turned = word[:at] + word[at + 1] + word[at] + word[at + 2:]
-        for each in (word[:at] + word[at + 1:] if word[at] == word[at + 1] else "", turned):
+        for each in (word[:at] + word[at + 1:] if word[at].isalpha() else "", turned):
             if kind_of(each) in (PITCH, REGISTER, INDEX):
                 yield each
 
@@ -206,6 +208,8 @@ def _joined(spot: Spot, one: Token, other: Token) -> Iterator[Edit]:
     if not (other.is_word or other.kind == NUMBER) or one.kind == NUMBER and other.is_word:
         return
     word = one.text + other.text
+    if one.kind == NUMBER and spot.source[other.end:].lstrip().startswith("/"):
+        return
     if one.kind == NUMBER:
         yield Edit("joined", (Change(one.start, other.end, word),),
                    f"write `{word}` in place of `{one.text}{between}{other.text}`, or take one of the two away")

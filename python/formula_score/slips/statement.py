@@ -118,8 +118,9 @@ def at_statement(spot: Spot) -> Optional[str]:
                        f"`{spot.reading.blocks[0].word}`, and `{warp} {{ .. }}` here")
     if found:
         return found
-    if word == "end" and spot.reading.blocks:
-        return "a block ends with `}`: write `}` in place of `end`"
+    if re.fullmatch("end|endif|endfor|endwhile|endrepeat|endphrase|end_[a-z]+|done|fi|od|next", word) and (
+            spot.reading.blocks):
+        return f"a block ends with `}}`: write `}}` in place of `{word}`"
     if len(word) > 3 and any(word == each or re.search(rf"\b{word}\b", each) for each in INSTRUMENTS):
         return instrument(word)
     behind_if = spot.last.text == "}" and spot.reading.closed.word == "if"

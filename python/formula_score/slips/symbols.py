@@ -6,7 +6,7 @@ import re
 from typing import Optional
 
 from .common import lacks_brace
-from .cures import Known
+from .cures import Computed, Known
 from .foreign import pitch_at
 from .indexed import by_index, by_mark
 from .reading import OUTSIDE, STATEMENTS
@@ -101,6 +101,11 @@ def _brackets(spot: Spot) -> Optional[str]:
     """What brackets hold where a statement should begin: a chord, or a list."""
     if re.match(r"\[\s*(?:[0-9]+|ticks [0-9]+)(?:\s*[,/]\s*[0-9]+)*\s*\]\s*\{", spot.rest):
         return "a list stands behind `rhythm`, `artic` or `loud`: write one of them before the `[`"
+    if re.match(r"\[[A-Za-z0-9_ ]+\] *[a-z]+ ", spot.rest) and not re.match(r"\[[^\]]*[a-g][sb]?[0-9]", spot.rest):
+        return None
+    turned = re.match(r"(\[[0-9/, ]+\])\s*(rhythm|artic|loud)\s*\{", spot.rest)
+    if turned:
+        return Computed(f"the word stands before its list: write `{turned[2]} {turned[1]} {{ .. }}`")
     chord = re.match(r"\[\s*(?:[=^_]*[A-Ga-g][sb#]?[0-9',]*[\s,]*)+\]", spot.rest)
     if chord or pitch_at(spot.text[1:].lstrip()):
         return Known("a chord is a `note` with its pitches between commas, as in `note c4, e4, g4 1/2;`")
@@ -109,6 +114,8 @@ def _brackets(spot: Spot) -> Optional[str]:
 
 def at_number_of_statement(spot: Spot) -> Optional[str]:
     number = spot.here.text
+    if re.match(r"[0-9]+ ?[.):]+\s", spot.rest):
+        return None
     if spot.next().kind == "/" and spot.next(2).kind == NUMBER:
         length = f"{number}/{spot.next(2).text}"
         if spot.next(3).kind == PITCH:
@@ -117,14 +124,17 @@ def at_number_of_statement(spot: Spot) -> Optional[str]:
                 f"silence, or `note c4 {length};`")
     if is_statement(spot.next()) and (int(number[:6]) < 2 or spot.last.end == spot.place):
         return None
-    if re.match(r"[0-9]+ ?(x|\.?times|\*)(?![a-z0-9_])", spot.rest):
+    if re.match(r"[0-9]+ ?(x|\.?times|\*|\.?do)(?![a-z0-9_])", spot.rest) and spot.next(2).text not in spot.phrases:
         return f"a loop begins with its word: write `repeat {number} {{ .. }}`"
     if spot.next().kind in ("repeat", "channel", "volume", "gate", "program", "bend"):
         return f"the number stands behind its word: write `{spot.next().text} {number}`"
     if spot.next().kind in STATEMENTS or spot.next().text in spot.phrases:
         return f"a loop plays something more than once: write `repeat {number} {{ .. }}`"
     if spot.next().text == "{":
-        return f"a loop begins with its word: write `repeat {number} {{ .. }}`"
+        if int(number[:6]) > 127:
+            return f"a loop begins with its word: write `repeat {number} {{ .. }}`"
+        return Computed(f"a word is missing before the number: write `repeat {number} {{ .. }}` for a loop, or `volume`, "
+                        "`gate` or `channel` in place of `repeat`")
     if spot.next(1).kind == "/" or 0 <= int(number[:6]) <= 127 and spot.next().kind in (NUMBER, "ticks", ","):
         return f"a key by its number is a note of `key`: write `note key {number} 1/4;`"
     return "a statement begins with its word, as `note` or `rest`"

@@ -31,6 +31,10 @@ def at_register(spot: Spot) -> Optional[str]:
     if re.fullmatch(r"r[a-z]?|r+[0-9]|reg(ister)?_?[0-9]*", here.text):
         return "registers are `r0` to `r7`"
     if here.kind == NAME:
+        typed = [each for each in ("".join(here.text[:at] + here.text[at + 1:]) for at in range(len(here.text)))
+                 if kind_of(each) == REGISTER]
+        if typed and len(here.text) < 4:
+            return f"did you mean `{typed[0]}`?"
         number = next((each.text for each in spot.after[1:4] if each.kind == NUMBER), "")
         if re.fullmatch(r"r[0-9]+", here.text):
             return str(spot.write("registers are `r0` to `r7`", spot.place, here.end, _free(spot)))
@@ -45,6 +49,9 @@ def at_register(spot: Spot) -> Optional[str]:
         return f"`{here.kind}` is a statement without `set`: write `{FORMS[here.kind]}`"
     if here.kind in (PITCH, INDEX) or here.kind in STATEMENTS:
         return _register_for(spot)
+    turned = re.match(r"([0-9]+) ?= ?(r[0-7])\s*;", spot.rest)
+    if turned:
+        return Computed(f"the register stands before the `=`: write `set {turned[2]} = {turned[1]};`")
     if here.kind == NUMBER:
         return f"registers are `r0` to `r7`: write `set r{here.text if int(here.text) < 8 else 0} = ..;`"
     return "only registers, `r0` to `r7`, have values: write `set r0 = 60;`"
@@ -264,6 +271,8 @@ def at_value(spot: Spot) -> Optional[str]:
         if last.text == "*" and here.text == "*":
             return Known("there is no power: write the product, as `2 * 2 * 2`")
         return "one operator stands between two values: take one away"
+    if here.kind in ("*", "/", "%") and last.text in ("=", "(", ",", "if"):
+        return f"a value is missing before the `{here.text}`"
     if here.kind == "=" and last.kind == "=":
         return spot.write("a register gets its value by one `=`", spot.place, spot.place + 1, "")
     if here.text == "!":

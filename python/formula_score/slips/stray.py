@@ -1,0 +1,74 @@
+"""Marks, labels and text in quotes that belong to no statement: without them the text reads on."""
+
+from __future__ import annotations
+
+import re
+from typing import Optional
+
+from ..index import musical
+from .cures import Computed
+from .spot import Spot
+from .tokens import END, NUMBER
+from .trying import Change, mends
+
+#: What marks may stand for, by the lines of the index.
+_MEANT = {">": "accent", "^": "accent", "!": "accent", "-": "tenuto", "_": "tenuto", ".": "staccato", "~": "tie",
+          "(": "slur", ")": "slur", "<": "crescendo", "'": "breath_mark", "+": "accent", "v": "breath_mark",
+          "\\<": "crescendo", "\\>": "crescendo", "\\!": "crescendo", "->": "accent", "-.": "staccato"}
+_MARKS = re.compile(r"[^\sA-Za-z0-9;{}()\[\],#\"“”„«»]+")
+_LABEL = re.compile(r"[0-9]{1,4} ?[.):]+|[A-Z]:[^\s;{}]{1,16}(?=\s)|[A-Za-z][A-Za-z0-9_]{0,15} ?[):]|[\[(<] ?[A-Za-z0-9_ ]{1,16} ?[\])>]:?")
+_QUOTED = re.compile(r"(\"|“|„|«|'|‘)([^\"“”„«»'‘’\n]{0,60})(\"|”|“|»|'|’)")
+
+
+def outside(spot: Spot) -> Optional[str]:
+    """What to do about a mark, a label or a text in quotes without which the text is read on."""
+    return quoted_away(spot) or _marks_away(spot) or (_label_away(spot) if spot.where == "statement" else None)
+
+
+def or_away(spot: Spot, cure: str) -> str:
+    """A cure for what a mark may mean, and that it is taken away, where that mends."""
+    run = _run(spot)
+    return f"{cure}; else take the `{run}` away" if run and _is_read_on(spot, run) else cure
+
+
+def _run(spot: Spot) -> str:
+    found = _MARKS.match(spot.text)
+    return found[0] if found else ""
+
+
+def _is_read_on(spot: Spot, wrote: str) -> bool:
+    return mends(spot, (Change(spot.place, spot.place + len(wrote.encode()), " "),), once=True)
+
+
+def _marks_away(spot: Spot) -> Optional[str]:
+    if spot.here.kind == END:
+        return None
+    run = _run(spot)
+    if not run or spot.where == "value" and run[0] in "+-*/%":
+        return None
+    behind = spot.source[spot.place + len(run.encode()):][:1]
+    if spot.last.end == spot.place and (spot.last.is_word or spot.last.kind == NUMBER) and behind.isalnum():
+        return Computed(f"a blank stands there: write ` ` in place of `{run}`") if _is_read_on(spot, run) else None
+    if not _is_read_on(spot, run):
+        return None
+    if run in ("…", "...", ".."):
+        return Computed(f"all notes are written out: take the `{run}` away, or write what it stands for")
+    line = musical(_MEANT.get(run, ""))
+    more = f"; for {line.words}, write it as in `{line.write}`" if line and spot.head in ("", "note", "play") else ""
+    return Computed(f"no `{run}` stands there: take it away{more}")
+
+
+def _label_away(spot: Spot) -> Optional[str]:
+    found = _LABEL.match(spot.text)
+    if found is None or not _is_read_on(spot, found[0]):
+        return None
+    return Computed(f"`{found[0]}` is no part of a statement: take it away, or put it behind a `#` at the end of the "
+                    "line")
+
+
+def quoted_away(spot: Spot) -> Optional[str]:
+    """What to do about text in quotes that has no place there."""
+    found = _QUOTED.match(spot.text)
+    if found is None or not found[2].strip() or not _is_read_on(spot, found[0]):
+        return None
+    return Computed(f"text is not in the file: take `{found[0]}` away, or put it behind a `#` at the end of the line")
