@@ -86,7 +86,7 @@ INDEX = (
     Word("instrument",
          "program 73; note c4 1/4;",
          "the number in the list of General MIDI less one: 73 is the flute",
-         "instruments patch preset sound timbre program_change midi_instrument midiinstrument"),
+         "instruments patch preset timbre program_change midi_instrument midiinstrument"),
     Word("laissez vibrer",
          "gate 400 { note c4 1/8; note e4 1/8; note g4 1/8; } rest 1/2;",
          "each note rings for four of its durations; the rest lets the last one ring out",

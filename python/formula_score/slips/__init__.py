@@ -48,7 +48,7 @@ def told(data: bytes, line: int, column: int, number: int) -> Optional[Told]:
     if number == 2:
         return Told(_heading_of_number(spot), _checked(spot, at_number), place)
     rule = at_statement if spot.where == "statement" else AT[spot.where]
-    cure = _checked(spot, _commented, _doubled, _word_in_parts, called, rule, _unopened)
+    cure = _checked(spot, quoted_away, _commented, _doubled, _word_in_parts, called, rule, _unopened)
     return Told(_heading(spot), cure or _form(spot), spot.last.end if spot.is_over_line else place)
 
 
@@ -86,6 +86,8 @@ def _doubled(spot: Spot) -> Optional[str]:
     if here.text == spot.last.text and (here.kind in KEYWORDS or here.text in (",", "[") or is_written) and (
             not spot.is_over_line):
         notes = re.match(rf"note {re.escape(here.text)} {re.escape(here.text)} ([0-9]+/[0-9]+|ticks [0-9]+)\s*;", _statement_on(spot))
+        if here.kind == NUMBER:
+            return f"one `{here.text}` is enough: take this one away, or write what is missing before it"
         more = f", or one after another `{' '.join([f'note {here.text} {notes[1]};'] * 2)}`" if notes else ""
         return f"one `{here.text}` is enough: take this one away{more}"
     return None

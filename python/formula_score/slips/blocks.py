@@ -88,7 +88,9 @@ def at_block(spot: Spot) -> Optional[str]:
 def _whole(spot: Spot) -> str:
     """A number with a decimal point, where a whole one stands."""
     found = re.match(r"[0-9]+[.,][0-9]+", spot.source[spot.last.start:])
-    wrote = found[0] if found else "1.0"
+    if found is None:
+        return "numbers have no decimal point: write a whole number"
+    wrote = found[0]
     value = float(wrote.replace(",", "."))
     if spot.head in ("gate", "artic") and 0 < value <= 4:
         return Computed("numbers have no decimal point, and these are in percent: write "
@@ -142,6 +144,8 @@ def at_count(spot: Spot) -> Optional[str]:
     number = next((each.text for each in spot.after[1:4] if each.kind == NUMBER), "2")
     if re.match(r"x[0-9]+(?![a-z0-9_])", spot.rest):
         number = here.text[1:]
+    if here.text in ("until", "while", "if"):
+        return "a loop has a count, and no condition, as in `repeat 4 { .. }`"
     if here.kind == NAME or here.text in ("*", "=", ":", "["):
         if here.text in spot.phrases:
             return f"a loop has its count and a block: write `repeat {number} {{ do {here.text}; }}`"
@@ -163,6 +167,8 @@ def at_name(spot: Spot) -> Optional[str]:
         found = re.match(r"([^;{}]*?)\s*[;{]", spot.rest)
         parts = re.sub(r"\s+", " ", found[1]) if found and len(found[1]) < 60 else f"{here.kind} .."
         return Computed(f"the shape is named first: write `shape rit = {parts}; warp rit {{ .. }}`")
+    if head == "do" and here.text == "{" and re.search(r"\}\s*(?:while|until|loop|end)\b", spot.rest):
+        return "a loop is a `repeat` with its count, as in `repeat 4 { .. }`"
     if head == "do" and here.text == "{":
         return "`do` plays a phrase by its name: write `phrase verse { .. }` before, and `do verse;`"
     if head == "do" and here.kind == NUMBER:
@@ -186,7 +192,7 @@ def at_name(spot: Spot) -> Optional[str]:
         return f"{why}: write the name behind `do`, as in `{form}`, or take `do` away"
     if here.kind in STATEMENTS and spot.is_over_line:
         return f"a name is missing behind `{head}`, as in `{form}`"
-    if here.text.isalpha():
+    if here.is_word:
         return f"a name is no keyword, and `{here.text}` is one: give it another name"
     return f"a name is missing behind `{head}`, as in `{form}`"
 
@@ -322,6 +328,9 @@ def at_entries(spot: Spot) -> Optional[str]:
         if slash is not None:
             start = spot.statement[[each.start for each in spot.statement].index(slash.start) - 1].start
             for meant in (sum_at(spot.source[start:]), length_at(spot.source[start:])):
+                if meant and start + len(meant.wrote) > spot.place and here.text in ("-", "&", "_", "~"):
+                    return Computed("commas stand between the entries of a list: write `,` in place of the "
+                                    f"`{here.text}`, or `{meant.write}` in place of `{meant.wrote}` for one length")
                 if meant and start + len(meant.wrote) > spot.place:
                     return f"{meant.why}: write `{meant.write}` in place of `{meant.wrote}`"
     if here.kind == "%":

@@ -20,7 +20,7 @@ from .reading import STATEMENTS
 from .spot import Spot
 from .statement import at_statement, letters
 from .tokens import INDEX, NUMBER, PITCH, REGISTER, kind_of
-from .trying import Change, mends
+from .trying import Change, mends, passes
 
 _TYPED = {"–": "-", "—": "-", "−": "-", "×": "*", "÷": "/", "⁄": "/", "；": ";", "，": ",", "｛": "{", "｝": "}", "（": "(",
           "）": ")", "＝": "=", "：": ";", "∕": "/"}
@@ -48,7 +48,7 @@ def at_byte(spot: Spot) -> Optional[str]:
     if first.isascii() and first.isalpha():
         return _capital(spot)
     if first == "\\":
-        return _backslash(spot)
+        return _backslash(spot) if is_music(spot) or spot.where in ("slash", "formula", "branch", "block") else None
     if first in _TYPED:
         return f"`{first}` is typed for `{_TYPED[first]}`: write `{_TYPED[first]}` in place of `{first}`"
     if first in _FRACTIONS:
@@ -80,6 +80,12 @@ def at_byte(spot: Spot) -> Optional[str]:
     return None
 
 
+def is_music(spot: Spot) -> bool:
+    """Whether a note or what stands round notes is written at the place."""
+    return spot.where in ("statement", "pitch", "pitches") or spot.where in ("length", "end", "denominator") and (
+        spot.head in ("note", "rest", "play", "skip", "do"))
+
+
 def _capital(spot: Spot) -> Optional[str]:
     found = re.match(r"[A-Za-z][A-Za-z0-9_]*", spot.rest)
     word = found[0] if found else spot.rest[:1]
@@ -87,6 +93,8 @@ def _capital(spot: Spot) -> Optional[str]:
     pitches = spot.where in ("pitch", "length", "key", "end") or spot.where == "statement"
     if spot.where == "end" and (word == "L" or spot.last.kind == NUMBER and spot.last.end == spot.place):
         return AT["end"](spot)
+    if spot.where == "statement" and re.match(r"R[0-7]\s*[-+*/:]?=", spot.rest):
+        return Known(f"a register has a small letter, and gets its value by `set`, as in `set r{spot.rest[1]} = 60;`")
     if spot.where == "statement" and re.match(r"[RZ][0-9]*(?![A-Za-z:])", spot.rest):
         return _bars_of_rest(spot.rest)
     if spot.where == "statement" and re.match(r"[A-G](?:[#b]?[0-9]?\s+[A-G](?![a-z])|[TOLVA-G0-9<>]{4,})", spot.rest):
@@ -113,7 +121,8 @@ def _capital(spot: Spot) -> Optional[str]:
                     f"{meant.write}`")
         write = meant.write
         return spot.write(meant.why, spot.place, spot.place + len(meant.wrote.encode()), write)
-    if lower in KEYWORDS or kind_of(lower) == PITCH or lower in spot.names:
+    if (lower in KEYWORDS or kind_of(lower) == PITCH or lower in spot.names) and passes(
+            spot, Change(spot.place, spot.place + len(word), lower)):
         return Known(f"words have small letters alone: write `{lower}`")
     is_field = len(word) == 1 and spot.rest[1:2] == ":"
     line = by_index(lower) if not is_field and (spot.where == "statement" or lower in DYNAMICS) else None
@@ -207,6 +216,9 @@ def _command(spot: Spot, word: str) -> str:
 def _mark_of_statement(spot: Spot, first: str) -> Optional[str]:
     if first == "&":
         return Known("what sounds together is a chord, `note c4, e4 1/2;`, or the branches of a `par`")
+    decoration = re.match(r"!([a-z]+)!", spot.rest)
+    if decoration and by_index(decoration[1]):
+        return by_index(decoration[1])
     tag = re.match(r"</?[a-z]+(?: [^<>\n]*)?/?>", spot.text, re.I)
     if tag and pitch_at(tag[0][1:]) is None:
         if tag[0].startswith("</") and spot.reading.blocks:
@@ -251,6 +263,8 @@ def _mark(spot: Spot, first: str) -> Optional[str]:
         return f"take the `{bars[0] if bars else '|'}` away: a bar line is {note}"
     if rest.startswith(":|"):
         return by_index("volta")
+    if first == "~" and not is_music(spot):
+        return None
     if first == "~":
         told = AT[spot.where](spot) if spot.where == "end" and spot.head in ("note", "rest") else None
         if told and ("in place of" in told or isinstance(told, Computed)):
@@ -270,8 +284,12 @@ def _mark(spot: Spot, first: str) -> Optional[str]:
         return Computed(f"no quotes stand there: write `{quoted[2]}` in place of `{quoted[0]}`")
     if first in "“”„‘’«»" or first in "\"'" and spot.where not in _QUOTED:
         return Known("no word has quotes, and other text stands behind `#`, at the end of a line")
-    if first in "\"" and spot.where in ("end", "length"):
-        return "text stands behind `#`: write `#` before it, behind the statement"
+    if quoted and spot.where == "length":
+        meant = length_at(quoted[2].strip())
+        return spot.write("a length has no quotes", spot.place, end, meant.write) if meant and (
+            meant.wrote == quoted[2].strip()) else Known("a length has no quotes, as in `1/4`")
+    if first in "\"" and spot.where == "end":
+        return TEXT
     if re.match(r"<<|>>", rest) and spot.where in ("statement", "branch"):
         return by_mark(rest[:2], "voice")
     return None
@@ -286,6 +304,9 @@ def at_number(spot: Spot) -> Optional[str]:
         return Computed(f"numbers are decimal: write `{int(hexadecimal[1], 16)}` in place of `{hexadecimal[0]}`")
     long = re.match(r"([1-9][0-9]{0,5})e([0-6])(?![a-z0-9_])", spot.rest)
     plain = str(int(long[1]) * 10 ** int(long[2])) if long else re.sub("_", "", digits + word)
+    if word.strip("_") == "" and word and mends(spot, (Change(spot.place + len(digits), spot.place + len(
+            digits + word), ""),)):
+        return Computed(f"no `{word}` stands there: write `{digits}` in place of `{digits}{word}`")
     alike = (digits + word).translate(str.maketrans("oil", "011"))
     if re.fullmatch(r"[0-9]{1,9}", plain) and word and spot.where not in ("length", "denominator", "statement"):
         wrote = long[0] if long else digits + word

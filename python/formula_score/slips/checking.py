@@ -11,7 +11,7 @@ from .spot import Spot
 from .trying import mends
 
 _CODE = re.compile(r"`([^`]*)`")
-_VALUE = re.compile(r"(?<![a-z0-9_])(?:[a-g][sb]?[0-9]|[0-9]+)(?![a-z0-9_])")
+_VALUE = re.compile(r"(?<![a-z0-9_])(?:[a-g][sb]?[0-9]|[0-9]+|r[0-7]|n[0-9])(?![a-z0-9_])")
 
 
 def says_a_change(spot: Spot, cure: str) -> bool:

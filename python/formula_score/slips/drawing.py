@@ -16,6 +16,10 @@ _CALL = re.compile(r"(?:random\.|math\.)?([a-z_]+)\s*\(\s*([0-9]{1,6})\s*(?:,\s*
 
 def drawn_at(text: str) -> Optional[Foreign]:
     """The drawn number that others would read at the beginning of a text."""
+    share = re.match(r"one_in\s*\(\s*([1-9][0-9]{0,5})\s*\)", text)
+    if share:
+        write = f"same(pick({share[1]}), 0)"
+        return Foreign(share[0], write, f"`{write}` is 1 once in {share[1]} times")
     found = _CALL.match(text)
     if not found:
         return None

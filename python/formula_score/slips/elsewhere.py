@@ -68,7 +68,7 @@ def elsewhere(spot: Spot, word: str) -> Optional[str]:
     if word == "do":
         name = spot.next().text if spot.next().text in spot.phrases else "verse"
         return f"a phrase is played by `do`: write `do {name};`"
-    if word == "set" and re.match(r"[a-z]+\s+[a-z0-9_]+\s*=?\s*\{", spot.rest):
+    if word == "set" and re.match(r"[a-z]+\s+[a-z0-9_]+\s*(?:\(\s*\))?\s*=?\s*\{", spot.rest):
         name = spot.next().text if spot.next().kind == NAME else "verse"
         return f"music with a name is a `phrase`: write `phrase {name} {{ .. }}`, and play it by `do {name};`"
     if word == "set":
@@ -81,6 +81,8 @@ def elsewhere(spot: Spot, word: str) -> Optional[str]:
         asked = re.match(r"unless\s+([a-z0-9_]+|\([^{}]*\)|[a-z]+\([^{}]*\))\s*\{", spot.rest)
         return Computed(f"`if` asks for the contrary: write `if same({asked[1]}, 0) {{ .. }}`") if asked else (
             "`if` asks for the contrary, as in `if same(r0, 0) { .. }`")
+    if word == "note" and spot.next().kind == NUMBER and spot.next(2).kind == NUMBER:
+        return f"`{written}` is `note` here, with a length, as in `note key 60 1/4;`"
     if word == "note" and spot.next().kind == NUMBER and 0 <= int(spot.next().text[:6]) <= 127:
         return Computed(f"`{written}` is `note` here, with a length: write `note key {spot.next().text} 1/4;`")
     text = spot.mended(spot.place, spot.here.end, word, spot.place)

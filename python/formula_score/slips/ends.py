@@ -6,6 +6,7 @@ import re
 from typing import Callable, Optional
 
 from ..index import musical
+from ..midi import DYNAMICS
 from .checking import stands
 from .common import ended, goes_on, open_block, parenthesized, statement_text, token_before
 from .cures import Computed
@@ -71,12 +72,17 @@ def _before_statement(spot: Spot) -> Optional[str]:
     parts = spot.after[:count]
     if not count or spot.is_over_line or "\n" in spot.source[spot.place:spot.next(count).start]:
         return None
-    if not all(each.text in (*_BETWEEN, "L") or each.kind == NAME and not musical(each.text) for each in parts):
+    if not all(each.text in (*_BETWEEN, "L") or each.kind == NAME and _says_nothing(each.text) for each in parts):
         return None
     if any(pitch_at(each.text) or each.text in spot.names or near(each.text, STATEMENTS) for each in parts):
         return None
     wrote = spot.source[spot.place:parts[-1].end]
     return f"each statement ends with `;`: write `;` in place of `{wrote}`"
+
+
+def _says_nothing(word: str) -> bool:
+    """Whether a word between two statements can say no more than that one follows the other."""
+    return len(word) == 1 and word not in DYNAMICS or word in ("then", "and", "next", "plus", "followed", "now", "also")
 
 
 _BETWEEN = ("-", "/", "+", ",", "&", "then", "and", "=", "*", "%", "]", ")")
@@ -123,6 +129,8 @@ def _end_of_sound(spot: Spot) -> Optional[str]:
         return angle(here.text)
     if here.text in ("+", "&", "and", "then", "|", "-") and is_statement(spot.next()):
         return f"each statement ends with `;`: {ended(spot)}, and take the `{here.text}` away"
+    if here.kind in ("note", "rest", "play") and spot.next().kind in (";", "}"):
+        return f"nothing stands behind the length: take `{here.text}` away, or write what is missing behind it"
     if re.match(r"x ?[0-9]+(?![a-z0-9_])|(?:twice|times)\b", spot.rest):
         count = re.match(r"x ?([0-9]+)", spot.rest)
         return f"a loop plays it more than once: write `repeat {count[1] if count else 2} {{ {statement_text(spot)} }}`"
@@ -198,7 +206,9 @@ def _end_of_play(spot: Spot) -> Optional[str]:
             spot.is_inside("rhythm")) else cure
     if here.kind == PITCH or here.kind == NAME and pitch_at(spot.text):
         meant = pitch_at(spot.text)
-        other = meant.write if meant and meant.write else here.text
+        other = meant.write if meant else here.text
+        if not other:
+            return None
         return (f"a chord has commas, `play {spot.last.text}, {other};`, and of notes one after another each is a "
                 f"statement: `play {spot.last.text}; play {other};`")
     if here.kind == "+":
@@ -214,6 +224,8 @@ def _end_of_do(spot: Spot) -> Optional[str]:
         return f"a phrase has its own lengths: write `do {name};`"
     if here.kind in _ROUND and _block_round(spot):
         return _block_round(spot)
+    if here.text == name:
+        return Computed(f"one phrase at a time: write `do {name}; do {name};`, or take one `{name}` away")
     if here.kind == NUMBER or here.text in ("*",) or here.text == "x":
         number = here.text if here.kind == NUMBER else spot.next().text
         count = number if number.isdigit() else "4"

@@ -62,6 +62,9 @@ def pitch_at(text: str, with_comma: bool = False) -> Optional[Foreign]:
         mark = {"^": "s", "_": "b", "=": ""}[sign[1]]
         write = f"{sign[2].lower()}{mark}{sign[3]}"
         return Foreign(sign[0], write, "a sharp is `s`, a flat `b`, and a natural nothing")
+    plus = re.match(r"([A-Ga-g])\+([0-9])(?![A-Za-z0-9'’])", text)
+    if plus:
+        return Foreign(plus[0], f"{plus[1].lower()}s{plus[2]}", "a sharp is `s`")
     raised = re.match(r"([A-Ha-h])(s|b)?[\^/]([0-9])(?![0-9/])", text)
     if raised:
         joined = pitch_at(f"{raised[1]}{raised[2] or ''}{raised[3]}")
@@ -100,6 +103,8 @@ def pitch_at(text: str, with_comma: bool = False) -> Optional[Foreign]:
             return Foreign(wrote, "", "named pitches go from `cb0` to `g9`, and lower keys are `key 0` to `key 10`")
         write = str(Pitch(key))
     why = _why_marks(letter, wrote, marks) if marks else _why_pitch(letter, mark, digits, spelled is None)
+    if not mark and not marks and re.match("[A-Ga-g]-[0-9]", wrote):
+        why += f" (`{letter.lower()}b{octave}` if it is a flat)"
     once = re.sub(r"([a-z])\1", r"\1", wrote)
     if once != wrote and mark != "es" and re.fullmatch(r"[a-g][sb]?[0-9]", once):
         why += f" (`{once}` if a letter stands there twice)"
@@ -194,9 +199,9 @@ def length_at(text: str) -> Optional[Foreign]:
     found = re.match(rf"({whole})(?![a-z0-9]| ?/)", text)
     if found:
         return _bare(found[0])
-    found = re.match(r"(dotted )?[a-z0-9]+(?![A-Za-z0-9_/])", text)
-    if found and found[0] in _NAMES:
-        return Foreign(found[0], _NAMES[found[0]], "a length is a part of a whole note")
+    found = re.match(r"((?:dotted )?[a-z0-9]+?)(?:[ _-]?notes?)?(?![A-Za-z0-9_/])", text)
+    if found and found[1] in _NAMES:
+        return Foreign(found[0], _NAMES[found[1]], "a length is a part of a whole note")
     return None
 
 

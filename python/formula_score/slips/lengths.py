@@ -109,6 +109,10 @@ def _behind_pitch(spot: Spot) -> Optional[str]:
         return spot.write("commas stand between the pitches of a chord", spot.last.end, here.end, ",")
     if re.match(r"t[0-9]+(?![a-z0-9_])", spot.rest):
         return write_length(spot, spot.place, here.text, f"ticks {here.text[1:]}", "a length in ticks has its word")
+    words = re.match(r"(?:(?:an?|one|the|for|of)\s+)+", spot.rest)
+    meant = length_at(spot.rest[words.end():]) if words else None
+    if words and meant:
+        return write_length(spot, spot.place, words[0] + meant.wrote, meant.write, meant.why)
     if here.kind == PITCH or here.kind == "key" or here.kind == NAME and pitch_at(spot.text) and (
             len(here.text) > 1 or here.text not in "he" or spot.next().kind == NUMBER):
         meant = pitch_at(spot.text)

@@ -28,6 +28,8 @@ def near(word: str, words: Iterable[str]) -> list[str]:
     for each in sorted(set(words)):
         if any(c.isdigit() for c in word) != any(c.isdigit() for c in each) and len(word) < 5:
             continue
+        if len(word) == 2 == len(each) and each != word[::-1]:
+            continue
         if abs(len(each) - len(word)) <= most and len(each) > 1:
             found.setdefault(distance(word, each), []).append(each)
         elif each not in KEYWORDS and min(len(each), len(word)) > 3 and (

@@ -44,6 +44,10 @@ def at_pitch(spot: Spot) -> Optional[str]:
         return _number_for_pitch(spot, commas)
     if here.kind == "ticks" and commas:
         return spot.write("no comma stands before the length", spot.last.start, spot.last.end, "")
+    named = re.match(r"[(\s]*(?:pitch|key|note|n|p|value)\s*[=:]\s*([\"']?)([a-g][sb]?[0-9])\1\s*[,;]?\s*(?:dur|duration|"
+                     r"length|len|l|d|value)\s*[=:]\s*([0-9]+/[0-9]+)\s*\)?\s*;", spot.rest)
+    if named and head == "note":
+        return Computed(f"pitch and length stand one behind the other: write `note {named[2]} {named[3]};`")
     if here.kind == NAME and near(here.text, ["key"]) and spot.next().kind in ("(", NUMBER):
         return "did you mean `key`?"
     parted = re.match(r"([a-g][sb]?) ([0-9])([0-9]+) ?/", spot.rest)
@@ -326,6 +330,8 @@ def _named_number(spot: Spot, found: Optional[re.Match[str]]) -> Optional[str]:
     if spot.where == "key" and spot.here.text in ("\"", "'") and quoted and quoted.write:
         return f"a pitch by its name has no `key`, and no quotes: write `note {quoted.write} 1/4;`"
     name = found[1].lower().replace("_", " ").strip()
+    if head == "program" and re.match("drum|percussion|kit", name):
+        return Known("the drums are on channel 9, and need no program, as in `channel 9 { note c2 1/4; }`")
     if head == "program":
         return instrument(name) or "an instrument is its number in General MIDI, counted from 0, as in `program 73;`"
     if head == "control":

@@ -146,7 +146,7 @@ def _exchanged(spot: Spot, one: Token, other: Token) -> Iterator[Edit]:
     if "\n" in between or "#" in between:
         return
     marks = [each.text for each in (one, other) if not each.is_word and each.kind != NUMBER]
-    if any(each in ";}" for each in marks) or between and any(each in "()[]" for each in marks):
+    if any(each in ";}+-*/%" for each in marks) or between and any(each in "()[]" for each in marks):
         return
     blank = " " if kind_of(one.text) != one.text or one.is_word else between
     yield Edit("exchanged", (Change(one.start, other.end, f"{other.text}{blank}{one.text}"),),

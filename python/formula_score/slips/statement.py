@@ -149,7 +149,7 @@ def letters(spot: Spot) -> Optional[str]:
     if command:
         return {"o": by_index("octave"), "t": by_index("tempo", command[2]), "v": by_index("velocity"),
                 "l": "each note has its length: write `note c4 1/8;`"}[command[1]]
-    run = r"[A-Ga-gz][A-Ga-gz0-9,'/]{2,}(?![A-Za-z0-9_])"
+    run = r"(?:[A-Ga-gz][0-9,'/]*){3,}(?=\s*(?:[;|}\n]|\Z|[A-Ga-gz][A-Ga-gz0-9,'/]*[\s;|]))"
     apart = r"[a-g](?:is|es|s)?[',]*[0-9]*\.*\s+[a-g](?:is|es|s)?[',0-9]*[\s;}]"
     if re.match(f"{run}|{apart}", spot.rest):
         return Known("each note is a statement of its own, with its octave and its length, as in `note e4 1/4;`")

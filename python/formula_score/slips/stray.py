@@ -15,9 +15,9 @@ from .trying import Change, mends
 _MEANT = {">": "accent", "^": "accent", "!": "accent", "-": "tenuto", "_": "tenuto", ".": "staccato", "~": "tie",
           "(": "slur", ")": "slur", "<": "crescendo", "'": "breath_mark", "+": "accent", "v": "breath_mark",
           "\\<": "crescendo", "\\>": "crescendo", "\\!": "crescendo", "->": "accent", "-.": "staccato"}
-_MARKS = re.compile(r"[^\sA-Za-z0-9;{}()\[\],#\"“”„«»]+")
+_MARKS = re.compile(r"[^\sA-Za-z0-9;{}()\[\],#\"“”„«»¼½¾⅛⅜⅓⅔♯♭♮]+")
 _LABEL = re.compile(r"[0-9]{1,4} ?[.):]+|[A-Z]:[^\s;{}]{1,16}(?=\s)|[A-Za-z][A-Za-z0-9_]{0,15} ?[):]|[\[(<] ?[A-Za-z0-9_ ]{1,16} ?[\])>]:?")
-_QUOTED = re.compile(r"(\"|“|„|«|'|‘)([^\"“”„«»'‘’\n]{0,60})(\"|”|“|»|'|’)")
+_QUOTED = re.compile(r"[-^_]?(\"|“|„|«|'|‘)([^\"“”„«»'‘’\n]{0,60})(\"|”|“|»|'|’)")
 
 
 def outside(spot: Spot) -> Optional[str]:
@@ -51,6 +51,8 @@ def _marks_away(spot: Spot) -> Optional[str]:
         return Computed(f"a blank stands there: write ` ` in place of `{run}`") if _is_read_on(spot, run) else None
     if not _is_read_on(spot, run):
         return None
+    if behind.isdigit() and spot.last.text in ("/", "by", "to", "max", "ticks", "["):
+        return Computed(f"no `{run}` stands there: take it away")
     if run in ("…", "...", ".."):
         return Computed(f"all notes are written out: take the `{run}` away, or write what it stands for")
     line = musical(_MEANT.get(run, ""))

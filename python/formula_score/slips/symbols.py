@@ -45,8 +45,13 @@ def at_symbol(spot: Spot) -> Optional[str]:
         return block_comment(spot)
     if text == "-" and spot.rest.startswith("--"):
         return Known("a comment begins with `#`, and ends with its line: write `#`")
+    if spot.rest.startswith("%{"):
+        return block_comment(spot)
     if text == "%":
         return Known("a comment begins with `#`, and ends with its line: write `#` in place of the `%`")
+    decoration = re.match(r"([!+])([a-z]+)\1", spot.rest)
+    if decoration and by_index(decoration[2]):
+        return by_index(decoration[2])
     if text == "(" and spot.next().kind == NUMBER and int(spot.next().text) in (2, 3, 4, 5, 6, 7):
         return by_index("triplet")
     words = re.match(r"\(([A-Za-z_ ]+)\)\s*(?:\n|\Z|[a-z]+ )", spot.rest)
@@ -90,10 +95,10 @@ def as_comment(spot: Spot, end: int) -> str:
 
 def block_comment(spot: Spot) -> Known:
     """What to do about a comment of another language with an end of its own."""
-    found = re.match(r"/\*.*?\*/", spot.source[spot.place:], re.S)
+    found = re.match(r"/\*.*?\*/|%\{.*?%\}", spot.source[spot.place:], re.S)
     why = "a comment begins with `#`, and ends with its line"
     if found and "\n" in found[0]:
-        return Known(f"{why}: take `/*` and `*/` away, and write `#` before each line of it")
+        return Known(f"{why}: take `{found[0][:2]}` and `{found[0][-2:]}` away, and write `#` before each line of it")
     return Known(f"{why}: {as_comment(spot, spot.place + len(found[0])) if found else 'write `#` before it'}")
 
 
@@ -108,7 +113,8 @@ def _brackets(spot: Spot) -> Optional[str]:
         return Computed(f"the word stands before its list: write `{turned[2]} {turned[1]} {{ .. }}`")
     chord = re.match(r"\[\s*(?:[=^_]*[A-Ga-g][sb#]?[0-9',]*[\s,]*)+\]", spot.rest)
     if chord or pitch_at(spot.text[1:].lstrip()):
-        return Known("a chord is a `note` with its pitches between commas, as in `note c4, e4, g4 1/2;`")
+        return Known("a chord is a `note` with its pitches between commas, as in `note c4, e4, g4 1/2;`, and of notes "
+                     "one after another each is a statement")
     return None
 
 
@@ -129,7 +135,8 @@ def at_number_of_statement(spot: Spot) -> Optional[str]:
     if spot.next().kind in ("repeat", "channel", "volume", "gate", "program", "bend"):
         return f"the number stands behind its word: write `{spot.next().text} {number}`"
     if spot.next().kind in STATEMENTS or spot.next().text in spot.phrases:
-        return f"a loop plays something more than once: write `repeat {number} {{ .. }}`"
+        return Computed(f"a number begins no statement: for a loop write `repeat {number} {{ .. }}`, else take `{number}` "
+                        "away")
     if spot.next().text == "{":
         if int(number[:6]) > 127:
             return f"a loop begins with its word: write `repeat {number} {{ .. }}`"

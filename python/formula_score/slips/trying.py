@@ -61,7 +61,7 @@ def mends(spot: Spot, changes: Sequence[Change], once: bool = False) -> bool:
     if part is None:
         return False
     last = max(each.end for each in changes)
-    is_ended = last > spot.place and spot.source[last - 1] == ";"
+    is_ended = last > spot.place and spot.source[last - 1:last] == ";"
     behind = last if is_ended else spot.end_of_statement(max(last, spot.place))
     stop = max(last, spot.place) + WINDOW
     is_cut = stop < len(spot.source)
@@ -81,6 +81,18 @@ def mends(spot: Spot, changes: Sequence[Change], once: bool = False) -> bool:
     if fault.place > _block_begun(read, end, ended):
         return True
     return not once and fault.place > max(last + grown, spot.place - part.start) and _is_again(spot, judge, text, fault)
+
+
+def passes(spot: Spot, change: Change) -> bool:
+    """Whether what is written anew is read, wherever the first fault behind it stands."""
+    part = _part(spot, change.start)
+    if part is None:
+        return False
+    stop = min(change.end + WINDOW, len(spot.source))
+    text = changed(spot, (change,), part.start, stop)
+    read, wrong, ended = lexed(text)
+    judge, fault = _judged(read, wrong, ended, spot, part, stop < len(spot.source) and not wrong)
+    return fault is None or fault.place >= change.start - part.start + len(change.new)
 
 
 def _block_begun(read: Sequence[Token], end: int, ended: int) -> int:

@@ -105,6 +105,17 @@ def at_equals(spot: Spot) -> Optional[str]:
         f"a register gets its value by `=`, as in `set {spot.last.text} = 60;`")
 
 
+def _chained(spot: Spot) -> Optional[str]:
+    """Several registers that are given one value."""
+    begun = spot.statement[0].start
+    found = re.match(r"set ((?:r[0-7] ?= ?){2,4})([^;{}=]+?) ?;", spot.source[begun:begun + 100])
+    if found is None:
+        return None
+    registers = re.findall(r"r[0-7]", found[1])
+    sets = [f"set {registers[-1]} = {found[2]};", *(f"set {each} = {registers[-1]};" for each in registers[-2::-1])]
+    return Computed(f"a `set` gives one register a value: write `{' '.join(sets)}`")
+
+
 def _compare(spot: Spot) -> Optional[str]:
     """A comparison as others write it, in an expression."""
     found = re.match(r"(<=|>=|==|!=|<>|<(?!<)|>(?!>)|=)\s*", spot.rest)
@@ -124,6 +135,9 @@ def at_operator(spot: Spot) -> Optional[str]:
     here = spot.here
     if spot.is_over_line and spot.where == "end":
         return None
+    chained = _chained(spot) if spot.head == "set" and here.text == "=" else None
+    if chained:
+        return chained
     compared = _compare(spot) if here.text in ("<", ">", "=", "!") else None
     if compared:
         return compared
@@ -173,6 +187,8 @@ def at_operator(spot: Spot) -> Optional[str]:
         return f"`{here.kind}` stands before its two values: write `{here.kind}({spot.last.text}, {spot.next().text})`"
     if spot.head == "if" and opened is None:
         return _behind_condition(spot)
+    if here.text == "(" and spot.last.kind in (NUMBER, REGISTER, INDEX):
+        return spot.write("a product has its `*`", spot.last.end, spot.place, " * ")
     if spot.head == "set" and opened is None:
         if here.kind == NUMBER or here.kind in (REGISTER, INDEX):
             return f"an operator is missing: write one of `+ - * / %` between `{spot.last.text}` and `{here.text}`"
@@ -221,7 +237,7 @@ def at_value(spot: Spot) -> Optional[str]:
     here, last = spot.here, spot.last
     if here.kind == PITCH or here.kind == NAME and pitch_at(spot.text) and len(here.text) > 1:
         found = pitch_at(spot.text)
-        if found and found.write and int(Pitch(found.write)) > 35:
+        if found and found.write and found.is_sure and int(Pitch(found.write)) > 35:
             key = int(Pitch(found.write))
             return spot.write(f"a value is a number, and the key of `{found.write}` is {key}", spot.place,
                               spot.place + len(found.wrote.encode()), str(key))
@@ -280,7 +296,7 @@ def at_value(spot: Spot) -> Optional[str]:
     quoted = re.match(r"([\"'])([^\"'\n]{0,30})\1", spot.rest)
     if quoted:
         named = pitch_at(quoted[2])
-        if named and named.write and not named.write.startswith("key"):
+        if named and named.is_sure and named.write and not named.write.startswith("key"):
             key = int(Pitch(named.write))
             return spot.write(f"a value is a number, and the key of `{named.write}` is {key}", spot.place,
                               spot.place + len(quoted[0]), str(key))
