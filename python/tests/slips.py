@@ -160,10 +160,12 @@ SLIPS = (
          "the length and a `;` are missing behind `c4`, as in `note c4 1/4;`"),
     Slip("rhythm [1/4] { note c4; }", "rhythm [1/4] { play c4; }", "1:23", 3,
          "here a `,` or a length is expected, and there is `;`",
-         "a `note` has its own length, and `play` takes it from the `rhythm`: write `play c4;`"),
+         "a `note` has its own length, and `play` takes it from the `rhythm`: write `play c4;`, or `note c4 1/4;` "
+         "with the length that is meant"),
     Slip("rhythm [1/4] { play c4 1/4; }", "rhythm [1/4] { note c4 1/4; }", "1:24", 3,
          "here a `,` or a `;` is expected, and there is `1`",
-         "`play` takes its length from the `rhythm` round it, and `note` has its own: write `note c4 1/4;`"),
+         "`play` takes its length from the `rhythm` round it, and `note` has its own: write `note c4 1/4;`, or "
+         "`play c4;` for the next length of the rhythm"),
     Slip("note c4 4;", "note c4 1/4;", "1:10", 3,
          "here a `/` is expected, and there is `;`",
          "a length is a part of a whole note, or `ticks N`: write `note c4 1/4;` for a quarter, or `note c4 "
@@ -192,7 +194,7 @@ SLIPS = (
          "a length is a part of a whole note: write `note c4 1/4;`"),
     Slip("note c4 1/4 e4 1/4;", "note c4 1/4; note e4 1/4;", "1:13", 3,
          "here a `;` is expected, and there is `e4`",
-         "each note is a statement of its own: write `note c4 1/4; note e4 1/4;`"),
+         "each note is a statement of its own: write `note c4 1/4; note e4 1/4;`, or `note c4, e4 1/4;` for a chord"),
     Slip("note c4 1/4 volume 80;", "volume 80 { note c4 1/4; }", "1:13", 3,
          "here a `;` is expected, and there is `volume`",
          "`volume` holds for a block, and stands round it: write `volume 80 { note c4 1/4; }`"),
@@ -294,14 +296,12 @@ SLIPS = (
     Slip("note c4 1/4; % a tune", "note c4 1/4; # a tune", "1:14", 3,
          "`%` begins no statement",
          "a comment begins with `#`, and ends with its line: write `#` in place of the `%`"),
-    Slip("\"A tune\" note c4 1/4;", "# A tune\nnote c4 1/4;", "1:1", 1,
-         "`\"` begins no word of the language",
-         "text is not in the file, and a `#` makes what follows it in its line a comment: take it away, or put"
-         " it behind a `#` at the end of the line"),
+    Slip('"A tune" note c4 1/4;', "# A tune\nnote c4 1/4;", "1:1", 1,
+         '`"` begins no word of the language',
+         'text is not in the file: take `"A tune"` away, or put it behind a `#` at the end of the line'),
     Slip("“A tune” note c4 1/4;", "# A tune\nnote c4 1/4;", "1:1", 1,
          "`“` begins no word of the language",
-         "text is not in the file, and a `#` makes what follows it in its line a comment: take it away, or put"
-         " it behind a `#` at the end of the line"),
+         "text is not in the file: take `“A tune”` away, or put it behind a `#` at the end of the line"),
     Slip("note \"c4\" 1/4;", "note c4 1/4;", "1:6", 1,
          "`\"` begins no word of the language",
          "no quotes stand there: write `c4` in place of `\"c4\"`"),
@@ -323,7 +323,8 @@ SLIPS = (
          " bar twice)"),
     Slip("note c4 1/2~; note c4 1/8;", "note c4 5/8;", "1:12", 1,
          "`~` begins no word of the language",
-         "if `~` stands for tie, write it as in `note c4 5/8;` (both lengths as one, over a bar line too)"),
+         "if `~` stands for tie, write it as in `note c4 5/8;` (both lengths as one, over a bar line too); else "
+         "take the `~` away"),
     Slip("note c4 1/4 \\f;", "volume 96 { note c4 1/4; }", "1:13", 1,
          "`\\` begins no word of the language",
          "`f` is a velocity of 96, and holds for a block: write `volume 96 { .. }`"),
@@ -401,7 +402,7 @@ SLIPS = (
          "a length has at most 1,000,000 ticks, which is 520/1, as in `520/1`"),
     Slip("note c4 1/7;", "note c4 ticks 274;", "1:9", 8,
          "`1/7` is 274.29 ticks, and no whole number of them",
-         "a length is a whole number of ticks, of which a whole note has 1,920: the nearest are `1/6` and "
+         "a length is a whole number of ticks, of which a whole note has 1,920: the nearest are `1/6`, `1/8` and "
          "`ticks 274`"),
     Slip("formula 1: note c4 1/4;", "formula 1; note c4 1/4;", "1:10", 1,
          "`:` begins no word of the language",
@@ -433,12 +434,12 @@ SLIPS = (
          "music with a name is a `phrase`: write `phrase theme { .. }`, and play it by `do theme;`"),
     Slip("note c4 1/4> note d4 1/4;", "note c4 3/8; note d4 1/8;", "1:12", 1,
          "`>` begins no word of the language",
-         "`>` has no meaning here: a dotted rhythm is its lengths, `note c4 3/8; note d4 1/8;`, and an accent "
-         "or a crescendo a list, `loud [100, 64] { .. }`"),
+         "`>` has no meaning here: an accent or a crescendo is a list, `loud [100, 64] { .. }`, a dotted rhythm its "
+         "lengths, `note c4 3/8; note d4 1/8;`, and any other mark is taken away"),
     Slip("note c4 1/4; > note c4 1/4;", "note c4 1/4; note c5 1/4;", "1:14", 1,
          "`>` begins no word of the language",
-         "`>` has no meaning here: each pitch has its octave, as `c5` above `c4`, and a chord commas, `note "
-         "c4, e4, g4 1/4;`"),
+         "`>` has no meaning here: an accent is `volume 100 { .. }` round its note, another octave the digit of the "
+         "pitch, and a chord has commas, as in `note c4, e4, g4 1/4;`"),
     Slip("V1: note c4 1/4;", "# V1\nnote c4 1/4;", "1:1", 1,
          "`V1` is no word of the language, by its capital letter",
          "a statement begins with a word in small letters, as `note`, `rest`, `repeat` or `do`, and other "
@@ -461,7 +462,7 @@ SLIPS = (
          "a pitch has no dot: staccato is `gate 50 { note c4 1/4; }`, and a dotted quarter has the length `3/8`"),
     Slip("note_on 60 64;", "note key 60 1/4;", "1:1", 3,
          "`note_on` begins no statement",
-         "`note_on` is `note` here, with a length: write `note key 60 1/4;`"),
+         "`note_on` is `note` here, with a length, as in `note key 60 1/4;`"),
     Slip("pitchbend 2000;", "bend 2000;", "1:1", 3,
          "`pitchbend` begins no statement",
          "`pitchbend` is `bend` here: write `bend 2000;`"),
@@ -514,10 +515,10 @@ SLIPS = (
          "lengths are written as one: write `note c4 3/8;`"),
     Slip("note c4 1/4 4;", "note c4 1/4;", "1:13", 3,
          "here a `;` is expected, and there is `4`",
-         "one `4` is enough: take this one away"),
+         "one `4` is enough: take this one away, or write what is missing before it"),
     Slip("note c4 c4 1/4;", "note c4 1/4;", "1:9", 3,
          "here a `,` or a length is expected, and there is `c4`",
-         "one `c4` is enough: take this one away"),
+         "one `c4` is enough: take this one away, or one after another `note c4 1/4; note c4 1/4;`"),
     Slip("note 5e 1/4;", "note e5 1/4;", "1:6", 2,
          "`5e` is no number",
          "a pitch is a letter and then the octave: write `note e5 1/4;`"),
@@ -553,5 +554,6 @@ SLIPS = (
          "the head stands first, and other text behind `#`: write `#` before it"),
     Slip("```\nformula 1; note c4 1/4;", "formula 1; note c4 1/4;", "1:1", 1,
          "``` begins no word of the language",
-         "the head stands first: take away what stands before it, or write `#` before that"),
+         "the head stands first: write `#` before what stands before it, where that is text, else move it behind "
+         "the head"),
 )

@@ -14,7 +14,7 @@ _PITCHES = r"(?:key [0-9]+|[a-g][sb]?[0-9])(?: ?, ?(?:key [0-9]+|[a-g][sb]?[0-9]
 _NOTE = rf"({_PITCHES}) ({_LENGTH})"
 #: Two notes with a mark or a word between them.
 _PAIR = re.compile(rf"note {_NOTE}\s*(-|~|_|\+|&|\^|tied?(?: to)?)\s*(?:note )?{_NOTE}\s*;")
-_LIST = re.compile(rf"note {_NOTE}(?:\s*,?\s*(?:note )?{_NOTE})+\s*;")
+_LIST = re.compile(rf"note {_NOTE}(?: ?,? ?(?:note )?{_NOTE})+ ?(?:;|(?=\n)|\Z)")
 _CHORD = re.compile(rf"note ({_PITCHES})((?: ?,? ?note {_PITCHES})+) ({_LENGTH})\s*;")
 
 

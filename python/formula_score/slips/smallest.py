@@ -148,6 +148,8 @@ def _exchanged(spot: Spot, one: Token, other: Token) -> Iterator[Edit]:
     marks = [each.text for each in (one, other) if not each.is_word and each.kind != NUMBER]
     if any(each in ";}+-*/%" for each in marks) or between and any(each in "()[]" for each in marks):
         return
+    if "{" in marks and spot.source[other.end:].lstrip().startswith("}"):
+        return
     blank = " " if kind_of(one.text) != one.text or one.is_word else between
     yield Edit("exchanged", (Change(one.start, other.end, f"{other.text}{blank}{one.text}"),),
                f"write `{other.text}{between or blank}{one.text}` in place of `{one.text}{between}{other.text}`")
@@ -196,8 +198,9 @@ def _one_number(spot: Spot) -> Iterator[Edit]:
         return
     if spot.before[-2].text != "/" and spot.next().kind != "/" and spot.source[one.end:other.start] == " ":
         word = one.text + other.text
+        between = ", or an operator between them" if spot.where == "operator" else ""
         yield Edit("joined", (Change(one.start, other.end, word),),
-                   f"write `{word}` in place of `{one.text} {other.text}`, or take one of the two away")
+                   f"write `{word}` in place of `{one.text} {other.text}`{between}, or take one of the two away")
 
 
 def _joined(spot: Spot, one: Token, other: Token) -> Iterator[Edit]:

@@ -8,12 +8,12 @@ from typing import Optional
 
 from ..index import musical
 from ..midi import DYNAMICS, INSTRUMENTS
-from .common import open_block
 from .cures import Computed, Known
 from .elsewhere import ELSEWHERE, elsewhere
 from .foreign import length_at, pitch_at
 from .indexed import by_index, instrument
 from .keywords import at_keyword, head_word
+from .layout import unclosed
 from .near import near
 from .reading import OUTSIDE, STATEMENTS
 from .spot import Spot, is_statement
@@ -31,7 +31,7 @@ def at_statement(spot: Spot) -> Optional[str]:
     """What to do where a statement is expected."""
     here, after = spot.here, spot.next()
     if here.kind == END:
-        return f"write the `}}` of {open_block(spot)}" if spot.reading.blocks else None
+        return f"write the `}}` of {unclosed(spot)}" if spot.reading.blocks else None
     if here.kind == OTHER:
         return None
     if here.kind in (";", "}", "{", ")", "]", "(", "[", ",", "=", "/", "*", "+", "-", "%"):
