@@ -69,7 +69,7 @@ INDEX = (
     Word("drums",
          "channel 9 { note c2, fs2 1/8; note fs2 1/8; note d2, fs2 1/8; note fs2 1/8; }",
          "`c2` bass drum, `d2` snare, `fs2` closed hi-hat",
-         "drum drumkit percussion kick snare hihat hi_hat hh kit beat beats"),
+         "drum drumkit percussion kick snare hihat hi_hat hh kit"),
     Word("dynamics",
          "volume 96 { note c4 1/4; }",
          "the velocity: pp 33, p 49, mp 64, mf 80, f 96, ff 112",

@@ -2,9 +2,10 @@
 from them, too.
 
 A file of fresh/ has some lines of its own, and then for each slip its number and kind behind `@@`, the text, what was
-meant behind `@=`, and what is told behind `@>`. Someone wrote the first two before any message was seen. In the later
-files what was meant is a score, or some of them, and behind `@!` stands how the first message was judged by it: `right`
-names the cure, `general` says what to look for, and who follows a `wrong` one does not get what was meant.
+meant behind `@=`, and what is told behind `@>`. Someone wrote the first two before any message was seen. In the sixth
+to the thirteenth file what was meant is a score, or some of them; in the later ones it is told in words, with the cure.
+From the sixth on, behind `@!` stands how the first message was judged by it: `right` names the cure, `general` says what
+to look for, and who follows a `wrong` one does not get what was meant.
 """
 
 from __future__ import annotations
@@ -15,9 +16,9 @@ from typing import NamedTuple
 
 FOLDER = pathlib.Path(__file__).parent / "fresh"
 NAMES = ("first", "second", "third", "fourth", "fifth", "sixth", "seventh", "eighth", "ninth", "tenth", "eleventh",
-         "twelfth", "thirteenth")
+         "twelfth", "thirteenth", "fourteenth", "fifteenth")
 #: Those of them that have what was meant as scores.
-MEANT = NAMES[5:]
+MEANT = NAMES[5:13]
 
 
 class Slip(NamedTuple):

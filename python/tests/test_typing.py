@@ -28,7 +28,7 @@ TEXTS = (
 #: The keys of a board, row by row.
 ROWS = ("1234567890-=", "qwertyuiop[]", "asdfghjkl;", "zxcvbnm,./")
 #: How many errors are made, and how large a part of those that are refused may be told wrongly, at most.
-ERRORS, MOST_WRONG = 600, 0.05
+ERRORS, MOST_WRONG = 600, 0.03
 
 
 def neighbour(key: str, side: int) -> str:
@@ -77,7 +77,7 @@ class Typing(unittest.TestCase):
                 count[judged(text, wrong)] += 1
         refused = count["right"] + count["general"] + count["wrong"]
         self.assertLessEqual(count["wrong"], MOST_WRONG * refused, count)
-        self.assertGreaterEqual(count["right"], 0.7 * refused, count)
+        self.assertGreaterEqual(count["right"], 0.78 * refused, count)
 
 
 if __name__ == "__main__":

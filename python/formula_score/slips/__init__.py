@@ -44,7 +44,8 @@ def told(data: bytes, line: int, column: int, number: int) -> Optional[Told]:
         found = _BY_NUMBER[number](spot)
         return Told(found[0], worded(spot, found[1]), place) if found else None
     if number == 1:
-        return Told(_heading_of_byte(spot), _checked(spot, quoted_away, _word_in_parts, at_byte) or _form(spot) or _ANY_BYTE, place)
+        cure = _checked(spot, quoted_away, _word_in_parts, at_byte)
+        return Told(_heading_of_byte(spot), cure or _form(spot) or _ANY_BYTE, place)
     if number == 2:
         return Told(_heading_of_number(spot), _checked(spot, at_number), place)
     rule = at_statement if spot.where == "statement" else AT[spot.where]
@@ -85,7 +86,8 @@ def _doubled(spot: Spot) -> Optional[str]:
         return None
     if here.text == spot.last.text and (here.kind in KEYWORDS or here.text in (",", "[") or is_written) and (
             not spot.is_over_line):
-        notes = re.match(rf"note {re.escape(here.text)} {re.escape(here.text)} ([0-9]+/[0-9]+|ticks [0-9]+)\s*;", _statement_on(spot))
+        word = re.escape(here.text)
+        notes = re.match(rf"note {word} {word} ([0-9]+/[0-9]+|ticks [0-9]+)\s*;", _statement_on(spot))
         if here.kind == NUMBER:
             return f"one `{here.text}` is enough: take this one away, or write what is missing before it"
         more = f", or one after another `{' '.join([f'note {here.text} {notes[1]};'] * 2)}`" if notes else ""

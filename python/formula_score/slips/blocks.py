@@ -270,7 +270,8 @@ def at_setting(spot: Spot) -> Optional[str]:
     if here.kind == "-":
         return f"{_RANGE_OF[head]}, as in `{FORMS[head]}`"
     if here.kind == "+":
-        return f"the number of `{head}` adds nothing to the one of a block round it: {_RANGE_OF[head]}, as in `{FORMS[head]}`"
+        return (f"the number of `{head}` adds nothing to the one of a block round it: {_RANGE_OF[head]}, as in "
+                f"`{FORMS[head]}`")
     if here.kind == "=" or here.text == ":":
         text = spot.mended(spot.place, spot.place + 1, " ")
         return f"the number stands directly behind `{head}`: write `{text or FORMS[head]}`"

@@ -19,6 +19,7 @@ from .places import AT
 from .reading import STATEMENTS
 from .spot import Spot
 from .statement import at_statement, letters
+from .symbols import block_comment
 from .tokens import INDEX, NUMBER, PITCH, REGISTER, kind_of
 from .trying import Change, mends, passes
 
@@ -216,6 +217,8 @@ def _command(spot: Spot, word: str) -> str:
 def _mark_of_statement(spot: Spot, first: str) -> Optional[str]:
     if first == "&":
         return Known("what sounds together is a chord, `note c4, e4 1/2;`, or the branches of a `par`")
+    if spot.rest.startswith("<!--"):
+        return block_comment(spot)
     decoration = re.match(r"!([a-z]+)!", spot.rest)
     if decoration and by_index(decoration[1]):
         return by_index(decoration[1])
@@ -231,8 +234,8 @@ def _mark_of_statement(spot: Spot, first: str) -> Optional[str]:
         if meant:
             return "a chord has no brackets, and begins with `note`: write `note c4, e4, g4 1/4;`"
     if re.match(r"[<>]\s*[a-z]", spot.rest):
-        return Known(f"`{first}` has no meaning here: an accent is `volume 100 {{ .. }}` round its note, another octave "
-                     "the digit of the pitch, and a chord has commas, as in `note c4, e4, g4 1/4;`")
+        return Known(f"`{first}` has no meaning here: an accent is `volume 100 {{ .. }}` round its note, another "
+                     "octave the digit of the pitch, and a chord has commas, as in `note c4, e4, g4 1/4;`")
     if first in "\"“”„'‘’«»":
         return TEXT
     if first == ":" and spot.rest.startswith(":|"):

@@ -44,7 +44,7 @@ def computed(text: str) -> str:
 def parenthesized(spot: Spot, start: int, before: str = "") -> str:
     """What is computed without parentheses, from its first byte on, and perhaps without a word before it."""
     inner = computed(spot.source[start:start + 200])
-    more = len(inner) + 1 if re.match(r"[^(]*\)", spot.source[start + len(inner):start + len(inner) + 1]) else len(inner)
+    more = len(inner) + (spot.source[start + len(inner):start + len(inner) + 1] == ")")
     why = "what is computed stands in parentheses" + (f", behind `{before.strip()}`" if before else "")
     return spot.write(why, start, start + more, f"{before}({inner})") if inner else why
 

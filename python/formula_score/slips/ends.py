@@ -9,7 +9,7 @@ from ..index import musical
 from ..midi import DYNAMICS
 from .checking import stands
 from .common import ended, goes_on, open_block, parenthesized, statement_text, token_before
-from .cures import Computed
+from .cures import Computed, Known
 from .foreign import length_at, pitch_at, sum_at
 from .forms import FORMS
 from .indexed import by_index, by_mark
@@ -21,6 +21,7 @@ from .several import in_a_row, tied
 from .shapes import end_of_shape
 from .spot import Spot, is_statement
 from .tokens import END, NAME, NUMBER, PITCH, Token
+from .trying import Change, mends
 from .values import at_operator
 
 
@@ -29,6 +30,13 @@ def at_end(spot: Spot) -> Optional[str]:
     here, head = spot.here, spot.head
     if here.text in (",", ":", ".", "|") and is_statement(spot.next()) and head not in ("note", "rest", "shape"):
         return f"each statement ends with `;`: write `;` in place of the `{here.text}`"
+    comment = re.match(r"(//|--|%(?!\{))(?=\s*[A-Za-z])[^;\n]*(?:\n|\Z)", spot.rest)
+    if comment and not spot.is_over_line and mends(
+            spot, (Change(spot.place, spot.place + len(comment[1]), "; #"),), once=True):
+        return Known(f"a comment begins with `#`: write `#` in place of the `{comment[1]}`, and `;` before it")
+    if spot.rest.startswith("/*"):
+        return Known("a comment begins with `#`, and ends with its line: take it away, or put it behind a `#` at the end of "
+                     "the line")
     one = tied(spot) if head == "note" else None
     if one:
         return one
@@ -143,6 +151,9 @@ def _end_of_sound(spot: Spot) -> Optional[str]:
         return mark
     if here.kind == "/" and spot.next().kind == NUMBER and spot.statement[-2].kind == "ticks":
         ticks = spot.statement[-2]
+        over, under = int(spot.last.text), int(spot.next().text[:6])
+        if over > 128 and under and over % under == 0:
+            return spot.write("`ticks` has one number", spot.last.start, spot.next().end, str(over // under))
         return spot.write("a part of a whole note has no `ticks`", ticks.start, spot.last.start, "")
     if here.kind in ("+", "*", "/", "%") or here.kind == "-" and spot.next().kind == NUMBER:
         return "a length is one number of parts, as `3/8`, or computed as `ticks (E) max N`"

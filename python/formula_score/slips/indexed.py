@@ -12,6 +12,11 @@ from .near import near
 
 
 
+#: Words that are written for other things, too.
+UNSURE = ("first", "second", "alternative", "hold", "ring", "text", "author", "turn", "comma", "part", "layer", "fine",
+          "dot", "dc", "ds", "ten", "mix", "balance", "expression", "slide", "fade", "kit", "partial")
+
+
 def by_index(word: str, number: str = "") -> Optional[str]:
     """What the index of musical words says; of a tempo by its number."""
     if word in DYNAMICS:
@@ -25,6 +30,8 @@ def by_index(word: str, number: str = "") -> Optional[str]:
         return Known("a tempo is a `warp` round the piece, by 120,000 divided by the tempo: write `shape "
                        f"tempo_{number} = flat 500/1 by {stretch}; warp tempo_{number} {{ .. }}`")
     note = line.note.replace("*", "")
+    if word in UNSURE:
+        return by_mark(word, word)
     return Known(f"{line.words}, as in `{line.write}`" + (f" ({note})" if note else ""))
 
 

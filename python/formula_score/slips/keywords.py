@@ -64,7 +64,7 @@ def at_keyword(spot: Spot) -> Optional[str]:
             return by_index("key signature")
         return spot.write("a note begins with `note`", spot.place, spot.place, "note ", spot.place)
     if word == "ticks":
-        return spot.write("a length stands in a statement", spot.place, spot.place, "rest ", spot.place)
+        return "a length stands in a statement, as in `rest ticks 480;`, or `note c4 ticks 480;`"
     if word in ("pick", "min", "max", "less", "same"):
         return f"`{word}` stands in an expression, as in `note key (60 + pick(12)) 1/4;`"
     return None

@@ -274,8 +274,9 @@ def at_max(spot: Spot) -> Optional[str]:
     most = "16" if what == "count" else "1920"
     why = f"a computed {what} has its `max`, the greatest that it may be"
     plain = [each.text for each in spot.statement[-3:]]
-    if what == "count" and len(plain) == 3 and plain[1].isdigit() and plain[0] == "(":
-        return spot.write("a written count has no parentheses", spot.statement[-3].start, spot.last.end, f" {plain[1]}")
+    if len(plain) == 3 and plain[1].isdigit() and plain[0] == "(" and here.kind in (";", "{", "}"):
+        return spot.write(f"a written {what} has no parentheses", spot.statement[-3].start, spot.last.end,
+                          f" {plain[1]}")
     if here.kind in ("+", "-", "*", "/", "%"):
         return "what is computed stands in parentheses, all of it: move the `)` behind it"
     if here.kind == NUMBER:

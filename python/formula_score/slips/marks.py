@@ -33,8 +33,8 @@ def sounding(spot: Spot) -> str:
 
 def angle(mark: str) -> Known:
     """What to do about a `<` or `>`, which others have for three things."""
-    return Known(f"`{mark}` has no meaning here: an accent or a crescendo is a list, `loud [100, 64] {{ .. }}`, a dotted "
-                 "rhythm its lengths, `note c4 3/8; note d4 1/8;`, and any other mark is taken away")
+    return Known(f"`{mark}` has no meaning here: an accent or a crescendo is a list, `loud [100, 64] {{ .. }}`, a "
+                 "dotted rhythm its lengths, `note c4 3/8; note d4 1/8;`, and any other mark is taken away")
 
 
 def mark_behind(spot: Spot) -> Optional[str]:

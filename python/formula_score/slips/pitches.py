@@ -44,8 +44,8 @@ def at_pitch(spot: Spot) -> Optional[str]:
         return _number_for_pitch(spot, commas)
     if here.kind == "ticks" and commas:
         return spot.write("no comma stands before the length", spot.last.start, spot.last.end, "")
-    named = re.match(r"[(\s]*(?:pitch|key|note|n|p|value)\s*[=:]\s*([\"']?)([a-g][sb]?[0-9])\1\s*[,;]?\s*(?:dur|duration|"
-                     r"length|len|l|d|value)\s*[=:]\s*([0-9]+/[0-9]+)\s*\)?\s*;", spot.rest)
+    named = re.match(r"[(\s]*(?:pitch|key|note|n|p|value)\s*[=:]\s*([\"']?)([a-g][sb]?[0-9])\1\s*[,;]?\s*"
+                     r"(?:dur|duration|length|len|l|d|value)\s*[=:]\s*([0-9]+/[0-9]+)\s*\)?\s*;", spot.rest)
     if named and head == "note":
         return Computed(f"pitch and length stand one behind the other: write `note {named[2]} {named[3]};`")
     if here.kind == NAME and near(here.text, ["key"]) and spot.next().kind in ("(", NUMBER):

@@ -211,7 +211,7 @@ def _joined(spot: Spot, one: Token, other: Token) -> Iterator[Edit]:
     if not (other.is_word or other.kind == NUMBER) or one.kind == NUMBER and other.is_word:
         return
     word = one.text + other.text
-    if one.kind == NUMBER and spot.source[other.end:].lstrip().startswith("/"):
+    if one.kind == NUMBER and (one.text == "0" or spot.source[other.end:].lstrip().startswith("/")):
         return
     if one.kind == NUMBER:
         yield Edit("joined", (Change(one.start, other.end, word),),

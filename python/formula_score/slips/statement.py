@@ -56,7 +56,8 @@ def at_statement(spot: Spot) -> Optional[str]:
         at = spot.place + len(joined[1])
         text = spot.mended(at, at, " ", spot.place)
         return f"a blank stands behind `{joined[1]}`: write `{text or f'{joined[1]} {joined[2]}'}`"
-    if after.kind == "=" and spot.rest[after.end - spot.place:].lstrip()[:1] in ("\\", "{"):
+    if re.match(r"[a-z0-9_]+\s*:?=\s*[\\{\[\"]", spot.rest) and not musical(word) and (
+            ELSEWHERE.get(word, "phrase") == "phrase"):
         return f"music with a name is a `phrase`: write `phrase {word} {{ .. }}`, and play it by `do {word};`"
     if after.text == ":" and spot.next(2).kind == "=" and not musical(word):
         return f"only registers, `r0` to `r7`, have values, as in `set r0 = 60;`, in place of `{word}`"

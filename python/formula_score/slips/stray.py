@@ -16,7 +16,8 @@ _MEANT = {">": "accent", "^": "accent", "!": "accent", "-": "tenuto", "_": "tenu
           "(": "slur", ")": "slur", "<": "crescendo", "'": "breath_mark", "+": "accent", "v": "breath_mark",
           "\\<": "crescendo", "\\>": "crescendo", "\\!": "crescendo", "->": "accent", "-.": "staccato"}
 _MARKS = re.compile(r"[^\sA-Za-z0-9;{}()\[\],#\"“”„«»¼½¾⅛⅜⅓⅔♯♭♮]+")
-_LABEL = re.compile(r"[0-9]{1,4} ?[.):]+|[A-Z]:[^\s;{}]{1,16}(?=\s)|[A-Za-z][A-Za-z0-9_]{0,15} ?[):]|[\[(<] ?[A-Za-z0-9_ ]{1,16} ?[\])>]:?")
+_LABEL = re.compile(r"[0-9]{1,4} ?[.):]+|[A-Z]:[^\s;{}]{1,16}(?=\s)|[A-Za-z][A-Za-z0-9_]{0,15} ?[):]"
+                    r"|[\[(<] ?[A-Za-z0-9_ ]{1,16} ?[\])>]:?")
 _QUOTED = re.compile(r"[-^_]?(\"|“|„|«|'|‘)([^\"“”„«»'‘’\n]{0,60})(\"|”|“|»|'|’)")
 
 
@@ -27,7 +28,8 @@ def outside(spot: Spot) -> Optional[str]:
 
 def or_away(spot: Spot, cure: str) -> str:
     """A cure for what a mark may mean, and that it is taken away, where that mends."""
-    run = _run(spot)
+    inside = re.match(r"\([^;{}()\n]{1,30}\)", spot.text)
+    run = inside[0] if inside else _run(spot)
     return f"{cure}; else take the `{run}` away" if run and _is_read_on(spot, run) else cure
 
 

@@ -20,7 +20,7 @@ def at_symbol(spot: Spot) -> Optional[str]:
     if text == ";":
         if last == "}":
             return "a block has no `;` behind it: take it away"
-        behind = re.match(r"; *([a-z][a-z0-9_]*)[^;\n]*(?:\n|\Z)", spot.rest)
+        behind = re.match(r";+ *([a-z][a-z0-9_]*)[^;\n]*(?:\n|\Z)", spot.rest)
         is_apart = "\n" in spot.source[spot.last.end:spot.place] or last == ";"
         if is_apart and behind and kind_of(behind[1]) not in (*STATEMENTS, *OUTSIDE) and behind[1] not in spot.names:
             return Known("a comment begins with `#`: write `#` in place of the `;`")
@@ -45,7 +45,7 @@ def at_symbol(spot: Spot) -> Optional[str]:
         return block_comment(spot)
     if text == "-" and spot.rest.startswith("--"):
         return Known("a comment begins with `#`, and ends with its line: write `#`")
-    if spot.rest.startswith("%{"):
+    if spot.rest.startswith(("%{", "(*", "{-")):
         return block_comment(spot)
     if text == "%":
         return Known("a comment begins with `#`, and ends with its line: write `#` in place of the `%`")
@@ -95,7 +95,7 @@ def as_comment(spot: Spot, end: int) -> str:
 
 def block_comment(spot: Spot) -> Known:
     """What to do about a comment of another language with an end of its own."""
-    found = re.match(r"/\*.*?\*/|%\{.*?%\}", spot.source[spot.place:], re.S)
+    found = re.match(r"/\*.*?\*/|%\{.*?%\}|\(\*.*?\*\)|\{-.*?-\}|<!--.*?-->", spot.source[spot.place:], re.S)
     why = "a comment begins with `#`, and ends with its line"
     if found and "\n" in found[0]:
         return Known(f"{why}: take `{found[0][:2]}` and `{found[0][-2:]}` away, and write `#` before each line of it")
@@ -135,13 +135,13 @@ def at_number_of_statement(spot: Spot) -> Optional[str]:
     if spot.next().kind in ("repeat", "channel", "volume", "gate", "program", "bend"):
         return f"the number stands behind its word: write `{spot.next().text} {number}`"
     if spot.next().kind in STATEMENTS or spot.next().text in spot.phrases:
-        return Computed(f"a number begins no statement: for a loop write `repeat {number} {{ .. }}`, else take `{number}` "
-                        "away")
+        return Computed(f"a number begins no statement: for a loop write `repeat {number} {{ .. }}`, else take "
+                        f"`{number}` away")
     if spot.next().text == "{":
         if int(number[:6]) > 127:
             return f"a loop begins with its word: write `repeat {number} {{ .. }}`"
-        return Computed(f"a word is missing before the number: write `repeat {number} {{ .. }}` for a loop, or `volume`, "
-                        "`gate` or `channel` in place of `repeat`")
+        return Computed(f"a word is missing before the number: write `repeat {number} {{ .. }}` for a loop, or "
+                        "`volume`, `gate` or `channel` in place of `repeat`")
     if spot.next(1).kind == "/" or 0 <= int(number[:6]) <= 127 and spot.next().kind in (NUMBER, "ticks", ","):
         return f"a key by its number is a note of `key`: write `note key {number} 1/4;`"
     return "a statement begins with its word, as `note` or `rest`"
