@@ -3,6 +3,7 @@
 from __future__ import annotations
 
 import re
+import unicodedata
 from typing import Callable, NamedTuple, Optional
 
 from ..nodes import KEYWORDS
@@ -115,6 +116,9 @@ def _unopened(spot: Spot) -> Optional[str]:
 def _word_in_parts(spot: Spot) -> Optional[str]:
     """What to do about a word with a capital letter or a blank within it."""
     begun = spot.last.start if spot.last.is_word and spot.last.end == spot.place else spot.place
+    accented = _with_accents(spot, begun)
+    if accented:
+        return accented
     found = re.match(r"[A-Za-z][A-Za-z0-9_]*", spot.source[begun:])
     word = found[0] if found else ""
     if word[1:] != word[1:].lower() and (begun < spot.place or word[:1].islower()):
@@ -131,6 +135,21 @@ def _word_in_parts(spot: Spot) -> Optional[str]:
         joined = parts[1] + parts[2]
         if joined in KEYWORDS or joined in spot.names and parts[1] not in spot.names:
             return f"no blank stands within `{joined}`: write `{joined}` in place of `{parts[0]}`"
+    return None
+
+
+def _with_accents(spot: Spot, begun: int) -> Optional[str]:
+    """What to do about a word with letters that the language has not, which is one of its words without their marks."""
+    text = spot.data[begun:begun + 80].decode("utf-8", "replace")
+    found = re.match(r"[^\W\d_]\w*", text)
+    word = found[0] if found else ""
+    plain = unicodedata.normalize("NFKD", word).encode("ascii", "ignore").decode().lower()
+    if word.isascii() or not plain:
+        return None
+    is_name = spot.head in ("phrase", "shape", "do", "warp") and kind_of(plain) == NAME
+    if is_name or plain in KEYWORDS or plain in spot.names or kind_of(plain) in (PITCH, REGISTER, INDEX):
+        where = ", wherever it stands" if is_name else ""
+        return Computed(f"words have the letters a to z alone: write `{plain}` in place of `{word}`{where}")
     return None
 
 

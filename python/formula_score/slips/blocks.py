@@ -43,6 +43,8 @@ def at_block(spot: Spot) -> Optional[str]:
         return _whole(spot)
     if re.match(r"\.\.+ ?[0-9]|-[0-9]|->", spot.rest) and head == "volume":
         return by_index("crescendo")
+    if head == "volume" and here.kind == "%" and spot.last.kind == NUMBER:
+        return _share(spot)
     if head in ("gate", "volume") and here.kind == "%":
         return "percentages are numbers alone: take the `%` away"
     if here.kind in _BLOCKS and not spot.is_over_line:
@@ -99,6 +101,13 @@ def _whole(spot: Spot) -> str:
         return Computed("numbers have no decimal point, and a velocity goes from 1 to 127: write "
                         f"`{max(1, round(127 * value))}` in place of `{wrote}`")
     return "numbers have no decimal point: write a whole number"
+
+
+def _share(spot: Spot) -> str:
+    """A velocity in percent."""
+    share = max(1, round(127 * min(100, int(spot.last.text)) / 100))
+    return Computed(f"a velocity goes from 1 to 127: write `{share}` in place of `{spot.last.text}%`, or take the "
+                    "`%` away")
 
 
 def _phrase_block(spot: Spot, shown: str) -> Optional[str]:
@@ -334,6 +343,8 @@ def at_entries(spot: Spot) -> Optional[str]:
                                     f"`{here.text}`, or `{meant.write}` in place of `{meant.wrote}` for one length")
                 if meant and start + len(meant.wrote) > spot.place:
                     return f"{meant.why}: write `{meant.write}` in place of `{meant.wrote}`"
+    if here.kind == "%" and head == "loud" and spot.last.kind == NUMBER:
+        return _share(spot)
     if here.kind == "%":
         return "percentages are numbers alone: take the `%` away"
     if here.kind in (NUMBER, "ticks"):

@@ -59,7 +59,9 @@ def at_byte(spot: Spot) -> Optional[str]:
         return by_index("tempo", number[1] if number else "")
     if first in _SIGNS and spot.where in ("length", "pitch", "entry"):
         return f"a length is a part of a whole note: write `{_SIGNS[first]}` in place of `{first}`"
-    if first in "\u00a0\u2003\u2002\u2009\u202f\u3000\u200b\ufeff\u200e\u2028":
+    if first in "\u200b\u200c\u200d\ufeff\u200e":
+        return Known("this is a mark that is not seen: take it away")
+    if first in "\u00a0\u2003\u2002\u2009\u202f\u3000\u2028":
         return "this is a blank of another kind, or none that is seen: write a plain blank in its place"
     if text.startswith(('"""', "'''")) and spot.where in ("statement", "formula"):
         return Known(f"text is not in the file: take `{text[:3]}` away, and write `#` before each line of it")
@@ -77,7 +79,8 @@ def at_byte(spot: Spot) -> Optional[str]:
     if first in "♯♭♮𝄪𝄫":
         return "a sharp is `s`, as in `fs4`, a flat `b`, as in `bb4`, and a natural nothing: write `fs4`"
     if not first.isascii() and first.isalpha():
-        return Known(f"words have the letters a to z alone: take the `{first}` away, or put it behind `#`")
+        return Known(f"words have the letters a to z alone: write others for the `{first}`, or put what is no music "
+                     "behind `#`")
     return None
 
 

@@ -35,8 +35,8 @@ def at_end(spot: Spot) -> Optional[str]:
             spot, (Change(spot.place, spot.place + len(comment[1]), "; #"),), once=True):
         return Known(f"a comment begins with `#`: write `#` in place of the `{comment[1]}`, and `;` before it")
     if spot.rest.startswith("/*"):
-        return Known("a comment begins with `#`, and ends with its line: take it away, or put it behind a `#` at the end of "
-                     "the line")
+        return Known("a comment begins with `#`, and ends with its line: take it away, or put it behind a `#` at the "
+                     "end of the line")
     one = tied(spot) if head == "note" else None
     if one:
         return one
@@ -282,12 +282,14 @@ def _end_of_message(spot: Spot) -> Optional[str]:
         return None
     if here.text in ("/", ".") and spot.last.kind == NUMBER and spot.next().kind == NUMBER:
         return f"a `{head}` has a whole number: write `{FORMS[head]}`"
+    if here.kind == "%" and spot.next().kind == ";" and spot.last.kind == NUMBER and int(spot.last.text) <= 100:
+        share = round(127 * int(spot.last.text) / 100)
+        return Computed(f"a value is a number from 0 to 127: write `{share}` in place of `{spot.last.text}%`, or take "
+                        "the `%` away") if head != "bend" else None
     if here.kind in ("+", "-", "*", "/", "%"):
         if spot.last.text == ")":
             return "what is computed stands in parentheses, all of it: move the `)` behind it"
         return parenthesized(spot, spot.last.start if spot.statement[-2].text != "-" else spot.statement[-2].start)
-    if here.kind == "%" and spot.next().kind == ";":
-        return "a value is a number alone: take the `%` away"
     if here.kind == "{":
         return (f"a `{head}` holds from its place on, and has no block: write `;` in place of the `{{`, and take its "
                 "`}` away")
@@ -295,7 +297,7 @@ def _end_of_message(spot: Spot) -> Optional[str]:
         if head == "control":
             return ("a `control` has a controller and a value: write one `control` for each, as `control 7 100; "
                     "control 10 64;`")
-        return f"a `{head}` has one number: take the second one away"
+        return f"a `{head}` has one number: take the second one away, or write a statement for each"
     if here.kind == NAME and head == "program":
         return "a program is its number alone: take the word away"
     return None

@@ -39,6 +39,9 @@ def at_pitch(spot: Spot) -> Optional[str]:
     if here.kind in (REGISTER, INDEX, "pick", "min", "max", "less", "same"):
         if here.text in ("r1", "r2", "r4") and not re.search(rf"\bset\s+{here.text}\b", spot.source):
             return _rest_for_note(spot) if is_alone else None
+        loops = sum(each.word.split(" ")[0] == "repeat" for each in spot.reading.blocks)
+        if here.kind == INDEX and int(here.text[1:]) >= loops and not spot.is_inside("phrase"):
+            return None
         return parenthesized(spot, spot.place, "key ")
     if here.kind == NUMBER:
         return _number_for_pitch(spot, commas)

@@ -30,6 +30,9 @@ def end_of_shape(spot: Spot) -> Optional[str]:
                               "slope")
     if here.kind == "by" and kind in ("pause", "breath"):
         return f"a `{kind}` has a length alone: take the `by` and its number away"
+    if here.text == "bpm" and spot.last.kind == NUMBER and 2 <= int(spot.last.text[:6]) <= 1000:
+        return spot.write("a stretch is 120,000 divided by the tempo", spot.last.start, here.end,
+                          str(round(120_000 / int(spot.last.text))))
     if here.kind == "%":
         return "stretches are in thousandths: 1000 is as written, and 2000 half as fast"
     if here.text in (".", ":", ";", "|", "and", "then", "+") and spot.next().kind in PARTS:
