@@ -14,6 +14,8 @@ _CLOSING = re.compile(r"write (?:before (?:it|`[a-z]+`) )?the `([)\]}])` of ")
 _BEHIND = re.compile(r"write `([^`]*)` behind `([^`]*)`")
 _BEFORE = re.compile(r"write `([^`]*)` before (?:the )?`([^`]*)`")
 _AWAY = re.compile(r"take (?:the |this |)(?:`([^`]*)`|one|it|`` ` ``)(?: and its `([^`]*)`)? away")
+#: What may stand before the `{` of a statement, with a `;` in parentheses or by mistake before the `{` alone.
+_TO_BLOCK = re.compile(r"(?:[^;{}(\n]|\([^{}()\n]*(?=[{}()\n]|\Z)\)?|;[ \n]*(?=\{))*(?=\{)")
 _WRITE = re.compile(r"write `([^`]*)`|, or `([^`]*)`")
 
 
@@ -132,9 +134,9 @@ def _blocks(spot: Spot, code: str, begun: int) -> Iterator[Changes]:
         first, last = begun + (ruby.end() if ruby else 0) + found.start(), begun + (ruby.end() if ruby else 0)
         yield Change(begun, last, f"{head} {{ "), Change(first, first + 3, "}")
     place, end = spot.place, max(spot.here.end, spot.place)
-    opened = spot.source.find("{", begun, place + 200)
-    if opened >= 0:
-        yield (Change(begun, opened, f"{head} "),)
+    opened = _TO_BLOCK.match(spot.source, place, place + 200)
+    if opened:
+        yield (Change(begun, opened.end(), f"{head} "),)
     stop = spot.end_of_statement(place)
     for found in list(re.finditer("[;}]", spot.source[stop:stop + 200]))[:3]:
         yield Change(begun, stop, f"{head} {{ "), Change(stop + found.end(), stop + found.end(), " }")

@@ -33,9 +33,10 @@ def missing(spot: Spot) -> Optional[Missing]:
     lines = spot.source[:spot.place].split("\n")
     indents = [len(each) - len(each.lstrip(" \t")) for each in lines]
     opened: list[tuple[Token, int, bool]] = []
-    above = 0
+    above = line = end = 0
     for token in spot.before:
-        line = spot.source.count("\n", 0, token.start)
+        line += spot.source.count("\n", end, token.start)
+        end = token.end
         if line != above and opened:
             brace, begun, is_in = opened[-1]
             is_deeper = indents[line] > indents[begun]

@@ -58,7 +58,8 @@ def at_statement(spot: Spot) -> Optional[str]:
         return f"a blank stands behind `{joined[1]}`: write `{text or f'{joined[1]} {joined[2]}'}`"
     if re.match(r"[a-z0-9_]+\s*:?=\s*[\\{\[\"]", spot.rest) and not musical(word) and (
             ELSEWHERE.get(word, "phrase") == "phrase"):
-        return f"music with a name is a `phrase`: write `phrase {word} {{ .. }}`, and play it by `do {word};`"
+        says = ", as in" if re.match(r"[a-z0-9_]+\s*:?=\s*[\[\"]", spot.rest) else ": write"
+        return f"music with a name is a `phrase`{says} `phrase {word} {{ .. }}`, and play it by `do {word};`"
     if after.text == ":" and spot.next(2).kind == "=" and not musical(word):
         return f"only registers, `r0` to `r7`, have values, as in `set r0 = 60;`, in place of `{word}`"
     if after.kind == "=" and not musical(word) and spot.next(2).kind not in ("{", "flat", "slope", "pause", "breath"):
