@@ -15,7 +15,7 @@ _BEHIND = re.compile(r"write `([^`]*)` behind `([^`]*)`")
 _BEFORE = re.compile(r"write `([^`]*)` before (?:the )?`([^`]*)`")
 _AWAY = re.compile(r"take (?:the |this |)(?:`([^`]*)`|one|it|`` ` ``)(?: and its `([^`]*)`)? away")
 #: What may stand before the `{` of a statement, with a `;` in parentheses or by mistake before the `{` alone.
-_TO_BLOCK = re.compile(r"(?:[^;{}(\n]|\([^{}()\n]*(?=[{}()\n]|\Z)\)?|;[ \n]*(?=\{))*(?=\{)")
+_TO_BLOCK = re.compile(r"(?:[^;{}(\n]|\([^{}()\n]*(?=[{}()\n]|\Z)|;[ \n]*(?=\{))*(?=\{)")
 _WRITE = re.compile(r"write `([^`]*)`|, or `([^`]*)`")
 
 

@@ -21,6 +21,23 @@ def distance(one: str, other: str) -> int:
     return above[-1]
 
 
+#: The rows of a keyboard, each half a key to the right of the one above.
+_ROWS = ("qwertyuiop", "asdfghjkl", "zxcvbnm")
+
+
+def is_begun_alike(word: str, other: str) -> bool:
+    """Whether both begin with a letter, or with two that are mistaken by the hand: too many, too few, or a key beside."""
+    if word[0] == other[0] or word[1:2] == other[0] or other[1:2] == word[0]:
+        return True
+    (row, at), (other_row, other_at) = _key(word[0]), _key(other[0])
+    return abs(row - other_row) <= 1 and -1 <= at - other_at <= 1
+
+
+def _key(letter: str) -> tuple[int, int]:
+    """The row and the column of a key; far away for none."""
+    return next(((row, each.index(letter)) for row, each in enumerate(_ROWS) if letter in each), (-9, -9))
+
+
 def near(word: str, words: Iterable[str]) -> list[str]:
     """Those of the words that are nearest, where one is near enough: a letter of four, two of seven."""
     most = 0 if len(word) < 2 else 1 if len(word) < 6 else 2

@@ -7,7 +7,7 @@ from typing import Iterator, NamedTuple, Optional, Sequence
 
 from ..nodes import KEYWORDS
 from .common import goes_on
-from .near import near
+from .near import is_begun_alike, near
 from .spot import Spot, is_statement
 from .tokens import END, INDEX, NAME, NUMBER, OTHER, PITCH, REGISTER, Token, kind_of
 from .trying import Change, Changes, changed, mends
@@ -161,6 +161,8 @@ def _spelled(spot: Spot) -> Iterator[Edit]:
     if not here.is_word:
         return
     for word in near(here.text, [each for each in (*KEYWORDS, *spot.names) if each != here.text]):
+        if not is_begun_alike(here.text, word):
+            continue
         yield Edit("near", (Change(here.start, here.end, word),), f"did you mean `{word}`?")
     if here.kind == NAME:
         for pitch in dict.fromkeys(_pitches_near(here.text)):

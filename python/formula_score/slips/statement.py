@@ -14,7 +14,7 @@ from .foreign import length_at, pitch_at
 from .indexed import by_index, instrument
 from .keywords import at_keyword, head_word
 from .layout import unclosed
-from .near import near
+from .near import is_begun_alike, near
 from .reading import OUTSIDE, STATEMENTS
 from .spot import Spot, is_statement
 from .symbols import at_number_of_statement, at_symbol
@@ -163,7 +163,8 @@ def did_you_mean(spot: Spot, words: list[str]) -> Optional[str]:
     found = near(spot.here.text, words)
     if not found:
         return None
-    fitting = [each for each in found if spot.mended(spot.place, spot.here.end, _used(each, spot))]
+    fitting = [each for each in found if is_begun_alike(spot.here.text, each) and spot.mended(
+        spot.place, spot.here.end, _used(each, spot))]
     found = [each for each in found if each[0] == spot.here.text[0]]
     if not fitting and not found:
         return None
