@@ -71,6 +71,9 @@ def elsewhere(spot: Spot, word: str) -> Optional[str]:
     if word == "set" and re.match(r"[a-z]+\s+[a-z0-9_]+\s*(?:\(\s*\))?\s*=?\s*\{", spot.rest):
         name = spot.next().text if spot.next().kind == NAME else "verse"
         return f"music with a name is a `phrase`: write `phrase {name} {{ .. }}`, and play it by `do {name};`"
+    register = re.match(r"([a-z]+)\s+r[0-7]\s*=", spot.rest)
+    if word == "set" and register:
+        return spot.write(f"`{written}` is `set` here", spot.place, spot.here.end, "set", spot.place)
     if word == "set":
         return "only registers, `r0` to `r7`, have values: write `set r0 = ..;`"
     if word == "else" and spot.last.text == "}" and spot.next().text == "{":

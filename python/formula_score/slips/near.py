@@ -26,11 +26,14 @@ _ROWS = ("qwertyuiop", "asdfghjkl", "zxcvbnm")
 
 
 def is_begun_alike(word: str, other: str) -> bool:
-    """Whether both begin with a letter, or with two that are mistaken by the hand: too many, too few, or a key beside."""
-    if word[0] == other[0] or word[1:2] == other[0] or other[1:2] == word[0]:
+    """Whether both begin with a letter, or with two that are mistaken by the hand: too many, too few, or a key beside.
+
+    A long word that is nearly right needs no such sign.
+    """
+    if word[0] == other[0] or len(word) > 5 or word[1:2] == other[0] or other[1:2] == word[0]:
         return True
-    (row, at), (other_row, other_at) = _key(word[0]), _key(other[0])
-    return abs(row - other_row) <= 1 and -1 <= at - other_at <= 1
+    (row, at), (below, below_at) = sorted((_key(word[0]), _key(other[0])))
+    return abs(at - below_at) == 1 if row == below else row + 1 == below and below_at - at in (-1, 0)
 
 
 def _key(letter: str) -> tuple[int, int]:
