@@ -268,6 +268,11 @@ def at_setting(spot: Spot) -> Optional[str]:
     if head == "volume" and here.text in DYNAMICS:
         return (f"the volume is a velocity, and `{here.text}` is {DYNAMICS[here.text]}: write `volume "
                 f"{DYNAMICS[here.text]} {{ .. }}`")
+    loudness = {"piano": "p", "pianissimo": "pp", "mezzopiano": "mp", "mezzoforte": "mf", "forte": "f",
+                "fortissimo": "ff", "soft": "p", "loud": "f"}.get(here.text)
+    if head == "volume" and loudness:
+        velocity = DYNAMICS[loudness]
+        return f"the volume is a velocity, and `{loudness}` is {velocity}, as in `volume {velocity} {{ .. }}`"
     if head == "channel" and here.kind == NAME and here.text.startswith(("drum", "perc")):
         return "the drums are on channel 9: write `channel 9 { .. }`"
     if head == "gate" and here.text in ("staccato", "stacc", "legato", "tenuto"):

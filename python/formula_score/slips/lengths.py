@@ -15,6 +15,7 @@ from .near import near
 from .pitches import all_commas, apart, chord_plus
 from .spot import Spot, is_statement
 from .tokens import END, INDEX, NAME, NUMBER, OTHER, PITCH, REGISTER
+from .trying import Change, mends
 
 #: Words that others write before a length.
 _LENGTH_OR_VALUE = re.compile(r"\([^;{}]*\)")
@@ -100,7 +101,11 @@ def _behind_pitch(spot: Spot) -> Optional[str]:
                               spot.statement[0].start, spot.statement[0].end, "play")
             return Computed(f"{cure}, or `{statement_text(spot)[:-1]} 1/4;` with the length that is meant") if (
                 cure and here.kind == ";") else cure
-        return str(insert(spot, f"the length is missing behind `{pitch}`", " 1/4")) if here.kind == ";" else (
+        missing = str(insert(spot, f"the length is missing behind `{pitch}`", " 1/4")) if here.kind == ";" else ""
+        if missing and spot.next().kind in (PITCH, "key") and mends(spot, (Change(here.start, here.end, ","),)):
+            return Computed("write `,` in place of the `;` for a chord, or the length that is missing behind "
+                            f"`{pitch}`")
+        return missing if here.kind == ";" else (
             f"the length and a `;` are missing behind `{pitch}`: write `{statement_text(spot)[:-1]} 1/4;`")
     if here.text in DYNAMICS:
         return (f"the velocity is that of a block: write `volume {DYNAMICS[here.text]} {{ {sounding(spot)} }}`, "

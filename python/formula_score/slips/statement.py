@@ -187,6 +187,8 @@ def _value(spot: Spot) -> Optional[str]:
     written = re.match(r"r([0-9]+ ?/ ?[0-9]+)", spot.rest)
     if written:
         return f"a rest is written `rest {written[1]};`"
+    if re.match(r"r[124]\.*\*[0-9]{1,3}\s*;", spot.rest):
+        return _rest(spot, here.text[1:])
     if after.kind in ("=", "+", "-", "*", "/", "%") or after.text == ":":
         found = re.match(r"(r[0-7]) ?([-+*/%])= ?", spot.rest)
         if found:
@@ -203,7 +205,7 @@ def _value(spot: Spot) -> Optional[str]:
 
 
 def _rest(spot: Spot, digits: str) -> str:
-    more = re.match(r"[rs][0-9]+(\.*)(?:\s*\*\s*([0-9]{1,3}))?\s*;", spot.rest)
+    more = re.match(r"[rs][0-9]+(\.*)(?:\s*\*\s*([0-9]{1,3})(?![0-9/]))?", spot.rest)
     length = length_at(digits + (more[1] if more else ""))
     if length and length.write and int(digits) in (1, 2, 4, 8, 16, 32, 64):
         whole = Fraction(length.write) * int(more[2] or 1 if more else 1)

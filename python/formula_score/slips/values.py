@@ -157,6 +157,11 @@ def at_operator(spot: Spot) -> Optional[str]:
         if here.kind == NUMBER and spot.next().kind == "/" and spot.head in ("note", "rest"):
             return f"the `(` at {where} lacks its `)`, or is one too many"
         if here.kind == ",":
+            span = re.match(r"([0-9]{1,6})\s*,\s*([0-9]{1,6})\s*\)", spot.source[opened.token.end:].lstrip())
+            low, high = (int(each) for each in span.groups()) if span else (0, 0)
+            if opened.word == "pick" and low < high:
+                write = f"{low} + pick({high - low + 1})" if low else f"pick({high + 1})"
+                return Known(f"`pick` takes one value, and draws from 0 up: from {low} to {high} draws `{write}`")
             if opened.word == "pick":
                 return "`pick` takes one value: `pick(12)` draws a number from 0 to 11"
             third = re.match(r"\s*,\s*([a-z0-9]+)\s*\)", spot.rest)
@@ -215,6 +220,9 @@ def _logic(word: str, spot: Spot) -> Optional[str]:
         "is": "`same` compares, as in `same(r0, 3)`", "equals": "`same` compares, as in `same(r0, 3)`",
         "eq": "`same` compares, as in `same(r0, 3)`", "lt": "`a < b` is written `less(a, b)`",
         "gt": "`a > b` is written `less(b, a)`",
+        "plus": "a sum is `+`: write `+` in place of `plus`",
+        "minus": "a difference is `-`: write `-` in place of `minus`",
+        "times": "a product is `*`: write `*` in place of `times`", "x": "a product is `*`: write `*` in place of `x`",
         "mod": "the remainder is `%`: write `%` in place of `mod`",
         "div": "a quotient is `/`, rounded down: write `/` in place of `div`",
         "then": "the block stands directly behind the condition: write `{` in place of `then`",
