@@ -16,7 +16,7 @@ from typing import NamedTuple
 
 FOLDER = pathlib.Path(__file__).parent / "fresh"
 NAMES = ("first", "second", "third", "fourth", "fifth", "sixth", "seventh", "eighth", "ninth", "tenth", "eleventh",
-         "twelfth", "thirteenth", "fourteenth", "fifteenth")
+         "twelfth", "thirteenth", "fourteenth", "fifteenth", "sixteenth")
 #: Those of them that have what was meant as scores.
 MEANT = NAMES[5:13]
 
@@ -38,6 +38,6 @@ class Slip(NamedTuple):
 
 def hundred(name: str) -> list[Slip]:
     """The slips of a file."""
-    whole = (FOLDER / f"{name}.txt").read_text(encoding="utf-8")
+    whole = (FOLDER / f"{name}.txt").read_bytes().decode("utf-8")
     found = re.findall(r"^@@ ([0-9]+) ([^\n]*)\n(.*?)^@= ([^\n]*)\n(?:@! ([^\n]*)\n)?@> ([^\n]*)\n", whole, re.S | re.M)
     return [Slip(int(number), *rest) for number, *rest in found]

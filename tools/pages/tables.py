@@ -27,7 +27,7 @@ def cell(text: str) -> str:
 
 def code(text: str) -> str:
     """A text in one line, between as many marks as it needs."""
-    line = cell(" ⏎ ".join(text.split("\n")))
+    line = cell(" ⏎ ".join(text.replace("\r\n", "\n").replace("\r", " ␍ ").split("\n")))
     return f"`{line}`" if "`" not in line else f"`` {line} ``"
 
 
