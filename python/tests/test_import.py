@@ -119,6 +119,11 @@ par {
         self.assertIn("formula 2; division 512;\nshape tempo = flat 1/1 by 500;\n", text)
         self.assertEqual(played(text)[0], sent(odd))
 
+    def test_a_file_of_silence_is_longer_than_any_length(self):
+        answer, text = imported(midi(480, [track([], 3_000_001)]))
+        self.assertEqual(answer.status, 0, answer.said)
+        self.assertEqual(text.split("\n")[-3:], ["repeat 3 { rest 3125/6; }", "rest ticks 1;", ""])
+
     def test_what_differs_first_is_told(self):
         listing = listed(file_model.listing(file_model.read(WALTZ)).decode().splitlines())
         late = [each._replace(tick=each.tick + 1) if each.message == b"\x90\x49\x40" else each

@@ -10,9 +10,12 @@ import tempfile
 import time
 import unittest
 import xml.etree.ElementTree
+from fractions import Fraction
 from unittest import mock
 
 from formula_score import records
+from formula_score.companion.drawing import Rule, bars
+from formula_score.companion.meter import Group, Meter, Signature
 
 from .companion import score
 from .program import PROGRAM, TOP, needs_program
@@ -126,6 +129,11 @@ class Roll(InAFolder, Picture):
         self.assertEqual(score("roll", self.folder / "t.mid", out, "--meter", "3/4").status, 0)
         self.assertEqual([at for at, kind in self.lines(out) if kind == "strong"],
                          [44 + 48 * 3 * each for each in range(5)])
+
+    def test_the_bars_of_the_longest_piece_are_few_lines(self):
+        rules = bars(Meter((Group(1, (Signature(4, 4),)),), Fraction(0), 1920), 2 ** 40)
+        self.assertEqual(rules[0], Rule(1920 * (4 ** 12 - 1), str(4 ** 12)))
+        self.assertLessEqual(len(rules), 65)
 
     def test_what_is_not_drawn(self):
         for data, status in ((b"formula 1; note;", 3), (b"MThd", 1), (b"format 0 tracks 1 division 480\n0 0 x\n", 1)):

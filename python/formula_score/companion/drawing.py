@@ -93,9 +93,8 @@ def bars(meter: Meter, end: int) -> list[Rule]:
     while (last - first + 1) // step > MOST_LINES // 4:
         step *= 4
     rules = []
-    for bar in range(first, last + 2):
-        if bar % step == 0 or step == 1:
-            rules.append(Rule(meter.start(bar), str(bar)))
+    for bar in range(first if step == 1 else -(-first // step) * step, last + 2, step):
+        rules.append(Rule(meter.start(bar), str(bar)))
         if step == 1 and bar <= last:
             unit, beats = meter.whole // meter.signature(bar).unit, meter.signature(bar).beats
             stop = meter.start(bar + 1)

@@ -18,6 +18,8 @@ from .words import Names, defaults_of, instrument_of, plain, tempo_parts
 
 _MOST_SOUNDS = 200
 _MOST_PARTS = 256
+#: How often a loop goes round, at most.
+MOST_ROUNDS = 1_000_000
 
 
 class Branch(NamedTuple):
@@ -138,10 +140,18 @@ class Writer:
         for row, branch in enumerate(self.branches):
             body += self._branch(row, branch)
         if not body:
-            body = [f"rest {self.length(min(self.piece.end, MAX_LENGTH))};"]
+            body = self._silence(self.piece.end)
         else:
             body = ["par {", *body, "}"]
         return "\n".join([*self._head(), *self.definitions, *body]) + "\n"
+
+    def _silence(self, ticks: int) -> list[str]:
+        """Rests of so many ticks, those of the greatest length in loops."""
+        count, left = divmod(ticks, MAX_LENGTH)
+        longest = f"rest {self.length(MAX_LENGTH)};"
+        loops = [min(MOST_ROUNDS, count - begun) for begun in range(0, count, MOST_ROUNDS)]
+        lines = [longest if times == 1 else f"repeat {times} {{ {longest} }}" for times in loops]
+        return lines if lines and not left else [*lines, f"rest {self.length(left)};"]
 
     def _head(self) -> list[str]:
         """What the score is made of, its version, and the file's tempo as a shape."""
