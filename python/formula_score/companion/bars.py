@@ -26,7 +26,7 @@ def process_argument(parser: argparse.ArgumentParser) -> None:
 
 def arguments(parser: argparse.ArgumentParser) -> None:
     """What the verb takes."""
-    parser.add_argument("score", metavar="SCORE")
+    parser.add_argument("score", metavar="SCORE", help="the text of a score")
     meters.arguments(parser)
     process_argument(parser)
     asked = parser.add_mutually_exclusive_group()
@@ -34,7 +34,7 @@ def arguments(parser: argparse.ArgumentParser) -> None:
                        "the bar behind the last one that of the end")
     asked.add_argument("--bar", type=int, metavar="TICK", help="tell the bar and beat of a tick, as written and as "
                        "played, and the line of the score; the rounds of loops count")
-    parser.description = f"{parser.description}\n\n" + __doc__.split("\n")[0] + """
+    parser.description = f"""{parser.description}
 
 Lengths are counted as they are written, as if no `warp` stood there. Told as wrong are: a phrase or branch that is no
 whole number of bars, branches of one `par` that are not equally long, and a comment `# bar 12` or `# bars 9 to 12`

@@ -41,8 +41,8 @@ def bars_of(word: str) -> Bars:
 
 def arguments(parser: argparse.ArgumentParser) -> None:
     """What the verb takes."""
-    parser.add_argument("score", metavar="SCORE")
-    parser.add_argument("out", metavar="OUT")
+    parser.add_argument("score", metavar="SCORE", help="the text of a score")
+    parser.add_argument("out", metavar="OUT", help="the MIDI file that is written")
     parser.add_argument("--bars", type=bars_of, metavar="9-12", help="these bars alone; `9` is one, `9-` all from 9 on")
     meters.arguments(parser)
     process_argument(parser)
@@ -98,6 +98,8 @@ def window_of(options: argparse.Namespace, text: bytes) -> list[str]:
     first, behind = options.bars.first, None if options.bars.last is None else options.bars.last + 1
     is_there = [meter.start(bar) < last for bar in (first, first if behind is None else behind - 1)]
     if first < (0 if meter.upbeat else 1) or not all(is_there):
+        if first < 1 and last:
+            raise Failed(1, "bars count from 1, and bar 0 is what stands before it, as --upbeat says")
         there = f"the piece ends in bar {meter.at(last - 1).bar}: it has {meter.lasts(0, last)}" if last else ""
         raise Failed(1, there or "the piece is empty")
     begin = _ticks(walk, meter, first, options.process)

@@ -20,10 +20,10 @@ from .walk import Played
 
 def arguments(parser: argparse.ArgumentParser) -> None:
     """What the verb takes."""
-    parser.add_argument("score", metavar="SCORE")
-    parser.add_argument("out", metavar="OUT")
+    parser.add_argument("score", metavar="SCORE", help="the text of a score")
+    parser.add_argument("out", metavar="OUT", help="the MIDI file that is written")
     meters.arguments(parser)
-    parser.description = f"{parser.description}\n\n" + __doc__.split("\n")[0] + """
+    parser.description = f"""{parser.description}
 
 The file has format 1, a track for each branch and channel with the name of the branch, which is a comment above it or
 the first phrase in it, the time signatures, and the notes where they are written. The `warp` that stands outside all

@@ -19,14 +19,14 @@ _TOO_DEEP = "fault 12"
 
 def arguments(parser: argparse.ArgumentParser) -> None:
     """What the verb takes."""
-    parser.add_argument("file", metavar="FILE.mid")
+    parser.add_argument("file", metavar="FILE.mid", help="the MIDI file that is read")
     parser.add_argument("score", metavar="SCORE", help="the score that is written; an older one is replaced")
     several = parser.add_mutually_exclusive_group()
     several.add_argument("--scale", action="store_true", help="for a file with more than 960 ticks a quarter note, "
                          "whose ticks have no common divisor that would do: the nearest ticks of 960")
     several.add_argument("--exact", action="store_true", help="for such a file: no tick moves, and each length is "
                          "written twice as long, or longer")
-    parser.description = f"{parser.description}\n\n" + __doc__.split("\n")[0] + """
+    parser.description = f"""{parser.description}
 
 Each track and channel is a branch, or some where notes begin together and end apart. What comes again is a phrase
 or a loop, and lists say velocities and articulations where that is shorter. The score is then played by the program,

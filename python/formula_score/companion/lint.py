@@ -21,7 +21,7 @@ CRESCENDO = 5
 
 def arguments(parser: argparse.ArgumentParser) -> None:
     """What the verb takes."""
-    parser.add_argument("score", metavar="SCORE")
+    parser.add_argument("score", metavar="SCORE", help="the text of a score")
     parser.description = f"""{parser.description}
 
 It says nothing and ends with 0 where it finds nothing, else with 1. It looks for

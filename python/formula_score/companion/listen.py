@@ -25,7 +25,7 @@ PACKAGES = """no synthesizer is there. On Debian:
 
 def arguments(parser: argparse.ArgumentParser) -> None:
     """What the verb takes."""
-    parser.add_argument("score", metavar="SCORE")
+    parser.add_argument("score", metavar="SCORE", help="the text of a score")
     parser.add_argument("--bars", type=bars_of, metavar="9-12", help="these bars alone, as `excerpt` cuts them")
     meters.arguments(parser)
     process_argument(parser)

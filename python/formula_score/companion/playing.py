@@ -12,6 +12,7 @@ from .. import command
 from ..command import FileEvent as Event
 from ..errors import CommandError
 from ..explain import explanation
+from ..slips.kinds import BY_VERBS
 
 __all__ = ["Event", "Failed", "Listing", "Run", "judge", "listed", "listing_of", "listing_of_file", "located",
            "many", "must_differ", "needs", "program", "run", "text_of"]
@@ -64,7 +65,9 @@ def run(source: str, target: str, *options: str) -> Run:
         status, said = command.answer(program(), words)
     except CommandError as error:
         raise Failed(1, error.why) from error
-    return Run(status, said, explanation(status, said, words) if status else "")
+    why = explanation(status, said, words) if status else ""
+    before, line = why.rpartition("\n")[::2]
+    return Run(status, said, f"{before}\n{BY_VERBS[line]}" if line in BY_VERBS else why)
 
 
 def needs(made: Run, refused: Optional[int] = None) -> Run:

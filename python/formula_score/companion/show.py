@@ -16,7 +16,7 @@ from .playing import Failed, Listing, listing_of_file
 
 def arguments(parser: argparse.ArgumentParser) -> None:
     """What the verb takes."""
-    parser.add_argument("file", metavar="FILE")
+    parser.add_argument("file", metavar="FILE", help="a MIDI file, or the record of a run")
     meters.arguments(parser, None)
     parser.add_argument("--all", action="store_true", help="a line for each end of a note, too, in place of how long "
                         "it sounds")

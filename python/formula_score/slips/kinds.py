@@ -64,3 +64,11 @@ _DO = {
         "write `--record` in place of `--audit`, which makes the record of a run, and audit that",
     (RECORD.what, MIDI.what): "write `--list` in place of `--audit`, which lists its events",
 }
+
+#: What a verb of the companion says in place of an option of the program.
+BY_VERBS = {
+    MIDI.do: "the verb `show` lists its events, and `import` writes a score of it",
+    RECORD.do: "the verb `show` prints its steps, and `formula --audit RECORD OUT` makes its file",
+    _DO[MIDI.what, SCORE.what]: "play it into a MIDI file first, by `formula SCORE OUT`",
+    _DO[MIDI.what, RECORD.what]: "make its MIDI file first, by `formula --audit RECORD OUT`",
+}
