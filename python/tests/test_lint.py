@@ -46,7 +46,7 @@ class Lint(unittest.TestCase):
         notes = "note c4 1/4; " * 4
         self.finds(f"loud [60, 70, 80, 90, 100] {{ {notes} }}", "2:1", "5 entries, and its passage 4 notes",
                    "never reached")
-        self.finds(f"loud [60, 70, 80] {{ {notes} }}", "2:1", "the last 1 of them start the list again")
+        self.finds(f"loud [60, 70, 80] {{ {notes} }}", "2:1", "the last one starts the list again")
         self.finds(f"loud [50, 60, 70, 80, 90] {{ repeat 10 {{ note c4, e4 1/4; }} }}", "2:1",
                    "starts again with note 6")
         self.finds(f"loud [60, 70] {{ par {{ branch {{ {notes} }} branch {{ channel 1 {{ note c4 1/4; }} }} }} }}",

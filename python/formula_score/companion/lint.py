@@ -131,7 +131,9 @@ class Looks(Walk):
         if notes < count:
             self.find("list", of, f"{said}: its end is never reached")
         elif notes % count:
-            self.find("list", of, f"{said}: the last {notes % count} of them start the list again")
+            left = notes % count
+            again = "the last one starts" if left == 1 else f"the last {left} of them start"
+            self.find("list", of, f"{said}: {again} the list again")
         elif notes > count >= CRESCENDO and _goes_one_way(entries.entries):
             self.find("list", of, f"{said}: it starts again with note {count + 1}")
 
