@@ -36,7 +36,8 @@ if command -v python3 >/dev/null; then
 $refused:1:20: \`1/7\` is 274.29 ticks, and no whole number of them (fault 8)
 1 | formula 1; note c4 1/7;
   |                    ^
-a length is a whole number of ticks, of which a whole note has 1,920: the nearest are \`1/6\` and \`ticks 274\`" \
+a length is a whole number of ticks, of which a whole note has 1,920: the nearest are \`1/6\`,\
+ \`1/8\` and \`ticks 274\`" \
         "$refused" "$scratch/other"
     explains "an option without effect" 0 "" "formula: --from has no effect beside --parts" "$score" "$out" --parts --from=5
     explains "both ends of an excerpt" 0 "" "" "$score" "$out" --to 5 --from 0
@@ -67,12 +68,13 @@ each statement ends with \`;\`: write \`note c4 1/4;\`" "$scratch/slips" "$out"
     explains "a byte above 127" 3 "$(fault '1:20 fault 1')" "$scratch/slips:1:20: \`é\` begins no word of the language (fault 1)
 1 | formula 1;${tab}note c4 é
   |           ${tab}        ^
-words have the letters a to z alone: take the \`é\` away, or put it behind \`#\`" "$scratch/slips" "$out"
+words have the letters a to z alone: write others for the \`é\`, or put what is no music behind \`#\`" "$scratch/slips" "$out"
     input=$refused explains "a text from a pipe" 3 "$(fault '1:20 fault 8')" "/dev/stdin:1:20: \`1/7\` is 274.29 ticks, and no whole\
  number of them (fault 8)
 1 | formula 1; note c4 1/7;
   |                    ^
-a length is a whole number of ticks, of which a whole note has 1,920: the nearest are \`1/6\` and \`ticks 274\`" /dev/stdin "$out"
+a length is a whole number of ticks, of which a whole note has 1,920: the nearest are \`1/6\`,\
+ \`1/8\` and \`ticks 274\`" /dev/stdin "$out"
     input=$score explains "a score from a pipe" 0 "" "" /dev/stdin "$out"
     input=/dev/zero explains "a text from a pipe without end" 3 "$(fault '1:1 fault 18')" \
         "/dev/stdin:1:1: more than 1,048,576 bytes (fault 18)
