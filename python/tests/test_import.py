@@ -17,6 +17,7 @@ from .program import TOP, needs_program
 from formula_score.companion.playing import listed
 from formula_score.importer.compare import compared
 from formula_score.importer.parts import piece_of
+from formula_score.importer.repeats import Numbers
 from formula_score.importer.score import fitting_text
 
 import score_model
@@ -123,6 +124,19 @@ par {
         answer, text = imported(midi(480, [track([], 3_000_001)]))
         self.assertEqual(answer.status, 0, answer.said)
         self.assertEqual(text.split("\n")[-3:], ["repeat 3 { rest 3125/6; }", "rest ticks 1;", ""])
+
+    def test_bars_of_silence_are_no_loop_and_cost_no_time(self):
+        asked = []
+        empty = Numbers([0], False, lambda run: asked.append(run) or True)
+        self.assertEqual(empty.rows[empty.add([0] * 20_000)], [0] * 20_000)
+        self.assertEqual(asked, [])
+
+    def test_a_loop_has_as_many_rounds_as_it_may(self):
+        asked = []
+        full = Numbers([30], False, lambda run: asked.append(run) or len(run) <= 250)
+        row = full.add([0] * 1_000)
+        self.assertEqual([full.loops[each][0] for each in full.rows[row]], [250] * 4)
+        self.assertLess(len(asked), 1_000)
 
     def test_what_differs_first_is_told(self):
         listing = listed(file_model.listing(file_model.read(WALTZ)).decode().splitlines())

@@ -55,15 +55,15 @@ class Numbers:
             best: Optional[tuple[int, int]] = None
             gain = 0
             for width in range(1, min(_LONGEST_ROUND, (len(bars) - at) // 2) + 1):
-                if bars[at:at + width] != bars[at + width:at + 2 * width]:
+                body = bars[at:at + width]
+                own = self._text(body)
+                if not own or body != bars[at + width:at + 2 * width]:
                     continue
                 end = at + 2 * width
                 while end < len(bars) and bars[end] == bars[end - width]:
                     end += 1
-                times = (end - at) // width
-                while times > 1 and not self._may_be_one(times * bars[at:at + width]):
-                    times -= 1
-                saved = (times - 1) * self._text(bars[at:at + width]) - _LOOP
+                times = self._most_times(body, (end - at) // width)
+                saved = (times - 1) * own - _LOOP
                 if saved > gain:
                     gain, best = saved, (width, times)
             if best is None:
@@ -71,15 +71,25 @@ class Numbers:
                 at += 1
                 continue
             width, times = best
-            body = tuple(bars[at:at + width])
-            if (times, body) not in self._known:
-                row = self.add(body)
-                self._known[times, body] = len(self.sizes)
+            key = times, tuple(bars[at:at + width])
+            if key not in self._known:
+                row = self.add(key[1])
+                self._known[key] = len(self.sizes)
                 self.loops[len(self.sizes)] = times, row
                 self.sizes.append(self._text(self.rows[row]) + _LOOP)
-            found.append(self._known[times, body])
+            found.append(self._known[key])
             at += width * times
         return found
+
+    def _most_times(self, body: Sequence[int], times: int) -> int:
+        """How often a body may be played in one loop, of so many times; where it may, it may less often too."""
+        if self._may_be_one(times * list(body)):
+            return times
+        low, high = 1, times
+        while high - low > 1:
+            middle = (low + high) // 2
+            low, high = (middle, high) if self._may_be_one(middle * list(body)) else (low, middle)
+        return low
 
     def name_runs(self) -> None:
         """Gives numbers to runs that come again, where the text is shorter so."""
