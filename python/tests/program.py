@@ -1,4 +1,4 @@
-"""The built program for the tests that play: FORMULA names it, else the one that scripts/formula builds."""
+"""The built program for the tests that play: FORMULA names it, else the one that scripts/formula built. No test builds it."""
 
 from __future__ import annotations
 
@@ -21,6 +21,9 @@ score_model: Any = importlib.import_module("score_model")
 
 _BUILT = TOP / "crates" / "fm_main" / "out" / "fm_main"
 PROGRAM: Optional[str] = os.environ.get("FORMULA") or (str(_BUILT) if _BUILT.exists() else None)
+if PROGRAM is None:
+    # what a test runs then finds no program, in place of beginning a build
+    os.environ["FORMULA"] = str(_BUILT)
 
 needs_program = unittest.skipIf(
     PROGRAM is None, f"NOT TRIED: no program: FORMULA names none, and {_BUILT} is not there")

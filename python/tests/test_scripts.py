@@ -81,6 +81,33 @@ class Scripts(unittest.TestCase):
                              (STAND_IN, ["fm_main"]))
             started.unlink()
 
+    def test_runs_side_by_side_begin_one_build(self) -> None:
+        begun = self.top / "begun"
+        written(self.top / "tools" / "gate" / "build.py", f"""#!/bin/sh
+echo begun >>'{begun}'
+sleep 0.3
+cp '{self.top}/made' '{self.built}'
+""")
+        (self.top / "crates.txt").touch()
+        os.rename(self.built, self.top / "made")
+        runs = [subprocess.Popen([self.script, "in", "out"], stdin=subprocess.DEVNULL, stdout=subprocess.PIPE,
+                                 stderr=subprocess.PIPE, text=True, env={"PATH": os.environ["PATH"]}) for _ in range(4)]
+        ended = [run.communicate(timeout=LONGEST) for run in runs]
+        self.assertEqual([said for said, _ in ended], ["FORMULA is not set\n"] * 4)
+        self.assertEqual(sorted("waits for it" in complaint for _, complaint in ended), [False, True, True, True])
+        self.assertEqual((begun.read_text(), [run.returncode for run in runs]), ("begun\n", [0] * 4))
+
+    def test_words_that_every_program_refuses_begin_no_build(self) -> None:
+        begun = self.top / "begun"
+        written(self.top / "tools" / "gate" / "build.py", f"#!/bin/sh\ntouch '{begun}'\n")
+        os.unlink(self.built)
+        for words in ("--help", "-h", "in out --help", "--version", "in", ""):
+            with self.subTest(words):
+                done = subprocess.run([self.script, *words.split()], stdin=subprocess.DEVNULL, stdout=subprocess.PIPE,
+                                      stderr=subprocess.DEVNULL, text=True, check=False, env={"PATH": os.environ["PATH"]})
+                self.assertEqual((done.returncode, done.stdout), (1, "formula: words refused\n"))
+                self.assertFalse(begun.exists())
+
     def test_the_library_hands_it_to_no_program(self) -> None:
         kept = self.top / "kept"
         stand_in = written(self.top / "stand_in", f"#!/bin/sh\necho \"${{FORMULA-not set}}\" >'{kept}'\n")
