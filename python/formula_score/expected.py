@@ -5,7 +5,8 @@ from __future__ import annotations
 from operator import itemgetter
 from typing import NamedTuple, Optional, Sequence, Union
 
-from .nodes import Block, Message, Music, Note, Par, Phrase, Repeat, Rest, Warp
+from .blocks import Block, Phrase, Warp
+from .nodes import Message, Music, Note, Par, Repeat, Rest
 from .shapes import Curve, Part
 
 DEFAULT_GATE, DEFAULT_VELOCITY, RELEASE_VELOCITY = 90, 64, 64

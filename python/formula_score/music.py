@@ -1,16 +1,17 @@
-"""The calls that make music. `nodes` has what they give, and refuses what is out of its range."""
+"""The calls that make music. `nodes` and `blocks` have what they give, and refuse what is out of its range."""
 
 from __future__ import annotations
 
 from fractions import Fraction
 from typing import Iterable, Optional, SupportsIndex, Union
 
+from .blocks import Block, Phrase, Warp
 from .errors import BarError, ScoreError
 from .lengths import WHOLE_NOTE, Exact, LengthLike, exact_ticks, written
 from .midi import DRUM_CHANNEL, instrument_number, velocity
 from .nodes import (
-    KEYWORDS, MAX_COUNT, MAX_ENTRIES, MAX_PITCHES, Block, Held, Message, Music, Note, Par, Phrase, Repeat, Rest,
-    Seq, Warp, as_int, body_of, first_of_all, music,
+    KEYWORDS, MAX_COUNT, MAX_ENTRIES, MAX_PITCHES, Held, Message, Music, Note, Par, Repeat, Rest, Seq, as_int, body_of,
+    first_of_all, music,
 )
 from .pitch import Pitch, PitchLike
 from .shapes import Change, Curve, Number, Part, Swing, Tempo, shape_of, stretch_of

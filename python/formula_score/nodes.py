@@ -7,36 +7,25 @@ by the value in which a limit is passed.
 
 from __future__ import annotations
 
-import re
 from dataclasses import dataclass, replace
 from fractions import Fraction
-from typing import Iterable, Iterator, NamedTuple, NoReturn, Optional, Sequence, SupportsIndex, cast
+from typing import TYPE_CHECKING, Iterable, Iterator, NoReturn, Optional, SupportsIndex, cast
 
 from .errors import ScoreError
 from .lengths import MAX_LENGTH, WHOLE_NOTE, Exact, scaled
-from .midi import DRUM_CHANNEL
+from .nesting import FLAT, Nesting, added, deeper, facts, first_fine
 from .pitch import Pitch
-from .shapes import Curve, Part, Shape
-from .values import index, known, listed, shown, text, truth, whole
+from .shapes import Part
+from .values import index, known, listed, shown, truth, whole
+
+if TYPE_CHECKING:
+    from .blocks import Phrase
 
 KEYWORDS = frozenset(
     "formula seed shape flat by slope to pause breath ticks phrase note play rest skip control program bend set if "
     "else repeat max do par branch warp channel volume gate rhythm artic loud key pick min less same".split())
 
 MAX_PITCHES, MAX_COUNT, MAX_ENTRIES = 16, 1_000_000, 256
-
-
-class Nesting(NamedTuple):
-    """How many of each kind stand in one another."""
-
-    warps: int
-    loops_and_lists: int
-    blocks: int
-    braces: int
-
-
-FLAT = Nesting(0, 0, 0, 0)
-MOST = Nesting(8, 16, 64, 64)
 
 
 class Music:
@@ -263,7 +252,7 @@ class Seq(Held):
         self._keep(body=body, **facts(FLAT, body))
 
     def __repr__(self) -> str:
-        return f"seq({_several(self.body)})"
+        return f"seq({several(self.body)})"
 
 
 @dataclass(frozen=True)
@@ -281,7 +270,7 @@ class Repeat(Held):
                    exact=None if self.exact is None else count * self.exact)
 
     def __repr__(self) -> str:
-        return f"repeat({self.count}, {_several(self.body)})"
+        return f"repeat({self.count}, {several(self.body)})"
 
 
 @dataclass(frozen=True)
@@ -306,126 +295,7 @@ class Par(Music):
         return Par(tuple(tuple(item.scaled(by, known_phrases) for item in branch) for branch in self.branches))
 
     def __repr__(self) -> str:
-        return f"par({_several(branch[0] if len(branch) == 1 else Seq(branch) for branch in self.branches)})"
-
-
-#: Of each word of a block how many numbers it has at most, and their range.
-BLOCKS = {"channel": (1, 0, 15), "volume": (1, 1, 127), "gate": (1, 0, 400), "loud": (MAX_ENTRIES, 1, 127),
-          "artic": (MAX_ENTRIES, 0, 400)}
-
-
-@dataclass(frozen=True)
-class Block(Held):
-    """`channel`, `volume` or `gate` with a number, `loud` or `artic` with a list of up to 256, for its `body`.
-
-    `word` says which, `values` are the numbers: a channel is 0 to 15, a velocity (`volume`, `loud`) 1 to 127, and
-    `gate` and `artic` are percent of a note's length, 0 to 400.
-    """
-
-    word: str
-    values: tuple[int, ...]
-    body: tuple[Music, ...]
-
-    def __post_init__(self) -> None:
-        word = known("block", self.word, BLOCKS)
-        most, low, high = BLOCKS[word]
-        what = {"channel": "a channel", "volume": "a velocity", "loud": "a velocity"}.get(word, "a gate, in percent,")
-        values = tuple(whole(what, first_of_all(what, value), low, high)
-                       for value in listed(f"a {word}", self.values, 1, most))
-        self._keep(values=values, _adds=Nesting(0, int(most > 1), 1, 1))
-        self._hold(self.body)
-
-    def transpose(self, semitones: SupportsIndex) -> "Block":
-        if self.word == "channel" and self.values == (DRUM_CHANNEL,):
-            return self
-        return replace(self, body=tuple(item.transpose(semitones) for item in self.body))
-
-    def __repr__(self) -> str:
-        names = {"volume": "dynamics", "loud": "accents", "artic": "articulations"}
-        value = str(list(self.values)) if self.word in ("loud", "artic") else str(self.values[0])
-        return f"{names.get(self.word, self.word)}({value}, {_several(self.body)})"
-
-
-class Curved(Held):
-    """What a warp keeps, where no length in it is `fine`."""
-
-    #: where positions inside lie outside
-    curve: Curve
-    #: the ticks of the body
-    inside: int
-    _parts: tuple[Part, ...]
-
-
-@dataclass(frozen=True)
-class Warp(Curved):
-    """A `body` that is played through a `shape`, as `warp`, `tempo` and `swing` make it.
-
-    `parts` are the parts of the shape over this body, one after another.
-    """
-
-    shape: Shape
-    body: tuple[Music, ...]
-    _adds = Nesting(1, 0, 1, 1)
-
-    def __post_init__(self) -> None:
-        if not isinstance(self.shape, Shape):
-            raise ScoreError(f"{shown(self.shape)} is no shape")
-        self._hold(self.body)
-        fine, inside = (self.shape.fine() if self.fine is None else self.fine), self.exact
-        if fine is not None or not isinstance(inside, int):
-            self._keep(fine=fine, exact=None)
-            return
-        parts = self.shape.parts(inside)
-        curve = Curve(parts)
-        self._keep(_parts=parts, curve=curve, inside=inside, exact=curve.outside(inside, True))
-
-    @property
-    def parts(self) -> tuple[Part, ...]:
-        """The parts of the shape, with ticks of which a quarter note has 480."""
-        assert self.ticks >= 0  # or it says why there are none
-        return self._parts
-
-    def scaled(self, by: Fraction, known_phrases: dict[int, "Phrase"]) -> "Warp":
-        return Warp(self.shape.scaled(by), tuple(item.scaled(by, known_phrases) for item in self.body))
-
-    def __repr__(self) -> str:
-        return f"warp({self.shape!r}, {_several(self.body)})"
-
-
-@dataclass(frozen=True)
-class Phrase(Held):
-    """A `body` with a `name`, as `phrase` makes it: the text writes it once, however often it is played."""
-
-    name: str
-    body: tuple[Music, ...]
-
-    def __post_init__(self) -> None:
-        name = text("the name of a phrase", self.name)
-        if not re.fullmatch(r"[a-z][a-z0-9_]*", name) or name in KEYWORDS or re.fullmatch(
-                r"[a-g][sb]?[0-9]|r[0-7]|n([0-9]|1[0-5])", name):
-            raise ScoreError(f"{shown(name)} is no name: small letters, digits and '_', but no keyword, pitch, "
-                             "register or index")
-        self._hold(self.body)
-        # its text stands elsewhere, where braces begin anew
-        self._keep(nesting=self.nesting._replace(braces=0))
-
-    def transpose(self, semitones: SupportsIndex) -> "Phrase":
-        by = index_of(semitones)
-        if by == 0:
-            return self
-        moved: dict[int, Phrase] = self.__dict__.setdefault("_moved", {})
-        if by not in moved:
-            name = f"{self.name}_{'up' if by > 0 else 'down'}_{abs(by)}"
-            moved[by] = Phrase(name, tuple(item.transpose(by) for item in self.body))
-        return moved[by]
-
-    def scaled(self, by: Fraction, known_phrases: dict[int, "Phrase"]) -> "Phrase":
-        if id(self) not in known_phrases:
-            known_phrases[id(self)] = replace(self, body=tuple(item.scaled(by, known_phrases) for item in self.body))
-        return known_phrases[id(self)]
-
-    def __repr__(self) -> str:
-        return f"phrase({self.name!r}, {_several(self.body)})"
+        return f"par({several(branch[0] if len(branch) == 1 else Seq(branch) for branch in self.branches)})"
 
 
 def first_of_all(what: str, value: object) -> object:
@@ -433,37 +303,6 @@ def first_of_all(what: str, value: object) -> object:
     if isinstance(value, Music):
         raise ScoreError(f"{what} comes before the music, and here stands {shown(value)}")
     return value
-
-
-def deeper(adds: Nesting, items: Iterable[Music]) -> Nesting:
-    """The nesting of what holds these items, which has to be within the limits."""
-    nestings = {item.nesting for item in items} or {FLAT}
-    found = Nesting(*(more + max(each) for more, *each in zip(adds, *nestings)))
-    for what, many, most in zip(Nesting._fields, found, MOST):
-        if many > most:
-            raise ScoreError(f"at most {most} {what.replace('_', ' ')} stand in one another, and here {many} do")
-    return found
-
-
-def added(lengths: Iterable[Optional[Exact]]) -> Optional[Exact]:
-    """The sum; None where one is not known."""
-    total: Exact = 0
-    for length in lengths:
-        if length is None:
-            return None
-        total += length
-    return int(total) if total.denominator == 1 else total
-
-
-def facts(adds: Nesting, items: Sequence[Music]) -> dict[str, object]:
-    """What follows from the items that something holds one after another."""
-    return {"nesting": deeper(adds, items), "exact": added(item.exact for item in items),
-            "bar_ticks": added(item.bar_ticks for item in items), "fine": first_fine(items)}
-
-
-def first_fine(items: Iterable[Music]) -> Optional[Exact]:
-    """The first length that is no whole number of ticks."""
-    return next((item.fine for item in items if item.fine is not None), None)
 
 
 def as_seq(item: Music) -> Seq:
@@ -515,7 +354,7 @@ def _length(length: Exact) -> str:
         f"ticks({length})")
 
 
-def _several(items: Iterable[object]) -> str:
+def several(items: Iterable[object]) -> str:
     """Some of the items, and how many more there are; a long one as `repeat(..)`."""
     every = list(items)
     told = [text if len(text) <= 60 else f"{text.partition('(')[0]}(..)" for text in map(repr, every[:4])]

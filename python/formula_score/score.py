@@ -9,12 +9,12 @@ from functools import lru_cache
 from typing import Iterable, NamedTuple, Optional, SupportsIndex, Union
 
 from . import command
+from .blocks import Block, Phrase, Warp
 from .errors import ScoreError
 from .expected import Event, events_of
 from .lengths import DIVISION, MAX_DIVISION, MIN_DIVISION, written
-from .nodes import (
-    Block, Held, Message, Music, Note, Par, Phrase, Repeat, Rest, Warp, body_of, first_fine,
-)
+from .nesting import first_fine
+from .nodes import Held, Message, Music, Note, Par, Repeat, Rest, body_of
 from .shapes import Part
 from .values import shown, whole
 

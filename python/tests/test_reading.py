@@ -90,7 +90,7 @@ class Apart(unittest.TestCase):
             return {line.strip() for line in path.read_text().splitlines() if len(line.strip()) > 12} - {
                 'if __name__ == "__main__":'}
 
-        model = lines(TOP / "tools" / "score_model" / "score_model.py")
+        model = set[str]().union(*map(lines, (TOP / "tools" / "score_model").glob("*.py")))
         for path in sorted((TOP / "python" / "formula_score" / "companion").glob("*.py")):
             self.assertEqual(lines(path) & model, set(), path.name)
 
