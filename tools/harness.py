@@ -26,9 +26,9 @@ PathLike = Union[str, "os.PathLike[str]"]
 
 # ---- the program
 
-def no_program(told: str) -> NoReturn:
+def no_program(reason: str) -> NoReturn:
     """Ends a script that found no program."""
-    print(f"{pathlib.Path(sys.argv[0]).name}: {told}", file=sys.stderr)
+    print(f"{pathlib.Path(sys.argv[0]).name}: {reason}", file=sys.stderr)
     raise SystemExit(NO_PROGRAM)
 
 
@@ -49,15 +49,15 @@ def find(named: Optional[str] = None) -> str:
 def parser(doc: Optional[str]) -> argparse.ArgumentParser:
     """A parser with `--program`, for a script of which this is the text at its head."""
     parts = (doc or "").split("\n\n")
-    made = argparse.ArgumentParser(description=parts[0], epilog="\n\n".join(parts[2:]),
+    reader = argparse.ArgumentParser(description=parts[0], epilog="\n\n".join(parts[2:]),
                                    formatter_class=argparse.RawDescriptionHelpFormatter)
-    add_program(made)
-    return made
+    add_program(reader)
+    return reader
 
 
-def add_program(made: argparse.ArgumentParser) -> None:
+def add_program(reader: argparse.ArgumentParser) -> None:
     """Gives a parser the option `--program`."""
-    made.add_argument("--program", metavar="FILE", help="the program; else FORMULA names it, else it is the proved one")
+    reader.add_argument("--program", metavar="FILE", help="the program; else FORMULA names it, else it is the proved one")
 
 
 # ---- files
@@ -149,13 +149,13 @@ class Count:
 
     def judge(self, name: str, problem: Union[str, Sequence[str], None]) -> bool:
         """Counts a comparison, and prints what is wrong with it, if something is; whether it passed."""
-        told = problem if isinstance(problem, str) else "; ".join(problem or ())
-        if told:
+        text = problem if isinstance(problem, str) else "; ".join(problem or ())
+        if text:
             self.failed += 1
-            print(f"{name}: {told}", flush=True)
+            print(f"{name}: {text}", flush=True)
         else:
             self.passed += 1
-        return not told
+        return not text
 
     def ends(self, name: str, ran: Ran, status: int, said: bytes, out: Optional[bytes]) -> bool:
         """A run ended so, printed this and no more, and left this in OUT."""

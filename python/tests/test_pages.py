@@ -56,14 +56,14 @@ class Prose(unittest.TestCase):
             (f"| {'c' * 251} |", "a cell of 251 characters"), ("It stood there.", "`stood` means too much"),
             ("It goes over all.", "`goes over` means too much"), ("Want\nof memory.", "`Want of memory` means too much"),
         ):
-            self.assertIn(told, "\n".join(it.told for it in plain.faults_of(text)), text)
+            self.assertIn(told, "\n".join(it.problem for it in plain.faults_of(text)), text)
         for text in ("word " * 18 + ".", f"| {'c' * 250} |", "`stands` and ```stood``` are names. A standard.", "Storytelling",
                      "[A link](#what-stands-here) says its target apart."):
             self.assertEqual(plain.faults_of(text), [], text)
 
     def test_the_readme_of_a_crate(self) -> None:
         for text, told in (("x\n" * 61, "61 lines"), ("x" * 161, "a line of 161 characters"), ("It stood there.\n", "`stood` means")):
-            self.assertIn(told, "\n".join(it.told for it in plain.faults_of_readme(text)), text)
+            self.assertIn(told, "\n".join(it.problem for it in plain.faults_of_readme(text)), text)
         self.assertEqual(plain.faults_of_readme(("- " + "x" * 157 + ".\n") * 60), [])
 
 

@@ -62,8 +62,8 @@ def share(batch: Batch, hosts: Sequence[str], anew: Sequence[int], take: Callabl
             end_all(workers)
             if is_open:
                 os.close(done)
-            while told := os.read(seen, MOST_READ):
-                take(told)
+            while chunk := os.read(seen, MOST_READ):
+                take(chunk)
             os.close(seen)
 
 
@@ -90,10 +90,10 @@ def gather(seen: int, take: Callable[[bytes], None]) -> None:
             raise Interrupted
         wait = None if wait else PAUSE
         if ready:
-            told = os.read(seen, MOST_READ)
-            if not told:
+            chunk = os.read(seen, MOST_READ)
+            if not chunk:
                 return
-            take(told)
+            take(chunk)
 
 
 def become(batch: Batch, words: str, tasks: int, count: int, done: int) -> None:

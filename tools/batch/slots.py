@@ -48,10 +48,10 @@ class Slot:
 
     def __init__(self, batch: Batch, words: str):
         self.batch, self.words = batch, words
-        self.said, told = os.pipe()
+        self.said, write_end = os.pipe()
         os.set_blocking(self.said, False)
         nothing = os.open(os.devnull, os.O_RDWR)
-        self.files = [(os.POSIX_SPAWN_DUP2, nothing, 0), (os.POSIX_SPAWN_DUP2, told, 1),
+        self.files = [(os.POSIX_SPAWN_DUP2, nothing, 0), (os.POSIX_SPAWN_DUP2, write_end, 1),
                       (os.POSIX_SPAWN_DUP2, nothing, 2)]
         self.environment = {name: value for name, value in os.environb.items() if name != b"FORMULA"}
 

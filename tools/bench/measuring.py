@@ -60,10 +60,10 @@ def least(runs: Sequence[Figures]) -> Figures:
                    max(run.status for run in runs))
 
 
-def compiled(source: str, made: str, *options: str) -> str:
+def compiled(source: str, target: str, *options: str) -> str:
     """Compiles a program of this folder, and returns its name."""
-    subprocess.run(["cc", "-O2", *options, "-o", made, str(HERE / source)], check=True)
-    return made
+    subprocess.run(["cc", "-O2", *options, "-o", target, str(HERE / source)], check=True)
+    return target
 
 
 class Bench:

@@ -40,16 +40,16 @@ def performances(bench: Bench) -> None:
             elif "--rounds" not in options:
                 of_alone.append(ratio)
             peaks.setdefault(" ".join(options), []).append(figures.peak)
-            each = 1000 * figures.cpu / events
-            row(name, events, figures.wall, figures.cpu, each, ratio, int(figures.peak))
+            per_event = 1000 * figures.cpu / events
+            row(name, events, figures.wall, figures.cpu, per_event, ratio, int(figures.peak))
         # The rest is what the writes take, all but the way into the kernel and back.
         figures = bench.generate(number, ["--workers", "0"], "/dev/null")
-        each = 1000 * figures.cpu / events
-        row("  0 workers, into /dev/null", events, figures.wall, figures.cpu, each)
+        per_event = 1000 * figures.cpu / events
+        row("  0 workers, into /dev/null", events, figures.wall, figures.cpu, per_event)
     bench.aim("0 workers to the floor, processor time", of_floor, MOST_OF_FLOOR)
     bench.aim("4 workers to 0 workers, wall time", of_alone, MOST_OF_ALONE)
-    for told, kept in peaks.items():
-        what = f"{told}, peak memory, 4,000,000 events less 128,000, KiB"
+    for title, kept in peaks.items():
+        what = f"{title}, peak memory, 4,000,000 events less 128,000, KiB"
         bench.aim(what, [kept[-1] - kept[0]], 1024, "{:.0f}")
 
 
@@ -93,8 +93,8 @@ def other_performances(bench: Bench) -> None:
         figures = bench.play(text, ["--workers", "0"])
         floor = bench.floor()
         ratio: Cell = figures.cpu / floor.cpu if floor.cpu > 1 else "-"
-        each = 1000 * figures.cpu / count
-        row(name, count, figures.wall, figures.cpu, each, ratio, int(figures.peak))
+        per_event = 1000 * figures.cpu / count
+        row(name, count, figures.wall, figures.cpu, per_event, ratio, int(figures.peak))
     head("ONE PROCESS, 4 workers", "count", "wall ms", "cpu ms", "us each", "wall to 0", "peak KiB")
     ratios: list[float] = []
     for name, text, count in (
@@ -104,8 +104,8 @@ def other_performances(bench: Bench) -> None:
         alone = bench.play(text, ["--workers", "0"])
         figures = bench.play(text, ["--workers", "4"])
         ratios.append(figures.wall / alone.wall)
-        each = 1000 * figures.cpu / count
-        row(name, count, figures.wall, figures.cpu, each, ratios[-1], int(figures.peak))
+        per_event = 1000 * figures.cpu / count
+        row(name, count, figures.wall, figures.cpu, per_event, ratios[-1], int(figures.peak))
     bench.aim("one process, 4 workers to 0 workers, wall time", ratios, MOST_OF_ALONE)
 
 

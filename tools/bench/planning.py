@@ -74,10 +74,10 @@ def plans(bench: Bench) -> None:
     ):
         large = bench.play(text(count), [], bench.nowhere, 4)
         small = bench.play(text(quarter), [], bench.nowhere, 4)
-        each = 1024 * (large.peak - small.peak) / (count - quarter)
-        row(name, count, large.cpu, small.cpu, large.cpu / small.cpu, int(large.peak), int(each))
+        weight = 1024 * (large.peak - small.peak) / (count - quarter)
+        row(name, count, large.cpu, small.cpu, large.cpu / small.cpu, int(large.peak), int(weight))
         if count == most:
-            weights.append(each)
+            weights.append(weight)
     rounds = [
         bench.play(texts.rounds_over_text(texts.MEBIBYTE, count), [], bench.nowhere, 4)
         for count in (1_000, 250)
@@ -116,13 +116,13 @@ def little_room(bench: Bench) -> None:
         for way, options in WAYS.items():
             growths: list[float] = []
             ratios: list[float] = []
-            much: Optional[Figures] = None
+            reference: Optional[Figures] = None
             for room in ROOMS:
                 words = options + ["--room", str(room)]
                 large, small, growth = bench.growth(text(most), text(most // 4), words)
-                much = much or large
+                reference = reference or large
                 growths.append(growth)
-                ratios.append(large.cpu / much.cpu)
+                ratios.append(large.cpu / reference.cpu)
                 row(f"  {name}, {way}", room, large.cpu, small.cpu, growth, ratios[-1])
             what = f"four times the branches of a note that {name}, {way}, rooms 64, 2 and 1"
             bench.aim(f"{what}, time", growths, MOST_GROWTH_OF_LITTLE_ROOM)

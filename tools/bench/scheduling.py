@@ -130,13 +130,13 @@ def quanta(bench: Bench, text: bytes) -> None:
     record = recording.parts(harness.content(bench.out))
     if record is None:
         wrong("what was recorded is no record")
-    made, computed = [0, 0], [0, 0]
+    counts, computed = [0, 0], [0, 0]
     for step in recording.steps(record.steps):
         if step.kind == "Give":
             fields = dict(step.fields)
             is_worker = fields["seat"] > 0
-            made[is_worker] += fields["computed"] > 0
+            counts[is_worker] += fields["computed"] > 0
             computed[is_worker] += fields["computed"]
-    row("  on record: quanta of workers", made[1])
-    row("  on record: of the conductor", made[0])
+    row("  on record: quanta of workers", counts[1])
+    row("  on record: of the conductor", counts[0])
     row("  on record: events by workers, %", 100 * computed[1] / max(1, sum(computed)))

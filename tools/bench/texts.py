@@ -236,8 +236,8 @@ def forks_in_branches(count: int) -> bytes:
     """So many processes, 3 * 2^depth - 2 for some depth, in branches that fork in two."""
     depth = ((count + 2) // 3).bit_length() - 1
     phrases = b"phrase p0{}" + b"".join(
-        b"phrase p%d{par{branch{do p%d;}branch{do p%d;}}}" % (k, k - 1, k - 1)
-        for k in range(1, depth + 1)
+        b"phrase p%d{par{branch{do p%d;}branch{do p%d;}}}" % (level, level - 1, level - 1)
+        for level in range(1, depth + 1)
     )
     return b"formula 1;" + phrases + b"do p%d;" % depth
 

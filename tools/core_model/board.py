@@ -101,7 +101,7 @@ def misspelt(board, state):
     for process, line in enumerate(board.setting.lines):
         tag, clock, number = seen(words[board.word_at(process)])
         held = tag in (OUT, ENDED_OUT)
-        mine = [s for s, seat in enumerate(seats) if seat.holds is not None and seat.holds.process == process]
+        mine = [index for index, seat in enumerate(seats) if seat.holds is not None and seat.holds.process == process]
         found += ["holder"] if mine != ([number] if held else []) else []
         found += ["unborn clock"] if tag == UNBORN and clock else []
         room = slots[process]
@@ -139,8 +139,8 @@ def steps(board, state, number):
     seat = settled(seats[number])
     found = []
 
-    def to(new, *made, words=words, slots=slots):
-        found.append((owed + list(made), (words, slots, put(seats, number, new))))
+    def to(new, *core_steps, words=words, slots=slots):
+        found.append((owed + list(core_steps), (words, slots, put(seats, number, new))))
 
     if seat.call:
         CALLS[seat.call[0]](board, words, slots, seat, number, to)
@@ -170,7 +170,7 @@ def look(board, words, slots, seat, number, to):
         sweep = () if process == 0 else seat.sweep
         if process == len(sweep):
             if tag == UNBORN:
-                clock = max(sweep[q][0] for q in board.setting.lines[process].predecessors)
+                clock = max(sweep[predecessor][0] for predecessor in board.setting.lines[process].predecessors)
             sweep += ((clock, tag in IS_ENDED),)
         visited = seat.visited | {process} if number == 0 and tag in (UNBORN, DRAINED) else seat.visited
         to(seat._replace(sweep=sweep, visited=visited), ("Look", number, process))
@@ -318,7 +318,7 @@ def word(board, words, slots, seat, number, to):
     out = hold.given - hold.taken - takes
     tag = (ENDED if out else DRAINED) if ended else (FULL if out == board.setting.room else HOME)
     times = board.setting.lines[hold.process].times
-    gathered = tuple((times[n], hold.process, n) for n in range(hold.taken, hold.taken + takes))
+    gathered = tuple((times[index], hold.process, index) for index in range(hold.taken, hold.taken + takes))
     visited = seat.visited | {hold.process} if number == 0 and seat.due is not None else seat.visited
     to(seat._replace(call=(), holds=None, visited=visited, gathered=seat.gathered + gathered),
        ("Give", number, hold.process, takes, hold.given - hold.computed, hold.at, ended),

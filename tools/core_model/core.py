@@ -60,7 +60,7 @@ def held(state, seat):
 
 
 def start(setting, process):
-    return max((setting.lines[q].end for q in setting.lines[process].predecessors), default=0)
+    return max((setting.lines[predecessor].end for predecessor in setting.lines[process].predecessors), default=0)
 
 
 def upper(setting, process, count):
@@ -81,7 +81,7 @@ def is_due(state, time, process):
 def waiting(setting, state, process):
     """The due events in the outbox of this process."""
     times = setting.lines[process].times[state.taken[process]:state.computed[process]]
-    return [t for t in times if is_due(state, t, process)]
+    return [time for time in times if is_due(state, time, process)]
 
 
 def must_take(setting, state, seat, process):
@@ -121,7 +121,7 @@ def start_reason(setting, state, seat, process):
         return "Holding"
     if state.tag[process] != UNBORN:
         return "NotUnborn"
-    live = [q for q in setting.lines[process].predecessors if not is_ended(state, q)]
+    live = [predecessor for predecessor in setting.lines[process].predecessors if not is_ended(state, predecessor)]
     return "PredecessorLive" if live else None
 
 
@@ -142,7 +142,7 @@ def give_reason(setting, state, seat, process, taken, computed, clock, ended):
     before, after = state.computed[process], state.computed[process] + computed
     if after > len(line.times) or tag == ENDED_OUT and computed > 0:
         return "WrongCount"
-    if any(not under_lead(setting, state.paced[seat], t) for t in line.times[before:after]):
+    if any(not under_lead(setting, state.paced[seat], time) for time in line.times[before:after]):
         return "AboveLead"
     if after - state.taken[process] - taken > setting.room:
         return "OverRoom"
@@ -188,7 +188,7 @@ def look(setting, state, seat, process):
     if process == 0:
         sweep.clear()
     if process == len(sweep):
-        seen = [sweep[q][0] for q in setting.lines[process].predecessors]
+        seen = [sweep[predecessor][0] for predecessor in setting.lines[process].predecessors]
         clock = state.clock[process] if is_born(state, process) else max(seen)
         sweep.append((clock, is_ended(state, process)))
     if seat == 0 and state.tag[process] in (UNBORN, DRAINED):
@@ -252,7 +252,7 @@ def bounds(setting, state):
     """Below its bound no process gives an event any more."""
     found = []
     for process, line in enumerate(setting.lines):
-        waits = [found[q] for q in line.predecessors]
+        waits = [found[predecessor] for predecessor in line.predecessors]
         found.append(state.clock[process] if is_born(state, process) else max(waits))
     return found
 
@@ -275,7 +275,7 @@ def gives(setting, state, seat, process):
     for computed in range(setting.room + 2):
         high, low = upper(setting, process, state.computed[process] + computed), state.clock[process]
         for clock in {low, high, (low + high) // 2}:
-            found += [("Give", seat, process, taken, computed, clock, e) for e in (False, True)]
+            found += [("Give", seat, process, taken, computed, clock, ended) for ended in (False, True)]
     return found
 
 
@@ -306,15 +306,15 @@ def left(setting, state):
     """What is left to do, compared from the left."""
     processes, due = range(len(state.tag)), state.due is not None
     owes, mine, sweep = owed(setting, state), held(state, 0), state.sweep[0]
-    lowering = [s for s in allowed_steps(setting, state) if s[0] in ("Record", "Give")
-                and owed(setting, after(setting, state, s)) < owes]
+    lowering = [step for step in allowed_steps(setting, state) if step[0] in ("Record", "Give")
+                and owed(setting, after(setting, state, step)) < owes]
     visiting = due and mine is not None and mine not in state.visited
-    unvisited = [p for p in processes if p not in state.visited]
+    unvisited = [process for process in processes if process not in state.visited]
     bound = bounds(setting, state)
-    fresh = all(clock == bound[p] and ended == is_ended(state, p)
-                for p, (clock, ended) in enumerate(sweep))
-    stirs = (any(is_workable(setting, state, p) for p in processes) or state.gather
-             or any(waiting(setting, state, p) for p in unvisited))
+    fresh = all(clock == bound[process] and ended == is_ended(state, process)
+                for process, (clock, ended) in enumerate(sweep))
+    stirs = (any(is_workable(setting, state, process) for process in processes) or state.gather
+             or any(waiting(setting, state, process) for process in unvisited))
     away = 0
     if due and unvisited:
         process, following = unvisited[0], len(sweep)
@@ -333,7 +333,7 @@ def piece(setting):
 
 
 def is_finished(setting, state):
-    return len(state.released) == len(piece(setting)) and all(t == DRAINED for t in state.tag)
+    return len(state.released) == len(piece(setting)) and all(tag == DRAINED for tag in state.tag)
 
 
 def random_setting(chance):
@@ -342,7 +342,7 @@ def random_setting(chance):
     for process in range(chance.randint(1, 4)):
         most = min(process, 2)
         waits = sorted(chance.sample(range(process), chance.randint(1, most))) if process else []
-        begins = max((lines[q].end for q in waits), default=0)
+        begins = max((lines[predecessor].end for predecessor in waits), default=0)
         times = sorted(begins + chance.randint(0, 4) for _ in range(chance.randint(0, 3)))
         lines.append(Line(times, waits, (times[-1] if times else begins) + chance.randint(0, 2)))
     lines[-1].end = max(line.end for line in lines)

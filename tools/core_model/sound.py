@@ -29,11 +29,11 @@ def broken_processes(setting, state):
         if is_born(state, process):
             checks["begun"] = start(setting, process) <= clock
             checks["timed"] = clock <= upper(setting, process, computed)
-            checks["after_all"] = all(is_ended(state, q) for q in line.predecessors)
+            checks["after_all"] = all(is_ended(state, predecessor) for predecessor in line.predecessors)
         found += [name for name, holds in checks.items() if not holds]
     for seat in range(len(state.paced)):
-        mine = [p for p, tag in enumerate(state.tag)
-                if tag in (OUT, ENDED_OUT) and state.seat[p] == seat]
+        mine = [process for process, tag in enumerate(state.tag)
+                if tag in (OUT, ENDED_OUT) and state.seat[process] == seat]
         found += ["alone"] if len(mine) > 1 else []
     return found + (["root"] if state.tag[0] == UNBORN else [])
 
@@ -53,16 +53,16 @@ def broken_floor(setting, state):
     floor, found = state.floor, []
     bound, processes = bounds(setting, state), range(len(state.tag))
     if floor == DONE:
-        found += ["done"] if not all(is_ended(state, p) for p in processes) else []
-        return found + (["done_seen"] if not all(e for _, e in state.sweep[0]) else [])
+        found += ["done"] if not all(is_ended(state, process) for process in processes) else []
+        return found + (["done_seen"] if not all(ended for _, ended in state.sweep[0]) else [])
     if any(paced == DONE or paced > floor for paced in state.paced):
         found.append("paced")
-    if any(not is_ended(state, p) and floor > bound[p] for p in processes):
+    if any(not is_ended(state, process) and floor > bound[process] for process in processes):
         found.append("floored")
     if any(not ended and clock < floor for clock, ended in state.sweep[0]):
         found.append("swept_high")
-    if any(t > floor + setting.lead for p in processes
-           for t in setting.lines[p].times[:state.computed[p]]):
+    if any(time > floor + setting.lead for process in processes
+           for time in setting.lines[process].times[:state.computed[process]]):
         found.append("led")
     return found
 
@@ -72,20 +72,20 @@ def broken_taking(setting, state):
     pair = due if due not in (None, EVERYTHING) else None
     if pair is not None:
         found += ["due_floor"] if state.floor != pair[0] else []
-        found += ["gathered_due"] if any(e[:2] > pair for e in state.gather) else []
+        found += ["gathered_due"] if any(event[:2] > pair for event in state.gather) else []
     found += ["due_all"] if due == EVERYTHING and state.floor != DONE else []
     found += ["not_due"] if due is None and state.gather else []
     for process, line in enumerate(setting.lines):
-        mine = [e[2] for e in state.released + state.gather if e[1] == process]
-        gathered = sum(e[1] == process for e in state.gather)
+        mine = [event[2] for event in state.released + state.gather if event[1] == process]
+        gathered = sum(event[1] == process for event in state.gather)
         visited, taken = process in state.visited, state.taken[process]
         found += ["kept"] if mine != list(range(taken)) else []
         found += ["gathered"] if gathered > (setting.room if visited else 0) else []
         if pair is not None:
-            rest = [(t, process) for t in line.times[state.computed[process]:]]
-            untaken = [(t, process) for t in line.times[taken:]]
-            found += ["due_rest"] if any(e < pair for e in rest) else []
-            found += ["visited_below"] if visited and any(e < pair for e in untaken) else []
+            rest = [(time, process) for time in line.times[state.computed[process]:]]
+            untaken = [(time, process) for time in line.times[taken:]]
+            found += ["due_rest"] if any(event < pair for event in rest) else []
+            found += ["visited_below"] if visited and any(event < pair for event in untaken) else []
         if due == EVERYTHING and visited and taken != len(line.times):
             found.append("visited_all")
     released = piece(setting)[:len(state.released)]

@@ -67,12 +67,12 @@ class Hall:
         return (tuple(cells), state.floor, tuple(desks), state.due, frozenset(state.visited), tuple(state.gather),
                 tuple(state.released))
 
-    def after(self, number, made):
+    def after(self, number, core_steps):
         """The number of the state that the steps leave, or the reason why one of them is refused."""
-        key = number, made
+        key = number, core_steps
         if key not in self.left:
             state, found = self.state(self.states[number]), None
-            for step in made:
+            for step in core_steps:
                 found = core.reason(self.board.setting, state, step)
                 if found:
                     break
@@ -84,8 +84,8 @@ class Hall:
 def moves(board, state):
     """Each seat's atomic steps; and the release that seat 0 may come to owe, which is no step on a word."""
     for number in range(board.seats):
-        for made, new in steps(board, state, number):
-            yield number, made, new
+        for core_steps, new in steps(board, state, number):
+            yield number, core_steps, new
     owing = released(board, state[2][0])
     if owing is not None:
         yield 0, None, (state[0], state[1], (owing,) + state[2][1:])
@@ -105,7 +105,7 @@ def turned_back(board, old, new):
 
 def is_finished(board, state):
     return (core.piece(board.setting) == list(state[2][0].released) and not state[2][0].owes
-            and all(seen(state[0][board.word_at(p)])[0] == core.DRAINED for p in range(board.count)))
+            and all(seen(state[0][board.word_at(process)])[0] == core.DRAINED for process in range(board.count)))
 
 
 class Search:
@@ -114,7 +114,7 @@ class Search:
     def __init__(self, board):
         self.board, self.hall = board, Hall(board)
         self.places, self.states, self.cores, self.came = {}, [], [], []
-        self.made = self.finished = 0
+        self.step_count = self.finished = 0
         self.sound = set()
 
     def enter(self, state, came):
@@ -132,23 +132,23 @@ class Search:
             found = broken(self.board.setting, self.hall.state(self.hall.states[core_state]))
         return place, found
 
-    def step(self, old, number, made, new):
+    def step(self, old, number, core_steps, new):
         """What a step breaks."""
-        self.made += 1
-        place, found = self.enter(new, (old, number, made))
-        if not found and made is not None:
-            left = self.hall.after(self.cores[old], tuple(made))
+        self.step_count += 1
+        place, found = self.enter(new, (old, number, core_steps))
+        if not found and core_steps is not None:
+            left = self.hall.after(self.cores[old], tuple(core_steps))
             if left != self.cores[place]:
-                found = [f"no step of the core: {left if isinstance(left, str) else made}"]
+                found = [f"no step of the core: {left if isinstance(left, str) else core_steps}"]
             found += turned_back(self.board, self.states[old], new)
-        return f"broken: {found}\n  {self.trace(old)}\n  seat {number}: {made}" if found else None
+        return f"broken: {found}\n  {self.trace(old)}\n  seat {number}: {core_steps}" if found else None
 
     def trace(self, place):
-        told = []
+        rows = []
         while self.came[place] is not None:
-            place, number, made = self.came[place]
-            told.append(f"seat {number}: {made}")
-        return "\n  ".join(reversed(told))
+            place, number, core_steps = self.came[place]
+            rows.append(f"seat {number}: {core_steps}")
+        return "\n  ".join(reversed(rows))
 
     def run(self):
         if self.enter(self.board.opening(), None)[1]:
@@ -157,13 +157,13 @@ class Search:
         while place < len(self.states):
             state = self.states[place]
             self.finished += is_finished(self.board, state)
-            for number, made, new in moves(self.board, state):
-                found = self.step(place, number, made, new)
+            for number, core_steps, new in moves(self.board, state):
+                found = self.step(place, number, core_steps, new)
                 if found:
                     return found
             place += 1
-        told = f"{place} states, {self.made} atomic steps, {len(self.sound)} sound states of the core"
-        return told if self.finished else f"{told}; broken: the end is never reached"
+        counts = f"{place} states, {self.step_count} atomic steps, {len(self.sound)} sound states of the core"
+        return counts if self.finished else f"{counts}; broken: the end is never reached"
 
 
 def main(names):

@@ -15,13 +15,13 @@ from sound import broken
 def choose(chance, setting, state):
     """A step, more often one that moves the run on."""
     steps = allowed_steps(setting, state)
-    moving = [s for s in steps if s[0] in ("Give", "Release", "Publish", "Record", "Start")]
+    moving = [step for step in steps if step[0] in ("Give", "Release", "Publish", "Record", "Start")]
     return chance.choice(moving if moving and chance.random() < 0.5 else steps)
 
 
 def lowers(setting, state):
     now = left(setting, state)
-    return any(left(setting, after(setting, state, s)) < now for s in allowed_steps(setting, state))
+    return any(left(setting, after(setting, state, step)) < now for step in allowed_steps(setting, state))
 
 
 def walks(chance, count):
@@ -74,8 +74,8 @@ def changed(chance, setting, state):
             state.seat[process] = seat
         else:
             state.released = piece(setting)[:chance.randint(0, len(piece(setting)))]
-            for q in range(len(state.tag)):
-                state.taken[q] = max(state.taken[q], sum(e[1] == q for e in state.released))
+            for owner in range(len(state.tag)):
+                state.taken[owner] = max(state.taken[owner], sum(event[1] == owner for event in state.released))
     return state
 
 

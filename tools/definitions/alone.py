@@ -63,24 +63,25 @@ def code_file(path: str) -> str:
 class Alone:
     def __init__(self, repository: Repository, statement: Statement, left_out: Target | None = None):
         self.repository, self.statement, self.left_out = repository, statement, left_out
-        self.needed = {it.target: it for it in statement.needed if it.target != left_out}
+        self.needed = {definition.target: definition for definition in statement.needed if definition.target != left_out}
 
     # ---- definitions
 
     def used_imports(self, file: File, needed: list[Needed]) -> set[str]:
         """The short names of a file's `use` lines that the needed definitions use."""
         keys: set[str] = set()
-        for it in needed:
-            if it.item is None:
+        for definition in needed:
+            if definition.item is None:
                 continue
             uses = Uses(file.path, lambda word: self.repository.is_constructor(file, word))
             bound: frozenset[str] = frozenset()
-            for block in it.blocks:
+            for block in definition.blocks:
                 words = parameters_of(block)
                 at = 0
                 while at < len(words):
                     at, bound = uses.group(words, at, bound)
-            named = uses.found + names_in_item(file.path, it.item, lambda word: self.repository.is_constructor(file, word), bound)
+            named = uses.found + names_in_item(
+                file.path, definition.item, lambda word: self.repository.is_constructor(file, word), bound)
             keys.update(key for name in named if (key := self.key(file, name)))
         return keys
 
@@ -92,19 +93,20 @@ class Alone:
             return first
         if f"{first}." in file.imports and len(name.parts) > 1:
             return f"{first}."
-        return next((it for it in file.imports if "◌" in it and first in parts_of(it)), None)
+        return next((key for key in file.imports if "◌" in key and first in parts_of(key)), None)
 
     def specs(self, file: File, needed: list[Needed]) -> str:
         lines = []
         for key in sorted(self.used_imports(file, needed)):
-            it = file.imports[key]
-            if it.name is None:
+            imported = file.imports[key]
+            if imported.name is None:
                 short = key.removesuffix(".")
-                lines.append(f"use {module_of(it.module)}" + ("" if it.module.endswith(f".{short}") and not self.repository.is_own(it.module) else f" as {short}"))
+                keeps_name = imported.module.endswith(f".{short}") and not self.repository.is_own(imported.module)
+                lines.append(f"use {module_of(imported.module)}" + ("" if keeps_name else f" as {short}"))
                 continue
-            target = self.repository.item(it.module, it.name)
-            module = target.module if target and target.kind == "definition" else it.module
-            name = f"{it.name} as {key}" if it.name != key else key
+            target = self.repository.item(imported.module, imported.name)
+            module = target.module if target and target.kind == "definition" else imported.module
+            name = f"{imported.name} as {key}" if imported.name != key else key
             lines.append(f"use {module_of(module)}.{{{name}}}")
         shown: tuple[int, ...] = ()
         for it2 in needed:
@@ -117,14 +119,15 @@ class Alone:
     def source(self, needed: list[Needed]) -> str:
         lines = [f"//! From {needed[0].path}."]
         wanted: set[Target] = set()
-        for it in needed:
-            wanted.update(name for name in it.names if name.kind == "code" and name in self.needed)
-        own = {it.target for it in needed}
-        path = next(it.code.path for it in needed if it.code)
+        for definition in needed:
+            wanted.update(name for name in definition.names if name.kind == "code" and name in self.needed)
+        own = {definition.target for definition in needed}
+        path = next(definition.code.path for definition in needed if definition.code)
         for use in self.repository.code_of[path].ghost_uses:
             lines += self.ghost_use(path, use)
-        lines += [f"use crate::{code_file(self.needed[it].path)}::{it.name};" for it in sorted(wanted - own, key=str)]
-        items = [plain_item(text_of(self.repository, it)) for it in needed]
+        lines += [f"use crate::{code_file(self.needed[target].path)}::{target.name};"
+                  for target in sorted(wanted - own, key=str)]
+        items = [plain_item(text_of(self.repository, definition)) for definition in needed]
         lines += library_uses(self.repository.code_of[path].text, "\n".join(items))
         for item in items:
             lines += ["", item]
@@ -134,11 +137,11 @@ class Alone:
         """The part of a `ghost use` line that is there."""
         file = self.repository.ghost_file(path)
         kept = []
-        for key, it in file.imports.items():
-            if it.name and it.module == use.split(".{")[0]:
-                target = self.repository.item(it.module, it.name)
+        for key, imported in file.imports.items():
+            if imported.name and imported.module == use.split(".{")[0]:
+                target = self.repository.item(imported.module, imported.name)
                 if target and (target.kind == "library" or target in self.needed):
-                    kept.append(it.name if it.name == key else f"{it.name} as {key}")
+                    kept.append(imported.name if imported.name == key else f"{imported.name} as {key}")
         return [f"ghost use {module_of(use.split('.{')[0])}.{{{', '.join(kept)}}};"] if kept else []
 
     # ---- the crate
@@ -152,8 +155,9 @@ class Alone:
         write(f"{folder}/crates.txt", f"{CRATE}: {' '.join(libraries)}\n")
         write(f"{folder}/HANDLES", "Handles allowed: none.\n")
         modules, sources = [], []
-        for path in dict.fromkeys(it.path for it in self.statement.needed):
-            needed = sorted((it for it in self.needed.values() if it.path == path), key=lambda it: it.first)
+        for path in dict.fromkeys(definition.path for definition in self.statement.needed):
+            needed = sorted((definition for definition in self.needed.values() if definition.path == path),
+                            key=lambda definition: definition.first)
             if not needed:
                 continue
             file = needed[0].file
@@ -182,7 +186,7 @@ def library_uses(code: str, items: str) -> list[str]:
 def plain_item(text: str) -> str:
     """An item of the code without what it derives for running."""
     def kept(match: re.Match[str]) -> str:
-        names = [it for it in re.findall(r"\w+", match[1]) if it in KEPT_DERIVES]
+        names = [derive for derive in re.findall(r"\w+", match[1]) if derive in KEPT_DERIVES]
         return f"#[derive({', '.join(names)})]" if names else ""
     text = re.sub(r"#\[derive\(([^)]*)\)\]", kept, text)
     return re.sub(r"\n *#\[(?!derive)[^\n]*\]", "", text)
@@ -201,7 +205,7 @@ def check(folder: str) -> tuple[bool, str]:
 def drawn(items: list[Needed], count: int, seed: int = 0) -> list[Needed]:
     """So many of them, in their order."""
     chosen = set(random.Random(seed).sample(range(len(items)), min(count, len(items))))
-    return [it for k, it in enumerate(items) if k in chosen]
+    return [item for index, item in enumerate(items) if index in chosen]
 
 
 def main() -> int:
@@ -220,16 +224,17 @@ def main() -> int:
     way = next((word for word in ("--each", "--some") if word in sys.argv), None)
     if way is None:
         return 0
-    numbers = [int(it) for it in sys.argv[sys.argv.index(way) + 1:]]
-    named = {name for it in statement.needed for name in it.names}
-    all_of_them = [it for it in statement.needed if it.target in named]
+    numbers = [int(word) for word in sys.argv[sys.argv.index(way) + 1:]]
+    named = {name for definition in statement.needed for name in definition.names}
+    all_of_them = [definition for definition in statement.needed if definition.target in named]
     chosen = all_of_them[slice(*numbers) if numbers else slice(None)] if way == "--each" else drawn(all_of_them, *numbers)
     kept = 0
-    for it in chosen:
-        Alone(repository, statement, it.target).write(folder)
+    for definition in chosen:
+        Alone(repository, statement, definition.target).write(folder)
         proved, said = check(folder)
         kept += proved
-        print(f"{'NOT NEEDED' if proved else 'needed'} {it.path}:{it.first} {it.target.name}", flush=True)
+        verdict = "NOT NEEDED" if proved else "needed"
+        print(f"{verdict} {definition.path}:{definition.first} {definition.target.name}", flush=True)
     print(f"{len(chosen)} of {len(all_of_them)} left out in turn, {kept} are not needed")
     return kept != 0
 

@@ -65,11 +65,11 @@ class Program:
             os.remove(self.out)
         done = subprocess.run([self.program, self.given, self.out, *words], stdin=subprocess.DEVNULL,
                               stdout=subprocess.PIPE, stderr=subprocess.STDOUT, timeout=LONGEST, check=False)
-        made = None
+        written = None
         if os.path.exists(self.out):
             with open(self.out, "rb") as file:
-                made = file.read()
-        return done.returncode, done.stdout, made
+                written = file.read()
+        return done.returncode, done.stdout, written
 
 
 def words_drawn(draw: random.Random) -> list[str]:
@@ -123,8 +123,9 @@ class Case:
     def words(self) -> None:
         """The words of a command at random: what they ask for, or that they are refused."""
         words = words_drawn(self.draw)
-        made = self.definitions.settings_of([word.encode() for word in words])
-        mine = None if made is None else {name.rstrip("_"): plain_values.setting(it) for name, it in vars(made).items()}
+        chosen = self.definitions.settings_of([word.encode() for word in words])
+        mine = None if chosen is None else {name.rstrip("_"): plain_values.setting(value)
+                                            for name, value in vars(chosen).items()}
         read = command_line.read(words)
         self.judge("words", mine, {"formula_score": None if read.wrong else settings(read)})
         if "generate" not in " ".join(words):
@@ -145,20 +146,20 @@ class Case:
         if isinstance(verdict, Fault):
             self.judge("fault of a text", self.score_line(verdict), {"the program": found})
             return
-        it = self.definitions.played(verdict)
-        mine = self.definitions.file_of(it)
+        played = self.definitions.played(verdict)
+        mine = self.definitions.file_of(played)
         events, end = score_model.played(self.text)
         model = score_model.file_of(events, end, *score_model.profile(self.text))
         self.judge("file", (0, b"", mine), {"the program": found, "tools/score_model": (0, b"", model)})
         tracks = {"the program": (found[2] or b"")[HEAD:], "tools/score_model": model[HEAD:]}
-        self.judge("track", self.definitions.track_of(it), tracks)
+        self.judge("track", self.definitions.track_of(played), tracks)
         resolved = plain_values.model_score(score_model, self.text)
-        self.judge("resolved score", plain_values.score(it.resolved), {"tools/score_model": resolved})
+        self.judge("resolved score", plain_values.score(played.resolved), {"tools/score_model": resolved})
         marks = plain_values.model_marks(score_model, self.text)
-        self.judge("played marks", plain_values.marks(it.made.marks), {"tools/score_model": marks})
-        self.lines(it, events)
+        self.judge("played marks", plain_values.marks(played.performance.marks), {"tools/score_model": marks})
+        self.lines(played, events)
         self.tokens()
-        self.of_score(it, mine)
+        self.of_score(played, mine)
         if self.recorded:
             self.records(mine)
 
@@ -166,38 +167,38 @@ class Case:
         mine = [bytes(token.args[0].text).decode() for token in self.definitions.tokens_of(self.text)]
         self.judge("tokens", mine, {"tools/score_model": score_model.tokens(self.text)})
 
-    def lines(self, it: Played, events: Any) -> None:
-        mine = [(event.time, event.process, event.index, plain_values.message_of(event.msg)) for event in it.piece]
+    def lines(self, played: Played, events: Any) -> None:
+        mine = [(event.time, event.process, event.index, plain_values.message_of(event.msg)) for event in played.piece]
         self.judge("piece", mine, {"tools/score_model": [(*front, bytes(message)) for *front, message in events]})
         lines = [[[(event.time, plain_values.message_of(event.msg)) for event in line.events], list(line.predecessors),
-                  line.end] for line in it.lines]
+                  line.end] for line in played.lines]
         self.judge("lines", lines, {"tools/score_model": score_model.lines(self.text)})
 
-    def of_score(self, it: Played, file: bytes) -> None:
+    def of_score(self, played: Played, file: bytes) -> None:
         program, definitions, draw = self.program, self.definitions, self.draw
-        self.judge("tracks", (0, b"", definitions.parts_of_score(it)), {"the program": program.run(self.text, "--parts")})
-        begin, until = sorted(draw.randrange(it.end + 2) for _ in range(2)) if draw.randrange(4) else (it.end, 0)
+        self.judge("tracks", (0, b"", definitions.parts_of_score(played)), {"the program": program.run(self.text, "--parts")})
+        begin, until = sorted(draw.randrange(played.end + 2) for _ in range(2)) if draw.randrange(4) else (played.end, 0)
         stop = draw.choice((None, until, until))
-        if sum(1 for _ in it.piece) <= (MOST_EVENTS if self.recorded else FEW_EVENTS):
+        if sum(1 for _ in played.piece) <= (MOST_EVENTS if self.recorded else FEW_EVENTS):
             words = ["--from", str(begin)] + ([] if stop is None else ["--to", str(stop)])
-            excerpt = definitions.excerpt_of(it, begin, stop)
+            excerpt = definitions.excerpt_of(played, begin, stop)
             self.judge("excerpt", (0, b"", excerpt), {"the program": program.run(self.text, *words)})
         else:
             self.counts["left out: an excerpt of many events"] += 1
-        process = draw.randrange(sum(1 for _ in it.lines) + (draw.randrange(8) == 0))
-        tick = draw.choice((0, it.end, draw.randrange(it.end + 1), draw.randrange(2 * it.end + 2)))
-        line = definitions.position_line(it.score, process, tick)
-        told = score_model.located(self.text, tick, process)
+        process = draw.randrange(sum(1 for _ in played.lines) + (draw.randrange(8) == 0))
+        tick = draw.choice((0, played.end, draw.randrange(played.end + 1), draw.randrange(2 * played.end + 2)))
+        line = definitions.position_line(played.score, process, tick)
+        located = score_model.located(self.text, tick, process)
         mine: End = self.line_of("NoProcess") if line is None else (0, line, None)
-        model: End = self.line_of("NoProcess") if told is None else (0, told.encode() + b"\n", None)
+        model: End = self.line_of("NoProcess") if located is None else (0, located.encode() + b"\n", None)
         found = program.run(self.text, "--locate", str(tick), "--process", str(process))
         self.judge("position", mine, {"the program": found, "tools/score_model": model})
         self.listing("listing", file)
         self.listing("listing of a changed file", self.changed(file))
 
     def listing(self, product: str, data: bytes) -> None:
-        made = self.definitions.listing_of(data)
-        mine: End = (0, b"", made) if isinstance(made, bytes) else self.line_of("File", *made)
+        listing = self.definitions.listing_of(data)
+        mine: End = (0, b"", listing) if isinstance(listing, bytes) else self.line_of("File", *listing)
         self.judge(product, mine, {"the program": self.program.run(data, "--list")})
 
     def changed(self, data: bytes) -> bytes:

@@ -25,17 +25,17 @@ ADDINGS = {"+": "plus", "-": "minus"}
 
 def in_turn(kind: str, items: Sequence[tuple[Any, ...]], end: str) -> Made:
     """`kind x (kind y end)`."""
-    made = Made(end)
+    chain = Made(end)
     for item in reversed(items):
-        made = Made(kind, (*item, made))
-    return made
+        chain = Made(kind, (*item, chain))
+    return chain
 
 
 class Forms:
     """Recursive descent over tokens."""
 
     def __init__(self, tokens: Any):
-        self.tokens = [it.args[0] for it in tokens if it.tag == "Ok"]
+        self.tokens = [token.args[0] for token in tokens if token.tag == "Ok"]
         self.at = 0
 
     # ---- tokens
@@ -151,8 +151,8 @@ class Forms:
         word = self.word()
         if word not in STATEMENTS:
             raise NoForm
-        made: Made = STATEMENTS[word](self, word)
-        return made
+        statement: Made = STATEMENTS[word](self, word)
+        return statement
 
     def note(self, word: str) -> Made:
         return Made("note", (self.leaf(), self.listed(self.pitch), self.duration(), self.leaf(";")))

@@ -68,22 +68,22 @@ class Uses:
     def closed(self, words: list[Word], at: int) -> int:
         """Returns where the bracket that opens here is closed."""
         depth = 0
-        for k in range(at, len(words)):
-            if words[k].text in ("(", "{", "[") and words[k].kind != "text":
+        for index in range(at, len(words)):
+            if words[index].text in ("(", "{", "[") and words[index].kind != "text":
                 depth += 1
-            elif words[k].text in (")", "}", "]") and words[k].kind != "text":
+            elif words[index].text in (")", "}", "]") and words[index].kind != "text":
                 depth -= 1
                 if depth == 0:
-                    return k
+                    return index
         raise self.refuse(words[at], "a bracket that is not closed")
 
     def telescope(self, words: list[Word], at: int) -> list[str] | None:
         """The names of `(x y : A)` or `{x : A}`, or None where the bracket holds something else."""
-        names, k = [], at + 1
-        while k < len(words) and words[k].kind == "name" and len(words[k].parts) == 1:
-            names.append(words[k].parts[0])
-            k += 1
-        return names if names and k < len(words) and words[k].text == ":" else None
+        names, index = [], at + 1
+        while index < len(words) and words[index].kind == "name" and len(words[index].parts) == 1:
+            names.append(words[index].parts[0])
+            index += 1
+        return names if names and index < len(words) and words[index].text == ":" else None
 
     def group(self, words: list[Word], at: int, bound: frozenset[str]) -> tuple[int, frozenset[str]]:
         """A bracket: binders of a type, an implicit argument, a tuple, or a term in parentheses."""
@@ -125,18 +125,18 @@ class Uses:
                 self.term(words[:close], at + 2 + len(names), bound, frozenset())
                 new.update(names)
             else:
-                k = at + 1
-                while k < close:
-                    k = k + 1 if words[k].text in (",", "=") else self.binder(words, k, bound, new)
+                index = at + 1
+                while index < close:
+                    index = index + 1 if words[index].text in (",", "=") else self.binder(words, index, bound, new)
             return close + 1
         if word.text == "record":
             close = self.closed(words, at + 1)
-            k = at + 2
-            while k < close:
+            index = at + 2
+            while index < close:
                 # label = name
-                k = self.binder(words, k + 2, bound, new)
-                if words[k].text == ";":
-                    k += 1
+                index = self.binder(words, index + 2, bound, new)
+                if words[index].text == ";":
+                    index += 1
             return close + 1
         if word.text != "_":
             new.add(word.parts[0])
@@ -165,12 +165,12 @@ class Uses:
         if at < len(words) and words[at].kind == "behind":
             at += 1
         close = self.closed(words, at)
-        k, inner = at + 1, words[:close]
-        while k < close:
-            label, sign = words[k], words[k + 1].text
+        index, inner = at + 1, words[:close]
+        while index < close:
+            label, sign = words[index], words[index + 1].text
             if sign not in ("=", ":"):
                 raise self.refuse(label, "a field without `=` or `:`")
-            k = self.term(inner, k + 2, bound, frozenset(";")) + 1
+            index = self.term(inner, index + 2, bound, frozenset(";")) + 1
             if sign == ":":
                 bound = bound | {label.text}
         return close + 1
@@ -179,11 +179,11 @@ class Uses:
         """`elim t as (λ x. M) [ p ↦ e | .. ]`."""
         at = self.term(words, at, bound, frozenset("["))
         close = self.closed(words, at)
-        k, inner = at + 1, words[:close]
-        while k < close:
+        index, inner = at + 1, words[:close]
+        while index < close:
             new: set[str] = set()
-            k = self.pattern(inner, k, bound, new, "↦")
-            k = self.term(inner, k + 1, bound | new, frozenset("|")) + 1
+            index = self.pattern(inner, index, bound, new, "↦")
+            index = self.term(inner, index + 1, bound | new, frozenset("|")) + 1
         return close + 1
 
     def pattern(self, words: list[Word], at: int, bound: frozenset[str], new: set[str], stop: str) -> int:
@@ -224,8 +224,8 @@ def names_in_item(path: str, item: Item, is_constructor: Callable[[Word], bool],
         sides = clause if is_operator(item.name) else clause[1:]
         if is_operator(item.name):
             own = set(parts_of(item.name)) | {item.name}
-            sides = [word for k, word in enumerate(clause)
-                     if not (word.text in own and k < clause.index(equals_of(clause)))]
+            sides = [word for index, word in enumerate(clause)
+                     if not (word.text in own and index < clause.index(equals_of(clause)))]
         at = uses.pattern(sides, 0, fixed, new, "=")
         uses.term(sides, at + 1, fixed | new, frozenset())
     return uses.found
@@ -242,8 +242,8 @@ def names_in_signature(path: str, item: Item, is_constructor: Callable[[Word], b
 def names_in_type(uses: Uses, item: Item, fixed: frozenset[str]) -> list[Named]:
     """What a record or a data type names: its parameters, its type, its fields or constructors in turn."""
     words = item.words
-    start = next(k for k, word in enumerate(words) if word.text in ("record", "data")) + 2
-    where = next((k for k, word in enumerate(words) if word.text == "where"), len(words))
+    start = next(index for index, word in enumerate(words) if word.text in ("record", "data")) + 2
+    where = next((index for index, word in enumerate(words) if word.text == "where"), len(words))
     bound, at = fixed, start
     while at < where and words[at].text in ("(", "{"):
         at, bound = uses.group(words, at, bound)
@@ -251,7 +251,7 @@ def names_in_type(uses: Uses, item: Item, fixed: frozenset[str]) -> list[Named]:
     for line in groups_of(words[where + 1:]):
         if line[0].text == "deriving":
             continue
-        colon = next((k for k, word in enumerate(line) if word.text == ":"), None)
+        colon = next((index for index, word in enumerate(line) if word.text == ":"), None)
         if colon is None:
             continue
         uses.term(line, colon + 1, bound, frozenset())

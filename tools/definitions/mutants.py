@@ -82,15 +82,15 @@ class Changes:
         """Changes of a part, with the whole round it."""
         if term.kind == "apply":
             head, arguments = spine(term)
-            for k, argument in enumerate(arguments):
-                for change, made in self.of(argument):
-                    yield change, applied(head, [*arguments[:k], made, *arguments[k + 1:]])
-            for change, made in self.of(head):
-                yield change, applied(made, arguments)
+            for index, argument in enumerate(arguments):
+                for change, mutant in self.of(argument):
+                    yield change, applied(head, [*arguments[:index], mutant, *arguments[index + 1:]])
+            for change, mutant in self.of(head):
+                yield change, applied(mutant, arguments)
             return
         for rebuilt, part in parts_of_term(term):
-            for change, made in self.of(part):
-                yield change, rebuilt(made)
+            for change, mutant in self.of(part):
+                yield change, rebuilt(mutant)
 
     def here(self, term: Term) -> Iterator[tuple[str, Term]]:
         """Changes of the term itself."""
@@ -111,10 +111,10 @@ class Changes:
             yield from self.of_arguments(term)
         elif term.kind == "elim":
             cases = parts[1]
-            for k in range(len(cases) - 1):
-                if bound(cases[k].patterns) == bound(cases[k + 1].patterns):
-                    swapped = exchanged(cases, k)
-                    yield f"cases {k + 1} and {k + 2} exchanged", Term("elim", word, (parts[0], tuple(swapped)))
+            for index in range(len(cases) - 1):
+                if bound(cases[index].patterns) == bound(cases[index + 1].patterns):
+                    swapped = exchanged(cases, index)
+                    yield f"cases {index + 1} and {index + 2} exchanged", Term("elim", word, (parts[0], tuple(swapped)))
         elif term.kind == "field" and word.text in OTHER_FIELD:
             other = OTHER_FIELD[word.text]
             yield f".{word.text} is .{other}", Term("field", Word(other, word.line, word.column), term.parts)
@@ -145,9 +145,9 @@ class Changes:
                 other = ".".join([first, *rest[:-1], label])
                 yield f"{word.text} is {other}", Term("name", Word(other, word.line, word.column))
         if not rest and self.is_constant(word):
-            one = number(1, word)
+            unit = number(1, word)
             for sign in ("+", "-"):
-                yield f"{first} is {first} {sign} 1", Term("operator", library_operator(sign, word), (term, one))
+                yield f"{first} is {first} {sign} 1", Term("operator", library_operator(sign, word), (term, unit))
 
     def library(self, name: str, word: Word) -> Term:
         """A word of the libraries, whether or not the file brings it in."""
@@ -175,11 +175,11 @@ class Changes:
         if head.kind != "name":
             return
         kinds = self.kinds(head.word)
-        for k in range(len(arguments) - 1):
-            if k + 1 < len(kinds) and kinds[k] == kinds[k + 1]:
-                swapped = [*arguments[:k], arguments[k + 1], arguments[k], *arguments[k + 2:]]
-                if text_of(arguments[k]) != text_of(arguments[k + 1]):
-                    yield f"arguments {k + 1} and {k + 2} of {head.word.text} exchanged", applied(head, swapped)
+        for index in range(len(arguments) - 1):
+            if index + 1 < len(kinds) and kinds[index] == kinds[index + 1]:
+                swapped = [*arguments[:index], arguments[index + 1], arguments[index], *arguments[index + 2:]]
+                if text_of(arguments[index]) != text_of(arguments[index + 1]):
+                    yield f"arguments {index + 1} and {index + 2} of {head.word.text} exchanged", applied(head, swapped)
 
     def kinds(self, word: Word) -> list[str]:
         """The types of the arguments of what a name means, as texts."""
@@ -197,8 +197,8 @@ class Changes:
             return argument_types(item.words[behind + 1:unfolded])
         if item.kind == "data" and word.parts[-1] in item.constructors:
             line = item.constructors[word.parts[-1]]
-            words = [it for it in item.words if it.line == line]
-            colon = next((k for k, it in enumerate(words) if it.text == ":"), None)
+            words = [word for word in item.words if word.line == line]
+            colon = next((index for index, word in enumerate(words) if word.text == ":"), None)
             return argument_types(words[colon + 1:]) if colon is not None else []
         return []
 
@@ -211,7 +211,7 @@ def argument_types(words: list[Word]) -> list[str]:
     for word in [*words, Word("→", 0, 0)]:
         depth += (word.text in "({") - (word.text in ")}") if len(word.text) == 1 else 0
         if word.text == "→" and depth == 0:
-            text = [it.text for it in part]
+            text = [word.text for word in part]
             if text[:1] == ["{"]:
                 # what stands in braces is no argument
                 text = text[text.index("}") + 1:]
@@ -233,10 +233,10 @@ def argument_types(words: list[Word]) -> list[str]:
 
 def matching(text: list[str]) -> int:
     depth = 0
-    for k, it in enumerate(text):
-        depth += (it == "(") - (it == ")")
+    for index, token in enumerate(text):
+        depth += (token == "(") - (token == ")")
         if depth == 0:
-            return k
+            return index
     return 0
 
 
@@ -266,45 +266,45 @@ def record_fields(item: Item) -> list[tuple[str, str]]:
         lines[word.line].append(word.text)
     fields = []
     for text in lines.values():
-        text = [it for it in text if it != "pub"]
+        text = [token for token in text if token != "pub"]
         if len(text) > 2 and text[1] == ":" and text[0] != "record":
             fields.append((text[0], " ".join(text[2:])))
     return fields
 
 
-def with_part(term: Term, k: int, made: Term) -> Term:
-    return replace(term, parts=(*term.parts[:k], made, *term.parts[k + 1:]))
+def with_part(term: Term, index: int, part: Term) -> Term:
+    return replace(term, parts=(*term.parts[:index], part, *term.parts[index + 1:]))
 
 
-def with_field(term: Term, k: int, made: Term) -> Term:
+def with_field(term: Term, index: int, value: Term) -> Term:
     parts: Any = term.parts
-    return replace(term, parts=(parts[0], (*parts[1][:k], (parts[1][k][0], made), *parts[1][k + 1:])))
+    return replace(term, parts=(parts[0], (*parts[1][:index], (parts[1][index][0], value), *parts[1][index + 1:])))
 
 
-def with_case(term: Term, k: int, made: Term) -> Term:
+def with_case(term: Term, index: int, body: Term) -> Term:
     parts: Any = term.parts
-    return replace(term, parts=(parts[0], (*parts[1][:k], replace(parts[1][k], body=made), *parts[1][k + 1:])))
+    return replace(term, parts=(parts[0], (*parts[1][:index], replace(parts[1][index], body=body), *parts[1][index + 1:])))
 
 
 def parts_of_term(term: Term) -> Iterator[tuple[Callable[[Term], Term], Term]]:
     """Each part of a term, with what puts another in its place."""
     parts: Any = term.parts
     if term.kind in ("operator", "choice", "tuple", "field"):
-        for k, part in enumerate(parts):
-            yield partial(with_part, term, k), part
+        for index, part in enumerate(parts):
+            yield partial(with_part, term, index), part
     elif term.kind == "function":
-        yield (lambda made: replace(term, parts=(parts[0], made))), parts[1]
+        yield (lambda part: replace(term, parts=(parts[0], part))), parts[1]
     elif term.kind == "let":
-        yield (lambda made: replace(term, parts=(parts[0], made, parts[2]))), parts[1]
-        yield (lambda made: replace(term, parts=(parts[0], parts[1], made))), parts[2]
+        yield (lambda part: replace(term, parts=(parts[0], part, parts[2]))), parts[1]
+        yield (lambda part: replace(term, parts=(parts[0], parts[1], part))), parts[2]
     elif term.kind == "record":
-        for k, (_, value) in enumerate(parts[1]):
-            yield partial(with_field, term, k), value
+        for index, (_, value) in enumerate(parts[1]):
+            yield partial(with_field, term, index), value
     elif term.kind == "elim":
         if parts[0]:
-            yield (lambda made: replace(term, parts=(made, parts[1]))), parts[0]
-        for k, case in enumerate(parts[1]):
-            yield partial(with_case, term, k), case.body
+            yield (lambda part: replace(term, parts=(part, parts[1]))), parts[0]
+        for index, case in enumerate(parts[1]):
+            yield partial(with_case, term, index), case.body
 
 
 def bound(patterns: tuple[Pattern, ...]) -> list[str]:
@@ -317,9 +317,9 @@ def bound(patterns: tuple[Pattern, ...]) -> list[str]:
     return sorted(found)
 
 
-def exchanged(clauses: Any, k: int) -> list[Clause]:
-    first, second = clauses[k], clauses[k + 1]
-    return [*clauses[:k], replace(first, body=second.body), replace(second, body=first.body), *clauses[k + 2:]]
+def exchanged(clauses: Any, index: int) -> list[Clause]:
+    first, second = clauses[index], clauses[index + 1]
+    return [*clauses[:index], replace(first, body=second.body), replace(second, body=first.body), *clauses[index + 2:]]
 
 
 def text_of(term: Any) -> str:
@@ -335,7 +335,7 @@ def text_of(term: Any) -> str:
 
 def constructor_of(clause: Clause) -> str:
     kinds = ("variable", "any")
-    return next((it.word.text for it in reversed(clause.patterns) if it.kind not in kinds), "")
+    return next((pattern.word.text for pattern in reversed(clause.patterns) if pattern.kind not in kinds), "")
 
 
 def mutants_of(translator: Translator, target: Target) -> list[Mutant]:
@@ -345,12 +345,13 @@ def mutants_of(translator: Translator, target: Target) -> list[Mutant]:
         return []
     clauses = translator.clauses(file, item)
     changes, found = Changes(translator, target), []
-    for k, clause in enumerate(clauses):
+    for index, clause in enumerate(clauses):
         place = f"{file.path}:{clause.body.word.line}"
         for change, body in changes.of(clause.body):
-            made = (*clauses[:k], replace(clause, body=body), *clauses[k + 1:])
-            found.append(Mutant(target, place, change, made, constructor_of(clause)))
-        if k + 1 < len(clauses) and bound(clause.patterns) == bound(clauses[k + 1].patterns) \
-                and text_of(clause.body) != text_of(clauses[k + 1].body):
-            found.append(Mutant(target, place, f"the bodies of clauses {k + 1} and {k + 2} exchanged", tuple(exchanged(clauses, k))))
+            changed = (*clauses[:index], replace(clause, body=body), *clauses[index + 1:])
+            found.append(Mutant(target, place, change, changed, constructor_of(clause)))
+        if index + 1 < len(clauses) and bound(clause.patterns) == bound(clauses[index + 1].patterns) \
+                and text_of(clause.body) != text_of(clauses[index + 1].body):
+            found.append(Mutant(target, place, f"the bodies of clauses {index + 1} and {index + 2} exchanged",
+                                tuple(exchanged(clauses, index))))
     return found

@@ -199,23 +199,23 @@ class Reader:
                 raise self.refuse(group[0], "no item begins so")
 
     def item(self, kind: str, name: Word, group: list[Word], blocks: tuple[Block, ...], marks: list[str]) -> Item:
-        made = Item(kind, name.parts[-1], comment_above(self.lines, group[0].line), group[0].line, group[-1].line,
+        item = Item(kind, name.parts[-1], comment_above(self.lines, group[0].line), group[0].line, group[-1].line,
                     list(group), blocks=blocks, public="pub" in marks)
-        self.items.append(made)
-        return made
+        self.items.append(item)
+        return item
 
     def inside(self, group: list[Word], at: int) -> list[Word]:
         """The words of a block's body: those on the lines behind its head."""
         if group[at].text == "mutual":
             return group[at + 1:]
-        where = next((k for k, word in enumerate(group) if word.text == "where"), None)
+        where = next((index for index, word in enumerate(group) if word.text == "where"), None)
         if where is None:
             raise self.refuse(group[0], "a section without `where`")
         return group[where + 1:]
 
     def constructors(self, group: list[Word]) -> dict[str, int]:
         """The names that a `data` declares, with their lines."""
-        where = next((k for k, word in enumerate(group) if word.text == "where"), None)
+        where = next((index for index, word in enumerate(group) if word.text == "where"), None)
         if where is None:
             return {}
         found = {}
@@ -234,7 +234,7 @@ class Reader:
             return False
         behind = at + 1
         if behind < len(group) and group[behind].text == "{":
-            close = next((k for k in range(behind, len(group)) if group[k].text == "}"), behind)
+            close = next((index for index in range(behind, len(group)) if group[index].text == "}"), behind)
             if ":" not in [word.text for word in group[behind:close]]:
                 behind = close + 1
         return behind < len(group) and group[behind].text == ":"
@@ -242,7 +242,7 @@ class Reader:
     def names(self, group: list[Word], name: str) -> bool:
         """Whether a clause is one of this definition."""
         if is_operator(name):
-            equals = next((k for k, word in enumerate(group) if word.text == "="), len(group))
+            equals = next((index for index, word in enumerate(group) if word.text == "="), len(group))
             return any(word.text in parts_of(name) or word.text == name for word in group[:equals])
         return group[0].parts[-1] == name
 
@@ -250,18 +250,18 @@ class Reader:
         path = words[0]
         if len(words) > 1 and words[1].text == "." and words[2].text == "{":
             names, module = words[3:], ".".join(path.parts)
-            k = 0
-            while names[k].text != "}":
-                name = names[k]
+            index = 0
+            while names[index].text != "}":
+                name = names[index]
                 short = name.parts[-1]
                 inner = ".".join([module, *name.parts[:-1]])
-                if names[k + 1].text == "as":
-                    short = names[k + 2].parts[-1]
-                    k += 2
+                if names[index + 1].text == "as":
+                    short = names[index + 2].parts[-1]
+                    index += 2
                 self.imports[short] = Import(inner, name.parts[-1], passed_on, name.line)
-                k += 1
-                if names[k].text == ",":
-                    k += 1
+                index += 1
+                if names[index].text == ",":
+                    index += 1
         elif len(words) >= 3 and words[1].text == "as":
             self.imports[f"{words[2].parts[-1]}."] = Import(".".join(path.parts), None, passed_on, path.line)
         elif len(words) == 1:
@@ -278,9 +278,10 @@ def is_row(item: Item) -> bool:
 def signature_of(item: Item) -> tuple[int, int, int]:
     """Where the colon of a definition stands, where its type ends, and where its first clause begins."""
     words = item.words
-    behind = next(k for k, word in enumerate(words) if word.text == ":")
+    behind = next(index for index, word in enumerate(words) if word.text == ":")
     ends = len(words) - sum(map(len, item.clauses))
-    unfolded = (k for k in range(behind, ends) if words[k].text == "unfolding" and words[k].line != words[k - 1].line)
+    unfolded = (index for index in range(behind, ends)
+                if words[index].text == "unfolding" and words[index].line != words[index - 1].line)
     return behind, next(unfolded, ends), ends
 
 

@@ -28,14 +28,15 @@ def anchor(target: Target) -> str:
 
 def counts(statement: Statement) -> list[tuple[str, int]]:
     """The numbers at the end of a list."""
-    files = {it.path for it in statement.needed}
+    files = {definition.path for definition in statement.needed}
     return [
         ("definitions", len(statement.needed)),
         ("lines, with their comments", statement.lines()),
         ("files", len(files)),
         ("crates", len({path.split("/")[1] for path in files})),
-        ("of these, types, constants and traits of the code", sum(it.code is not None for it in statement.needed)),
-        ("with a row that computes them", sum(it.target in statement.rows for it in statement.needed)),
+        ("of these, types, constants and traits of the code",
+         sum(definition.code is not None for definition in statement.needed)),
+        ("with a row that computes them", sum(definition.target in statement.rows for definition in statement.needed)),
         ("names of the libraries", sum(map(len, statement.library.values()))),
     ]
 
@@ -53,32 +54,33 @@ def modules_named(statement: Statement) -> list[str]:
     return found
 
 
-def heads(it: Needed, shown: tuple[int, ...]) -> tuple[str, tuple[int, ...]]:
+def heads(definition: Needed, shown: tuple[int, ...]) -> tuple[str, tuple[int, ...]]:
     """The heads of the sections round a definition that were not printed yet, and the sections round it."""
-    new = tuple(block.start for block in it.blocks)
+    new = tuple(block.start for block in definition.blocks)
     lines = []
-    for block in it.blocks:
-        if block.start not in shown and it.file:
-            lines += it.file.lines[block.first - 1:head_end(block)]
+    for block in definition.blocks:
+        if block.start not in shown and definition.file:
+            lines += definition.file.lines[block.first - 1:head_end(block)]
     return "\n".join(lines), new
 
 
 def as_text(repository: Repository, statement: Statement) -> str:
     place = os.path.relpath(statement.function.path, repository.top)
     lines = [f"{place}:{statement.function.line}"]
-    lines += [f"{it.line:>6}  {it.word} {it.name} {{ {it.text} }}" for it in statement.clauses]
+    lines += [f"{clause.line:>6}  {clause.word} {clause.name} {{ {clause.text} }}" for clause in statement.clauses]
     for subject, files in statement.chapters:
         lines += ["", f"== {subject}"]
         for path, needed in files:
             shown: tuple[int, ...] = ()
             lines += ["", f"-- {path}"]
-            for it in needed:
-                head, shown = heads(it, shown)
-                for number, line in numbered(head, it.blocks[-1].first if head else 0):
+            for definition in needed:
+                head, shown = heads(definition, shown)
+                for number, line in numbered(head, definition.blocks[-1].first if head else 0):
                     lines.append(f"{number:>6}  {line}")
-                lines += [f"{number:>6}  {line}" for number, line in numbered(text_of(repository, it), it.first)]
-                if it.target in statement.rows:
-                    lines.append(f"        rows: {rows_by_file(statement.rows[it.target])}")
+                lines += [f"{number:>6}  {line}"
+                          for number, line in numbered(text_of(repository, definition), definition.first)]
+                if definition.target in statement.rows:
+                    lines.append(f"        rows: {rows_by_file(statement.rows[definition.target])}")
     lines += ["", "== taken from the libraries"]
     lines += [f"   {module}: {', '.join(names)}" for module, names in statement.library.items()]
     lines += ["", *(f"{number:>6} {name}" for name, number in counts(statement))]
@@ -89,27 +91,27 @@ def numbered(text: str, first: int) -> list[tuple[int, str]]:
     return list(enumerate(text.split("\n"), first)) if text else []
 
 
-def linked(it: Needed, text: str, known: set[Target]) -> str:
+def linked(definition: Needed, text: str, known: set[Target]) -> str:
     """The text of a definition, its names as links."""
     lines = []
-    for number, line in numbered(text, it.first):
+    for number, line in numbered(text, definition.first):
         if line.lstrip().startswith(("--", "//")):
             lines.append(f'<span class="comment">{escape(line)}</span>')
             continue
-        done, made = 0, ""
-        for (at, column, length), target in sorted(it.places.items()):
+        done, html = 0, ""
+        for (at, column, length), target in sorted(definition.places.items()):
             if at == number and target in known and column >= done:
                 name = escape(line[column:column + length])
-                made += f'{escape(line[done:column])}<a href="#{escape(anchor(target))}">{name}</a>'
+                html += f'{escape(line[done:column])}<a href="#{escape(anchor(target))}">{name}</a>'
                 done = column + length
-        lines.append(made + escape(line[done:]))
+        lines.append(html + escape(line[done:]))
     return "\n".join(lines)
 
 
 def as_html(repository: Repository, statement: Statement, title: str) -> str:
-    known = {it.target for it in statement.needed}
+    known = {definition.target for definition in statement.needed}
     place = os.path.relpath(statement.function.path, repository.top)
-    clauses = "\n".join(f"{it.word} {it.name} {{ {it.text} }}" for it in statement.clauses)
+    clauses = "\n".join(f"{clause.word} {clause.name} {{ {clause.text} }}" for clause in statement.clauses)
     body = [f"<h1>{escape(title)}</h1>", "<p>Each definition that these clauses need, in an order in which each is read before it is used.</p>",
             f"<h3>{escape(place)}:{statement.function.line}</h3>", f"<pre>{escape(clauses)}</pre>", "<ul>"]
     body += [f'<li><a href="#{number}">{escape(subject)}</a></li>' for number, (subject, _) in enumerate(statement.chapters)]
@@ -119,13 +121,14 @@ def as_html(repository: Repository, statement: Statement, title: str) -> str:
         for path, needed in files:
             shown: tuple[int, ...] = ()
             body.append(f"<h3>{escape(path)}</h3>")
-            for it in needed:
-                head, shown = heads(it, shown)
+            for definition in needed:
+                head, shown = heads(definition, shown)
                 if head:
                     body.append(f'<pre class="comment">{escape(head)}</pre>')
-                body.append(f'<pre id="{escape(anchor(it.target))}">{linked(it, text_of(repository, it), known)}</pre>')
-                if it.target in statement.rows:
-                    body.append(f'<p class="rows">rows: {escape(rows_by_file(statement.rows[it.target]))}</p>')
+                text = linked(definition, text_of(repository, definition), known)
+                body.append(f'<pre id="{escape(anchor(definition.target))}">{text}</pre>')
+                if definition.target in statement.rows:
+                    body.append(f'<p class="rows">rows: {escape(rows_by_file(statement.rows[definition.target]))}</p>')
     body.append("<h2>Taken from the libraries</h2><table>")
     body += [f"<tr><td>{escape(module)}</td><td>{escape(', '.join(names))}</td></tr>" for module, names in statement.library.items()]
     body.append("</table><h2>Numbers</h2><table>")

@@ -42,8 +42,8 @@ class Patterns:
             bound[name] = local(name)
             lets.append((local(name), value))
         elif pattern.kind == "tuple":
-            for k, part in enumerate(pattern.parts):
-                self.match(part, f"{value}[{k}]", tests, lets, bound)
+            for index, part in enumerate(pattern.parts):
+                self.match(part, f"{value}[{index}]", tests, lets, bound)
         elif pattern.kind == "record":
             for label, part in zip(pattern.labels, pattern.parts, strict=True):
                 self.match(part, f"{value}{label_of(label)}", tests, lets, bound)
@@ -63,7 +63,7 @@ class Patterns:
         if own is None and name in known:
             test, values = known[name]
         else:
-            test, values = f"{value}.tag == {name!r}", [f"{value}.args[{k}]" for k in range(len(parts))]
+            test, values = f"{value}.tag == {name!r}", [f"{value}.args[{index}]" for index in range(len(parts))]
         tests.append(test)
         for part, inner in zip(parts, values, strict=True):
             self.match(part, inner, tests, lets, bound)

@@ -19,44 +19,44 @@ Mark = tuple[int, int, "bytes | None", int, "int | None"]
 
 # ---- of the definitions
 
-def value(it: Any) -> Any:
+def value(data: Any) -> Any:
     """A value without spots and proofs: a list, a name with its parts, or a number."""
-    if isinstance(it, Made) and it.tag in ("item", "done"):
-        return statements(it)
-    if isinstance(it, Made) and it.tag in ("branch", "joined"):
-        return branches(it)
-    if isinstance(it, Made):
-        return (it.tag, *map(value, it.args))
-    if it is NIL or isinstance(it, Pair):
-        return [value(one) for one in it]
-    return getattr(it, "thousandths", it)
+    if isinstance(data, Made) and data.tag in ("item", "done"):
+        return statements(data)
+    if isinstance(data, Made) and data.tag in ("branch", "joined"):
+        return branches(data)
+    if isinstance(data, Made):
+        return (data.tag, *map(value, data.args))
+    if data is NIL or isinstance(data, Pair):
+        return [value(part) for part in data]
+    return getattr(data, "thousandths", data)
 
 
-def statements(it: Made) -> list[Any]:
+def statements(chain: Made) -> list[Any]:
     found = []
-    while it.tag == "item":
-        found.append(value(it.args[1]))
-        it = it.args[2]
+    while chain.tag == "item":
+        found.append(value(chain.args[1]))
+        chain = chain.args[2]
     return found
 
 
-def branches(it: Made) -> list[Any]:
+def branches(chain: Made) -> list[Any]:
     found = []
-    while it.tag == "branch":
-        found.append(statements(it.args[0]))
-        it = it.args[1]
+    while chain.tag == "branch":
+        found.append(statements(chain.args[0]))
+        chain = chain.args[1]
     return found
 
 
-def setting(it: Any) -> Any:
+def setting(data: Any) -> Any:
     """What words ask for: a number or None, or the bytes of a name."""
-    if isinstance(it, Made):
-        return it.args[0] if it.tag == "Some" else None
-    return value(it)
+    if isinstance(data, Made):
+        return data.args[0] if data.tag == "Some" else None
+    return value(data)
 
 
-def score(it: Any) -> Score:
-    return it.seed, it.longest, statements(it.passage)
+def score(record: Any) -> Score:
+    return record.seed, record.longest, statements(record.passage)
 
 
 def message_of(message: Made) -> bytes:
@@ -70,11 +70,11 @@ def message_of(message: Made) -> bytes:
     return bytes([128 + 16 * kind + channel, *values])
 
 
-def marks(them: Any) -> list[Mark]:
+def marks(played: Any) -> list[Mark]:
     found = []
-    for it in them:
-        message = message_of(it.msg.args[0]) if it.msg.tag == "Some" else None
-        found.append(mark(it.process, it.index, message, it.onset, it.ending))
+    for entry in played:
+        message = message_of(entry.msg.args[0]) if entry.msg.tag == "Some" else None
+        found.append(mark(entry.process, entry.index, message, entry.onset, entry.ending))
     return found
 
 
@@ -97,10 +97,10 @@ class Model:
         self.score: Score = seed, self.longest, played
 
     def block(self, body: Any) -> list[Any]:
-        return [self.statement(it) for it in body]
+        return [self.statement(child) for child in body]
 
-    def statement(self, it: Any) -> Any:
-        kind, *parts = it
+    def statement(self, data: Any) -> Any:
+        kind, *parts = data
         if kind == "note":
             return "note", [draw(pitch) for pitch in parts[0]], span(parts[1])
         if kind == "rest":
@@ -133,18 +133,18 @@ class Model:
         return "under", (QUALITIES[kind],), entries, self.block(body)
 
 
-def draw(it: Any) -> Any:
-    return ("given", it) if isinstance(it, int) else ("drawn", postfix(it))
+def draw(data: Any) -> Any:
+    return ("given", data) if isinstance(data, int) else ("drawn", postfix(data))
 
 
-def span(it: Any) -> Any:
-    if it is None:
+def span(data: Any) -> Any:
+    if data is None:
         return ("beat",)
-    return ("ticks", it) if isinstance(it, int) else ("counted", postfix(it[1]), it[2])
+    return ("ticks", data) if isinstance(data, int) else ("counted", postfix(data[1]), data[2])
 
 
-def postfix(it: Any) -> list[Any]:
-    kind, *parts = it
+def postfix(data: Any) -> list[Any]:
+    kind, *parts = data
     if kind in ("number", "register", "index"):
         return [({"number": "Literal"}.get(kind, kind.capitalize()), parts[0])]
     return [node for part in parts for node in postfix(part)] + [(OPERATIONS[kind],)]

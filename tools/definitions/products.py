@@ -107,7 +107,7 @@ class Played:
 
     score: Record
     resolved: Record
-    made: Any
+    performance: Any
     lines: Any
     piece: Any
     end: int
@@ -197,26 +197,26 @@ class Definitions:
 
     def performed(self, score: Record) -> Played:
         resolved = self.resolved(score)
-        made = self.score_plays(resolved)
+        performance = self.score_plays(resolved)
         lines = self.played_lines(resolved)
-        return Played(score, resolved, made, lines, self.piece(lines), made.after.position)
+        return Played(score, resolved, performance, lines, self.piece(lines), performance.after.position)
 
-    def file_of(self, it: Played) -> bytes:
-        if not it.file:
-            it.file = bytes(self.file(self.profile_of(it.score), it.piece, it.end))
-        return it.file
+    def file_of(self, played: Played) -> bytes:
+        if not played.file:
+            played.file = bytes(self.file(self.profile_of(played.score), played.piece, played.end))
+        return played.file
 
-    def track_of(self, it: Played) -> bytes:
-        return bytes(self.track(self.profile_of(it.score), it.piece, it.end))
+    def track_of(self, played: Played) -> bytes:
+        return bytes(self.track(self.profile_of(played.score), played.piece, played.end))
 
-    def parts_of_score(self, it: Played) -> bytes:
-        messages = listed(self.as_message(event) for event in it.piece)
-        return bytes(self.format1(self.profile_of(it.score).division, messages, it.end))
+    def parts_of_score(self, played: Played) -> bytes:
+        messages = listed(self.as_message(event) for event in played.piece)
+        return bytes(self.format1(self.profile_of(played.score).division, messages, played.end))
 
-    def excerpt_of(self, it: Played, begin: int, until: int | None) -> bytes:
+    def excerpt_of(self, played: Played, begin: int, until: int | None) -> bytes:
         stop = Made("None") if until is None else Made("Some", (until,))
-        events = self.excerpt_events(begin, stop, it.piece, it.end)
-        return bytes(self.file(self.profile_of(it.score), events, self.excerpt_end(begin, stop, it.end)))
+        events = self.excerpt_events(begin, stop, played.piece, played.end)
+        return bytes(self.file(self.profile_of(played.score), events, self.excerpt_end(begin, stop, played.end)))
 
     # ---- files
 
@@ -238,11 +238,11 @@ class Definitions:
         if process >= sum(1 for _ in lines):
             return None
         warps, positions, at = plan.stock.warps, [], tick
-        for k, frame in enumerate(self.levels_at(plan, process)):
+        for level, frame in enumerate(self.levels_at(plan, process)):
             parts = self.parts_of(warps, frame)
             least = self.least_at(frame.origin, parts, at)
             if least is None:
-                return bytes(self.never_text(process, self.depth_at(plan, process), self.start(lines, process), k + 1))
+                return bytes(self.never_text(process, self.depth_at(plan, process), self.start(lines, process), level + 1))
             positions.append(least)
             at = least
         if len(positions) != self.depth_at(plan, process):
@@ -282,9 +282,9 @@ class Definitions:
         score = self.verdict(text)
         if isinstance(score, Fault):
             return score
-        it = self.played(score)
-        fault = self.steps_fault(it.lines, seats, room, lead, data[14 + size:])
-        return self.file_of(it) if fault is None else fault
+        played = self.played(score)
+        fault = self.steps_fault(played.lines, seats, room, lead, data[14 + size:])
+        return self.file_of(played) if fault is None else fault
 
     def steps_fault(self, lines: Any, seats: int, room: int, lead: int, steps: bytes) -> tuple[int, int] | None:
         setting = Record(lines=lines, room=room, lead=lead)

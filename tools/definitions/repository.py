@@ -89,7 +89,7 @@ class Repository:
         if module not in self.files:
             parts = module.split(".")
             base = f"{self.folder(parts[1])}/{'/'.join(parts[2:])}"
-            path = next((it for it in (f"{base}.antt", f"{base}/Lib.antt") if os.path.isfile(it)), None)
+            path = next((path for path in (f"{base}.antt", f"{base}/Lib.antt") if os.path.isfile(path)), None)
             if path is None:
                 return None
             with open(path, encoding="utf-8") as file:
@@ -176,12 +176,12 @@ class Repository:
         raise NotRead(f"{file.path}:{line}: what does this name mean: {'.'.join(parts)}")
 
     def brought(self, file: File, name: str) -> Target | None:
-        it = file.imports.get(name)
-        if it is None or it.name is None:
+        imported = file.imports.get(name)
+        if imported is None or imported.name is None:
             return None
-        target = self.item(it.module, it.name)
+        target = self.item(imported.module, imported.name)
         if target is None:
-            raise NotRead(f"{file.path}:{it.line}: {it.module} has no {it.name}")
+            raise NotRead(f"{file.path}:{imported.line}: {imported.module} has no {imported.name}")
         return target
 
     def is_constructor(self, file: File, word: Word) -> bool:
@@ -219,7 +219,7 @@ class Repository:
 
     def read_definition(self, target: Target) -> Needed:
         file = self.known_file(target.module)
-        item = next(it for it in file.items if it.name == target.name)
+        item = next(item for item in file.items if item.name == target.name)
         fixed: set[str] = set()
         uses = Uses(file.path, lambda word: self.is_constructor(file, word))
         for block in item.blocks:
@@ -234,19 +234,19 @@ class Repository:
                       blocks=list(item.blocks))
 
     def targets(self, file: File, named: list[Named]) -> list[Target]:
-        found = [self.resolve(file, it.parts, it.line) for it in named]
-        return [it for it in found if it is not None]
+        found = [self.resolve(file, name.parts, name.line) for name in named]
+        return [target for target in found if target is not None]
 
     def places(self, file: File, named: list[Named]) -> dict[tuple[int, int, int], Target]:
         found = {}
-        for it in named:
-            target = self.resolve(file, it.parts, it.line)
+        for name in named:
+            target = self.resolve(file, name.parts, name.line)
             if target is not None:
-                found[it.line, it.column, len(".".join(it.parts))] = target
+                found[name.line, name.column, len(".".join(name.parts))] = target
         return found
 
     def unique(self, names: list[Target], but: Target) -> list[Target]:
-        return [it for it in dict.fromkeys(names) if it != but]
+        return [target for target in dict.fromkeys(names) if target != but]
 
     def code_needed(self, target: Target) -> Needed:
         item = self.code(target.module)[target.name]
@@ -264,7 +264,7 @@ class Repository:
     def ghost_file(self, path: str) -> File:
         """What a file of code brings in for its clauses, as a file without definitions."""
         code = self.code_of[path]
-        reader = Reader(os.path.relpath(path, self.top), "", "\n".join(f"use {it}" for it in code.ghost_uses))
+        reader = Reader(os.path.relpath(path, self.top), "", "\n".join(f"use {use}" for use in code.ghost_uses))
         return reader.file
 
     def types_in(self, target: Target, item: CodeItem) -> list[Target]:

@@ -37,8 +37,8 @@ class Rows:
                 try:
                     test = self.test(file, item) if is_row(item) else self.record_test(file, item)
                     self.tests.append((place, test))
-                except NotRead as it:
-                    self.left_out.append((place, str(it).removeprefix(f"{file.path}:")))
+                except NotRead as problem:
+                    self.left_out.append((place, str(problem).removeprefix(f"{file.path}:")))
 
     def test(self, file: File, item: Item) -> str:
         """The row as a term of Python, with all that it names made."""
@@ -50,10 +50,10 @@ class Rows:
         if parser.at != unfolded:
             raise parser.refuse("a row of another form")
         bound = {name: "ANYTHING" for name in given}
-        made = Body(self.translator, file, item, Target("definition", file.module, item.name)).term(term, bound)
+        expression = Body(self.translator, file, item, Target("definition", file.module, item.name)).term(term, bound)
         for name in self.repository.definition(Target("definition", file.module, item.name)).names:
             self.translator.definition(name)
-        return made
+        return expression
 
 
     def record_test(self, file: File, item: Item) -> str:
@@ -68,24 +68,24 @@ class Rows:
         target = self.repository.resolve(file, tuple(said.word.parts), said.word.line)
         if target is None or target.kind != "definition":
             raise NotRead(f"{file.path}:{item.start}: a row of another form")
-        there, kind = self.translator.found(target)
+        theirs_file, kind = self.translator.found(target)
         body: Any = self.translator.clauses(file, item)[0].body.parts
         given = dict(body[1])
-        mine, theirs = Body(self.translator, file, item, own), Body(self.translator, there, kind, target)
+        mine, theirs = Body(self.translator, file, item, own), Body(self.translator, theirs_file, kind, target)
         parameters, fields = record_parts(kind)
-        made, bound = [], {name: local(name) for name in parameters}
+        tests, bound = [], {name: local(name) for name in parameters}
         for label, words in fields:
             value = given[label]
             if value.kind == "proof" or value.word.text in ("refl", "tt"):
-                says = Parser(there.path, words, lambda word: self.repository.is_constructor(there, word)).term()
-                made.append(theirs.term(says, bound))
+                says = Parser(theirs_file.path, words, lambda word: self.repository.is_constructor(theirs_file, word)).term()
+                tests.append(theirs.term(says, bound))
             else:
-                made.append(f"[({local(label)} := {mine.term(value, {})})]")
+                tests.append(f"[({local(label)} := {mine.term(value, {})})]")
                 bound[label] = local(label)
         for name in [*self.repository.definition(own).names, *self.repository.definition(target).names]:
             self.translator.definition(name)
         names = ", ".join(map(local, parameters))
-        return f"bool((lambda {names}: {' and '.join(made)})({', '.join(mine.term(it, {}) for it in arguments)}))"
+        return f"bool((lambda {names}: {' and '.join(tests)})({', '.join(mine.term(argument, {}) for argument in arguments)}))"
 
 
 def gives_record(item: Item) -> bool:
@@ -93,17 +93,17 @@ def gives_record(item: Item) -> bool:
     if len(item.clauses) != 1:
         return False
     words = [word.text for word in item.clauses[0]]
-    return words[1:3] == ["=", "record"] and any(words[k:k + 2] == ["=", "refl"] for k in range(3, len(words)))
+    return words[1:3] == ["=", "record"] and any(words[index:index + 2] == ["=", "refl"] for index in range(3, len(words)))
 
 
 def record_parts(item: Item) -> tuple[list[str], list[tuple[str, list[Word]]]]:
     """The parameters of a record's type, and its fields with the words of their types."""
-    where = next(k for k, word in enumerate(item.words) if word.text == "where")
+    where = next(index for index, word in enumerate(item.words) if word.text == "where")
     parameters: list[str] = []
     at = 0
     while at < where:
         if item.words[at].text == "(":
-            colon = next(k for k in range(at, where) if item.words[k].text == ":")
+            colon = next(index for index in range(at, where) if item.words[index].text == ":")
             parameters += [word.text for word in item.words[at + 1:colon]]
             depth, at = 1, colon
             while depth:
@@ -124,8 +124,8 @@ def judge(rows: Rows) -> int:
         try:
             if eval(test, space) is not True:
                 failed.append(f"{place}: it is not so")
-        except Exception as it:  # noqa: BLE001, a row that cannot be run is told
-            failed.append(f"{place}: {type(it).__name__}: {it}")
+        except Exception as problem:  # noqa: BLE001, a row that cannot be run is told
+            failed.append(f"{place}: {type(problem).__name__}: {problem}")
     for line in failed:
         print(line)
     for reason, count in Counter(reason.partition(": ")[2] for _, reason in rows.left_out).most_common():

@@ -59,7 +59,7 @@ def end_of(lines: list[str], start: int) -> int:
     depth = 0
     for at in range(start, len(lines)):
         line = without_texts(lines[at])
-        depth += sum(line.count(it) for it in "{([") - sum(line.count(it) for it in "})]")
+        depth += sum(line.count(mark) for mark in "{([") - sum(line.count(mark) for mark in "})]")
         if depth == 0 and line.rstrip().endswith(("}", ";")):
             return at
     raise NotRead(f"line {start + 1}: an item of the code without its end")
@@ -68,10 +68,10 @@ def end_of(lines: list[str], start: int) -> int:
 def in_braces(text: str, at: int) -> int:
     """Returns where the brace that opens here is closed."""
     depth = 0
-    for k in range(at, len(text)):
-        depth += (text[k] == "{") - (text[k] == "}")
+    for index in range(at, len(text)):
+        depth += (text[index] == "{") - (text[index] == "}")
         if depth == 0:
-            return k
+            return index
     raise NotRead("a brace that is not closed")
 
 
@@ -83,7 +83,7 @@ def terms_of(text: str, path: str, line: int) -> list[tuple[str, str, int, str, 
         close = in_braces(text, open_at)
         inner = text[open_at + 1:close]
         at = line + text[:match.start()].count("\n")
-        words = [Word(it.text, it.line + at - 1, it.column, it.kind) for it in words_of(inner, path)]
+        words = [Word(word.text, word.line + at - 1, word.column, word.kind) for word in words_of(inner, path)]
         found.append((match[1], match[2] or "", at, inner.strip(), words))
     return found
 
@@ -96,7 +96,7 @@ class CodeFile:
         with open(path, encoding="utf-8") as file:
             self.text = file.read()
         self.lines = self.text.split("\n")
-        self.ghost_uses = [re.sub(r"\s+", " ", it) for it in GHOST_USE.findall(self.text)]
+        self.ghost_uses = [re.sub(r"\s+", " ", use) for use in GHOST_USE.findall(self.text)]
 
     def items(self) -> dict[str, CodeItem]:
         found: dict[str, CodeItem] = {}
@@ -108,7 +108,7 @@ class CodeFile:
             while first > 0 and re.match(r"(///|#\[)", self.lines[first - 1]):
                 first -= 1
             text = "\n".join(self.lines[first:end + 1])
-            terms = [it[4] for it in terms_of(text, self.path, first + 1)]
+            terms = [term[4] for term in terms_of(text, self.path, first + 1)]
             found[match["name"]] = CodeItem(match["kind"], match["name"], self.path, first + 1, end + 1, text, terms)
         for at, line in enumerate(self.lines):
             match = re.match(r"impl(?:<.*?>)? Model for (\w+)", line)
@@ -116,7 +116,7 @@ class CodeFile:
                 end, item = end_of(self.lines, at), found[match[1]]
                 text = "\n".join(self.lines[at:end + 1])
                 item.text += "\n\n" + text
-                item.terms += [it[4] for it in terms_of(text, self.path, at + 1)]
+                item.terms += [term[4] for term in terms_of(text, self.path, at + 1)]
         return found
 
     def function(self, name: str) -> Function | None:
@@ -132,12 +132,12 @@ class CodeFile:
                 first -= 1
             head = "\n".join(self.lines[first:end])
             body = "\n".join(self.lines[at:end])
-            clauses = [Clause(*it) for it in terms_of(body, self.path, at + 1)]
+            clauses = [Clause(*term) for term in terms_of(body, self.path, at + 1)]
             before = body[:body.find("requires")] if "requires" in body else body
             before = before[:before.find("ensures")] if "ensures" in before else before
             generics = dict(re.findall(r"(\w+): ([\w +]+)[,>]", before[:before.find("(")] + ">"))
             names = set(re.findall(r"(\w+):", before)) | set(generics) | {"result", "self"}
-            traits = [it.strip() for bounds in generics.values() for it in bounds.split("+")]
+            traits = [bound.strip() for bounds in generics.values() for bound in bounds.split("+")]
             return Function(self.path, at + 1, head, clauses, frozenset(names), traits)
         return None
 

@@ -74,40 +74,41 @@ def words_at() -> Iterator[tuple[str, list[bytes]]]:
 
 # ---- stages
 
-def spelt(it: Definitions, known: dict[str, Any]) -> Any:
+def spelt(definitions: Definitions, known: dict[str, Any]) -> Any:
     """Whether the form spells the tokens within the limits."""
     form = known["form"]
-    if form is None or it.score_text(form) != known["tokens"]:
+    if form is None or definitions.score_text(form) != known["tokens"]:
         return False
-    return bool(it.EntriesWithin(it.limits(), form.entries)) and bool(it.DivisionStands(form.version, form.divided))
+    return (bool(definitions.EntriesWithin(definitions.limits(), form.entries))
+            and bool(definitions.DivisionStands(form.version, form.divided)))
 
 
-def few(it: Definitions, known: dict[str, Any]) -> Any:
+def few(definitions: Definitions, known: dict[str, Any]) -> Any:
     """Whether the table goes on, and the form is within, where few braces and tokens are allowed."""
     most = Record(braces=FEW_BRACES, tokens=FEW_TOKENS)
     tokens, form = known["tokens"], known["form"]
-    goes = it.trip(most, 0, it.whole(it.is_divided(tokens)), tokens).tag == "None"
-    return goes, form is not None and bool(it.EntriesWithin(most, form.entries))
+    goes = definitions.trip(most, 0, definitions.whole(definitions.is_divided(tokens)), tokens).tag == "None"
+    return goes, form is not None and bool(definitions.EntriesWithin(most, form.entries))
 
 
-def file_of(it: Definitions, known: dict[str, Any]) -> Any:
-    return bytes(it.file(it.profile_of(known["score"]), known["piece"], known["marks"].after.position))
+def file_of(definitions: Definitions, known: dict[str, Any]) -> Any:
+    return bytes(definitions.file(definitions.profile_of(known["score"]), known["piece"], known["marks"].after.position))
 
 
 STAGES: dict[str, Callable[[Definitions, dict[str, Any]], Any]] = {
-    "tokens": lambda it, known: it.tokens(listed(known["text"])),
-    "trips": lambda it, known: it.first_fault(known["tokens"]),
+    "tokens": lambda definitions, known: definitions.tokens(listed(known["text"])),
+    "trips": lambda definitions, known: definitions.first_fault(known["tokens"]),
     "few": few,
     "spelt": spelt,
-    "grammar": lambda it, known: it.grammar_fault(known["trips"].args[0]),
-    "score": lambda it, known: it.score_tree(known["form"]),
-    "faults": lambda it, known: it.first_found(it.score_faults(known["score"])),
-    "resolved": lambda it, known: it.resolved(known["score"]),
-    "marks": lambda it, known: it.score_plays(known["resolved"]),
-    "lines": lambda it, known: it.played_lines(known["resolved"]),
-    "piece": lambda it, known: it.piece(known["lines"]),
+    "grammar": lambda definitions, known: definitions.grammar_fault(known["trips"].args[0]),
+    "score": lambda definitions, known: definitions.score_tree(known["form"]),
+    "faults": lambda definitions, known: definitions.first_found(definitions.score_faults(known["score"])),
+    "resolved": lambda definitions, known: definitions.resolved(known["score"]),
+    "marks": lambda definitions, known: definitions.score_plays(known["resolved"]),
+    "lines": lambda definitions, known: definitions.played_lines(known["resolved"]),
+    "piece": lambda definitions, known: definitions.piece(known["lines"]),
     "file": file_of,
-    "words": lambda it, known: it.settings_of(known["words"]),
+    "words": lambda definitions, known: definitions.settings_of(known["words"]),
 }
 
 
@@ -147,10 +148,10 @@ class Scores:
         self.parts: list[Part] = []
         for number, text in enumerate(texts_of_rows):
             stages = self.look_at(f"text {number} of a row", text, stages_of)
-            self.law += [it for it in stages if it.stage == "spelt"]
+            self.law += [part for part in stages if part.stage == "spelt"]
         for words in words_of_rows:
-            told = " ".join(word.decode("latin-1") for word in words)
-            self.law.append(self.run(told, "words", {"words": words}))
+            title = " ".join(word.decode("latin-1") for word in words)
+            self.law.append(self.run(title, "words", {"words": words}))
         for name in sorted(glob.glob(f"{TOP}/examples/*/*.score")):
             with open(name, "rb") as file:
                 self.parts += self.look_at(os.path.relpath(name, TOP), file.read(), stages_of)
@@ -159,11 +160,11 @@ class Scores:
             self.parts += self.look_at(f"text 1/{number}", texts.text(number)[0], stages_of)
             words = [word.encode() for word in words_drawn(random.Random(number))]
             self.parts.append(self.run(f"number {number}", "words", {"words": words}))
-        for told, words in words_at():
-            self.parts.append(self.run(told, "words", {"words": words}))
-        for told, text in texts_at(FEW_BRACES, FEW_TOKENS):
-            self.parts += self.look_at(told, text, stages_of)
-            self.parts += self.look_at(f"{told}, of few", text, stages_of_few)
+        for title, words in words_at():
+            self.parts.append(self.run(title, "words", {"words": words}))
+        for title, text in texts_at(FEW_BRACES, FEW_TOKENS):
+            self.parts += self.look_at(title, text, stages_of)
+            self.parts += self.look_at(f"{title}, of few", text, stages_of_few)
         # what stays is not gone through again: that takes longer than most parts may
         gc.collect()
         gc.freeze()
@@ -212,7 +213,8 @@ class Scores:
     def found_by(self, name: str, parts: list[Part]) -> str | None:
         """The first of these parts of which something else comes, where the definition of this name was changed."""
         tried: Counter[str] = Counter()
-        for part in sorted((it for it in parts if name in it.uses), key=lambda it: it.seconds):
+        using = (candidate for candidate in parts if name in candidate.uses)
+        for part in sorted(using, key=lambda candidate: candidate.seconds):
             tried[part.stage] += 1
             # texts with few braces and tokens are all tried: each is about one limit
             if (part.stage == "few" or tried[part.stage] <= self.most) and self.differs(part):

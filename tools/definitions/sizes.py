@@ -12,8 +12,8 @@ from rust import CodeItem
 
 def safe(name: str) -> str:
     """A name as Python takes it."""
-    made = "".join(sign if sign.isascii() and (sign.isalnum() or sign == "_") else f"_{ord(sign):x}" for sign in name)
-    return f"{made}_" if keyword.iskeyword(made) else made
+    plain = "".join(sign if sign.isascii() and (sign.isalnum() or sign == "_") else f"_{ord(sign):x}" for sign in name)
+    return f"{plain}_" if keyword.iskeyword(plain) else plain
 
 
 def local(name: str) -> str:
@@ -63,35 +63,35 @@ def block_parameters(block: Block) -> list[str]:
 def constructor_size(item: Item, name: str) -> int:
     """The number of explicit arguments of a constructor of a `data`."""
     line = item.constructors[name]
-    at = next(k for k, word in enumerate(item.words) if word.line == line and word.parts[-1] == name)
+    at = next(index for index, word in enumerate(item.words) if word.line == line and word.parts[-1] == name)
     while item.words[at].text != ":":
         at += 1
         if at == len(item.words):
             return 0
     column = next(word.column for word in item.words if word.line == line)
-    depth, count, k = 0, 0, at + 1
-    while k < len(item.words) and (item.words[k].line == line or item.words[k].column > column):
-        text = item.words[k].text
-        if text == "(" and depth == 0 and names_before_colon(item.words, k):
-            count += names_before_colon(item.words, k) - 1
+    depth, count, index = 0, 0, at + 1
+    while index < len(item.words) and (item.words[index].line == line or item.words[index].column > column):
+        text = item.words[index].text
+        if text == "(" and depth == 0 and names_before_colon(item.words, index):
+            count += names_before_colon(item.words, index) - 1
         if text == "{" and depth == 0:
             count -= 1
         depth += (text in "({") - (text in ")}") if len(text) == 1 else 0
         if text == "→" and depth == 0:
             count += 1
-        elif text in ("(", "{") and depth == 1 and item.words[k - 1].text in (")", "}") and k > at + 1:
+        elif text in ("(", "{") and depth == 1 and item.words[index - 1].text in (")", "}") and index > at + 1:
             # `(x : A) (y : B) →`
             count += 1
-        k += 1
+        index += 1
     return count
 
 
 def names_before_colon(words: list[Word], at: int) -> int:
     """How many names `(x y : A)` binds; 0 where the bracket holds something else."""
-    k = at + 1
-    while words[k].kind == "name" and words[k].text not in (":", "→"):
-        k += 1
-    return k - at - 1 if words[k].text == ":" else 0
+    index = at + 1
+    while words[index].kind == "name" and words[index].text not in (":", "→"):
+        index += 1
+    return index - at - 1 if words[index].text == ":" else 0
 
 
 def variant_size(item: CodeItem, name: str) -> int:
@@ -123,7 +123,8 @@ def constant(repository: Repository, crate: str, name: str) -> int:
         raise NotRead(f"{item.path}:{item.first}: a constant of another form")
     text = re.sub(r"\bas \w+", "", match[1])
     needed = repository.code_needed(Target("code", crate, name)).names
-    names = {it.name: constant(repository, it.module, it.name) for it in needed if it.kind == "code"}
+    names = {definition.name: constant(repository, definition.module, definition.name)
+             for definition in needed if definition.kind == "code"}
     if not re.fullmatch(r"[\w\s+*<>()-]*", text):
         raise NotRead(f"{item.path}:{item.first}: a constant of another form: {text}")
     return int(eval(text, {"__builtins__": {}}, dict(names)))

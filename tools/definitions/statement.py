@@ -47,15 +47,15 @@ class Statement:
 
     @property
     def needed(self) -> list[Needed]:
-        return [it for _, files in self.chapters for _, of_file in files for it in of_file]
+        return [definition for _, files in self.chapters for _, of_file in files for definition in of_file]
 
     def lines(self) -> int:
         """How many lines the definitions have with their comments, and the heads of the sections that they stand in."""
         places: set[tuple[str, int]] = set()
-        for it in self.needed:
-            places.update((it.path, line) for line in range(it.first, it.last + 1))
-            for block in it.blocks:
-                places.update((it.path, line) for line in range(block.first, head_end(block) + 1))
+        for definition in self.needed:
+            places.update((definition.path, line) for line in range(definition.first, definition.last + 1))
+            for block in definition.blocks:
+                places.update((definition.path, line) for line in range(block.first, head_end(block) + 1))
         return len(places)
 
 
@@ -81,7 +81,8 @@ def find_function(repository: Repository, name: str) -> tuple[str, Function]:
             if function:
                 found.append((path, function))
     if len(found) != 1:
-        places = ", ".join(f"{os.path.relpath(path, repository.top)}:{it.line}" for path, it in found) or "nowhere"
+        places = ", ".join(f"{os.path.relpath(path, repository.top)}:{candidate.line}"
+                           for path, candidate in found) or "nowhere"
         raise NotRead(f"{name} is a public function in {len(found)} places: {places}")
     return found[0]
 
@@ -115,8 +116,8 @@ def closure(repository: Repository, todo: list[Target]) -> tuple[dict[Target, Ne
 def files_in_order(needed: dict[Target, Needed]) -> list[str]:
     """The files, each behind those that it needs, and of those that could come next one of the same subject."""
     below: dict[str, set[str]] = defaultdict(set)
-    for it in needed.values():
-        below[it.path].update(needed[name].path for name in it.names if name in needed)
+    for definition in needed.values():
+        below[definition.path].update(needed[name].path for name in definition.names if name in needed)
     order: list[str] = []
     rank = {name: at for at, name in enumerate(SUBJECTS)}
     while len(order) < len(below):
@@ -133,7 +134,8 @@ def files_in_order(needed: dict[Target, Needed]) -> list[str]:
 def chapters_of(needed: dict[Target, Needed]) -> list[tuple[str, list[tuple[str, list[Needed]]]]]:
     chapters: list[tuple[str, list[tuple[str, list[Needed]]]]] = []
     for path in files_in_order(needed):
-        of_file = sorted((it for it in needed.values() if it.path == path), key=lambda it: it.first)
+        of_file = sorted((definition for definition in needed.values() if definition.path == path),
+                         key=lambda definition: definition.first)
         if not chapters or chapters[-1][0] != subject_of(path):
             chapters.append((subject_of(path), []))
         chapters[-1][1].append((path, of_file))
@@ -162,9 +164,9 @@ def named_in_row(repository: Repository, file: File, item: Item) -> list[Target]
     return repository.targets(file, named)
 
 
-def computes_itself(it: Needed) -> bool:
+def computes_itself(definition: Needed) -> bool:
     """Whether a definition is one by clauses, and no type that others are made of."""
-    return it.item is not None and it.item.kind == "definition"
+    return definition.item is not None and definition.item.kind == "definition"
 
 
 def rows_by_file(rows: list[str]) -> str:
@@ -178,16 +180,16 @@ def rows_by_file(rows: list[str]) -> str:
 
 def statement_of(repository: Repository, name: str, clause: str | None) -> Statement:
     path, function = find_function(repository, name)
-    clauses = [it for it in function.clauses if clause is None or it.name == clause]
+    clauses = [candidate for candidate in function.clauses if clause is None or candidate.name == clause]
     if not clauses:
-        raise NotRead(f"{name} has no clause {clause}; it has {', '.join(it.name for it in function.clauses)}")
+        raise NotRead(f"{name} has no clause {clause}; it has {', '.join(candidate.name for candidate in function.clauses)}")
     needed, library = closure(repository, targets_of(repository, path, function, clauses))
     return Statement(function, clauses, chapters_of(needed), rows_of(repository, needed), library)
 
 
-def text_of(repository: Repository, it: Needed) -> str:
+def text_of(repository: Repository, definition: Needed) -> str:
     """The definition as it stands in its file, with its comment."""
-    if it.code:
-        return it.code.text
-    file: File | None = it.file
-    return "\n".join(file.lines[it.first - 1:it.last]) if file else ""
+    if definition.code:
+        return definition.code.text
+    file: File | None = definition.file
+    return "\n".join(file.lines[definition.first - 1:definition.last]) if file else ""

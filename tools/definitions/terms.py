@@ -310,7 +310,7 @@ class Parser:
         patterns = []
         if is_operator(name):
             end = self.words.index(equals_of(self.words))
-            own = next(k for k in range(end) if self.words[k].text in parts_of(name))
+            own = next(index for index in range(end) if self.words[index].text in parts_of(name))
             left = Parser(self.path, self.words[:own], self.is_constructor)
             right = Parser(self.path, self.words[own + 1:end], self.is_constructor)
             patterns = [left.pattern_atom(), right.pattern_atom()]

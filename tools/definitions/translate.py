@@ -61,7 +61,7 @@ class Translator:
 
     def found(self, target: Target) -> tuple[File, Item]:
         file = self.repository.known_file(target.module)
-        return file, next(it for it in file.items if it.name == target.name)
+        return file, next(item for item in file.items if item.name == target.name)
 
     def constructor_arity(self, target: Target, name: str) -> int:
         """How many arguments a constructor takes."""
@@ -76,11 +76,12 @@ class Translator:
         """The Python of one definition, and of those that it needs, made once each."""
         waiting, seen, refusals = [target], {target}, []
         while waiting:
-            one = waiting.pop()
-            if one in self.refused:
-                refusals.append(self.refused[one])
-            elif one.kind == "definition" and self.make(one):
-                names = [it for it in self.repository.definition(one).names if it.kind == "definition" and it not in seen]
+            definition = waiting.pop()
+            if definition in self.refused:
+                refusals.append(self.refused[definition])
+            elif definition.kind == "definition" and self.make(definition):
+                names = [name for name in self.repository.definition(definition).names
+                         if name.kind == "definition" and name not in seen]
                 seen.update(names)
                 waiting += names
         if refusals:
@@ -96,8 +97,8 @@ class Translator:
                 return False
             try:
                 self.made[target] = Body(self, file, item, target).text()
-            except NotRead as it:
-                self.refused[target] = it
+            except NotRead as problem:
+                self.refused[target] = problem
                 raise
         return bool(self.made[target])
 
@@ -128,7 +129,7 @@ class Body(Patterns):
         lines: list[str] = []
         arguments: list[str] = []
         for clause in self.clauses or self.translator.clauses(self.file, item):
-            arguments = [f"a{k}" for k in range(len(clause.patterns))]
+            arguments = [f"a{index}" for index in range(len(clause.patterns))]
             tests: list[str] = []
             bound: dict[str, str] = {name: local(name) for name in fixed}
             lets: list[tuple[str, str]] = []
@@ -137,15 +138,16 @@ class Body(Patterns):
             inner = "        " if tests else "    "
             if tests:
                 lines.append(f"    if {' and '.join(tests)}:")
-            made: list[str] = []
+            statements: list[str] = []
             body = clause.body
             while body.kind == "let":
                 parts: Any = body.parts
                 value = self.term(parts[1], bound)
-                made += [f"{name} = {it}" for name, it in self.let_parts(parts[0], value, bound)]
+                statements += [f"{name} = {part}" for name, part in self.let_parts(parts[0], value, bound)]
                 body = parts[2]
-            made.append(f"return {self.term(body, bound)}")
-            lines += [f"{inner}{it}" for it in (*(f"{name} = {value}" for name, value in used(lets, "\n".join(made))), *made)]
+            statements.append(f"return {self.term(body, bound)}")
+            given = (f"{name} = {value}" for name, value in used(lets, "\n".join(statements)))
+            lines += [f"{inner}{statement}" for statement in (*given, *statements)]
             if not tests:
                 break
         else:
@@ -179,7 +181,7 @@ class Body(Patterns):
             case "choice":
                 return f"({self.term(parts[1], bound)} if {self.term(parts[0], bound)} else {self.term(parts[2], bound)})"
             case "tuple":
-                return f"({', '.join(self.term(it, bound) for it in parts)})"
+                return f"({', '.join(self.term(part, bound) for part in parts)})"
             case "field":
                 return f"{self.term(parts[0], bound)}{label_of(term.word.text)}"
             case "record":
@@ -216,17 +218,17 @@ class Body(Patterns):
                 inside[pattern.word.parts[0]] = name
             else:
                 self.match(pattern, name, [], lets, inside)
-        made = self.term(body, inside)
-        made = self.let(used(lets, made), made)
+        expression = self.term(body, inside)
+        expression = self.let(used(lets, expression), expression)
         for name in reversed(names):
-            made = f"(lambda {name}: {made})"
-        return made
+            expression = f"(lambda {name}: {expression})"
+        return expression
 
     def elim(self, term: Term, bound: dict[str, str]) -> str:
         matched, cases = term.parts
         self.fresh += 1
         value = f"m{self.fresh}"
-        made = f"no_clause({self.target.name!r})"
+        expression = f"no_clause({self.target.name!r})"
         for case in reversed(cases):  # type: ignore[call-overload]
             tests: list[str] = []
             lets: list[tuple[str, str]] = []
@@ -234,12 +236,12 @@ class Body(Patterns):
             self.match(case.patterns[0], value, tests, lets, inside)
             body = self.term(case.body, inside)
             body = self.let(used(lets, body), body)
-            made = f"({body} if {' and '.join(tests) or 'True'} else {made})"
-        function = f"(lambda {value}: {made})"
+            expression = f"({body} if {' and '.join(tests) or 'True'} else {expression})"
+        function = f"(lambda {value}: {expression})"
         return f"{function}({self.term(matched, bound)})" if matched else function  # type: ignore[arg-type]
 
     def operator(self, term: Term, bound: dict[str, str]) -> str:
-        left, right = (self.term(it, bound) for it in term.parts)  # type: ignore[arg-type]
+        left, right = (self.term(side, bound) for side in term.parts)  # type: ignore[arg-type]
         own = None if term.word.kind == "mark" else self.resolved(term.word)
         if own and own.kind == "definition":
             return f"{global_name(own)}({left}, {right})"
@@ -250,32 +252,32 @@ class Body(Patterns):
     # ---- names
 
     def applied(self, head: Term, arguments: list[Term], bound: dict[str, str]) -> str:
-        made = [self.term(it, bound) for it in arguments]
+        values = [self.term(argument, bound) for argument in arguments]
         if head.kind not in ("name", "made"):
-            return self.calls(self.term(head, bound), made)
+            return self.calls(self.term(head, bound), values)
         word = head.word
         if head.kind == "made" and word.text in ("Onset", "Ending"):
             return self.translator.plain(word.text)
         if head.kind == "made":
-            return self.library(Target("library", "", word.text), word.text, word, made)
+            return self.library(Target("library", "", word.text), word.text, word, values)
         first, *rest = word.parts
         if first in bound:
-            return self.calls(bound[first] + "".join(map(label_of, rest)), made)
+            return self.calls(bound[first] + "".join(map(label_of, rest)), values)
         target, count = self.path(word)
         fields = "".join(map(label_of, word.parts[count:]))
         if target and fields and self.is_record(target):
             # a field as a function
-            return self.calls(f"(lambda it: it{fields})", made)
+            return self.calls(f"(lambda record: record{fields})", values)
         if target is None:
             name = word.parts[-1]
             if name in PLAIN:
                 return PLAIN[name]
             raise self.refuse(word, "a word of the notation that does not compute")
-        value = self.value(target, word.parts[count - 1], word, made if not fields else [])
-        return self.calls(value + fields, made) if fields else value
+        value = self.value(target, word.parts[count - 1], word, values if not fields else [])
+        return self.calls(value + fields, values) if fields else value
 
     def calls(self, function: str, arguments: list[str]) -> str:
-        return function + "".join(f"({it})" for it in arguments)
+        return function + "".join(f"({argument})" for argument in arguments)
 
     def path(self, word: Word) -> tuple[Target | None, int]:
         """What a path means, and how many of its parts say so; fields stand behind."""
@@ -338,10 +340,10 @@ class Body(Patterns):
         if count == 0 and not arguments:
             return self.translator.plain(name)
         if len(arguments) == count:
-            inner = "".join(f"{it}, " for it in arguments)
+            inner = "".join(f"{argument}, " for argument in arguments)
             return f"Made({name!r}, ({inner}))"
-        names = [f"c{k}" for k in range(count)]
-        function = f"(lambda {', '.join(names)}: Made({name!r}, ({''.join(f'{it}, ' for it in names)})))"
+        names = [f"c{index}" for index in range(count)]
+        function = f"(lambda {', '.join(names)}: Made({name!r}, ({''.join(f'{name}, ' for name in names)})))"
         return f"curried({', '.join([function, str(count), *arguments])})"
 
     def library(self, target: Target, name: str, word: Word, arguments: list[str]) -> str:

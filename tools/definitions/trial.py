@@ -128,12 +128,12 @@ class Trial:
         begin = time.process_time()
         sys.setprofile(called)
         try:
-            so = eval(row.code, self.space)
+            value = eval(row.code, self.space)
         finally:
             sys.setprofile(None)
         row.seconds = time.process_time() - begin
         row.uses = uses
-        if so is not True:
+        if value is not True:
             raise NotRead(f"{row.place}: it is not so")
 
     def python_of(self, mutant: Mutant) -> str:
@@ -213,19 +213,19 @@ def line_of(counts: Counter[str]) -> str:
     return ", ".join(f"{counts[kind]} {kind}" for kind in KINDS)
 
 
-def table_of(told: list[dict[str, str]]) -> str:
+def table_of(rows: list[dict[str, str]]) -> str:
     """A line for each definition."""
     counts: dict[tuple[str, str], Counter[str]] = defaultdict(Counter)
     reasons: dict[tuple[str, str], set[str]] = defaultdict(set)
-    for it in told:
-        key = it["path"], it["definition"]
-        counts[key][it["kind"]] += 1
-        if it["kind"] == "equal":
-            reasons[key].add(f"{it['change']}: {it['by']}")
+    for row in rows:
+        key = row["path"], row["definition"]
+        counts[key][row["kind"]] += 1
+        if row["kind"] == "equal":
+            reasons[key].add(f"{row['change']}: {row['by']}")
     lines = ["\t".join(("file", "definition", "mutants", "killed by a row", "by a law's row", "by the comparison",
                         "equal on purpose", "alive"))]
     for (path, name), found in sorted(counts.items()):
-        equal = f"{found['equal']}{''.join(f'; {it}' for it in sorted(reasons[path, name]))}"
+        equal = f"{found['equal']}{''.join(f'; {reason}' for reason in sorted(reasons[path, name]))}"
         numbers = sum(found.values()), found["named"] + found["other"], found["law"], found["score"]
         lines.append("\t".join(map(str, (path, name, *numbers, equal, found["alive"]))))
     return "\n".join(lines) + "\n"
@@ -249,18 +249,18 @@ def main() -> int:
     if scores:
         print(f"{len(scores.parts)} stages of texts, and {len(scores.law)} of what rows have", flush=True)
     table: dict[str, Counter[str]] = defaultdict(Counter)
-    told: list[dict[str, str]] = []
+    rows: list[dict[str, str]] = []
     for needed in statement.needed:
         target = needed.target
         if target.kind != "definition" or not re.search(asked.only, needed.path):
             continue
         for mutant in mutants_of_needed(trial, target):
             counts = table[needed.path]
-            counts["definitions"] += (target.module, target.name) not in ((it["module"], it["definition"]) for it in told)
+            counts["definitions"] += (target.module, target.name) not in ((row["module"], row["definition"]) for row in rows)
             kind, by = tried(trial, scores, mutant)
             counts["changes"] += 1
             counts[kind] += 1
-            told.append({"path": needed.path, "module": target.module, "definition": target.name, "place": mutant.place,
+            rows.append({"path": needed.path, "module": target.module, "definition": target.name, "place": mutant.place,
                          "change": mutant.change, "kind": kind, "by": by})
             if kind in ("law", "score", "equal", "alive") and asked.alive:
                 print(f"{kind}: {mutant.place} {target.name}: {mutant.change}{f': {by}' if by else ''}", flush=True)
@@ -271,10 +271,10 @@ def main() -> int:
     print(f"all: {line_of(total)}")
     if asked.json:
         with open(asked.json, "w", encoding="utf-8") as file:
-            json.dump(told, file, ensure_ascii=False, indent=0)
+            json.dump(rows, file, ensure_ascii=False, indent=0)
     if asked.table:
         with open(asked.table, "w", encoding="utf-8") as file:
-            file.write(table_of(told))
+            file.write(table_of(rows))
     return 0
 
 
@@ -292,11 +292,11 @@ def mutants_of_needed(trial: Trial, target: Target) -> list[Mutant]:
         trial.translator.definition(target)
         mutants = mutants_of(trial.translator, target)
         if mutants and global_name(target) not in trial.space:
-            made = run(trial.translator.module())
-            trial.space.update({key: value for key, value in made.items() if key not in trial.space})
-        return [it for it in mutants if makes_other(trial, it)]
-    except NotRead as it:
-        print(f"not read: {it}")
+            space = run(trial.translator.module())
+            trial.space.update({key: value for key, value in space.items() if key not in trial.space})
+        return [mutant for mutant in mutants if makes_other(trial, mutant)]
+    except NotRead as problem:
+        print(f"not read: {problem}")
         return []
 
 

@@ -127,10 +127,10 @@ class Joined(Pair):
                         continue
                     at = at.made
                 leaves.append(at)
-            made = leaves.pop()
+            whole = leaves.pop()
             while leaves:
-                made = listed(leaves.pop(), made)
-            self.made, self.parts = made, ()
+                whole = listed(leaves.pop(), whole)
+            self.made, self.parts = whole, ()
         return self.made
 
     head = property(lambda self: self.force().head)

@@ -136,17 +136,17 @@ def events(file):
     return [(entry.tick, entry.bytes) for entry in others if entry.bytes != FILLER], last.tick
 
 
-def quantity(n):
-    out = [n % 128]
-    while n := n // 128:
-        out.insert(0, 128 + n % 128)
+def quantity(value):
+    out = [value % 128]
+    while value := value // 128:
+        out.insert(0, 128 + value % 128)
     return bytes(out)
 
 
-def delta(n):
+def delta(value):
     """A distance, with the fillers before it."""
-    fillers = max(0, -(-n // MOST_DELTA) - 1)
-    return fillers * (quantity(MOST_DELTA) + FILLER) + quantity(n - fillers * MOST_DELTA)
+    fillers = max(0, -(-value // MOST_DELTA) - 1)
+    return fillers * (quantity(MOST_DELTA) + FILLER) + quantity(value - fillers * MOST_DELTA)
 
 
 def chunk(kind, body):
@@ -154,7 +154,7 @@ def chunk(kind, body):
 
 
 def header(form, tracks, division):
-    return chunk(b"MThd", b"".join(n.to_bytes(2, "big") for n in (form, tracks, division)))
+    return chunk(b"MThd", b"".join(number.to_bytes(2, "big") for number in (form, tracks, division)))
 
 
 def parts(division, found, end):

@@ -128,13 +128,13 @@ def lanes_at_once() -> int:
 def kept(uses: Uses) -> set[str]:
     """The crates that an earlier build has proved, by the times of their files: no source is younger than the library,
     and no library below it is."""
-    made: dict[str, float] = {}
+    times: dict[str, float] = {}
     for name in uses:
         with contextlib.suppress(OSError):
-            made[name] = os.path.getmtime(f"{TOP}/crates/{name}/out/rlib/{name}.rlib")
-            if max(map(os.path.getmtime, sources_of(name)), default=0.0) > made[name]:
-                del made[name]
-    return {name for name in made if all(made.get(crate, math.inf) <= made[name] for crate in all_below(uses, name))}
+            times[name] = os.path.getmtime(f"{TOP}/crates/{name}/out/rlib/{name}.rlib")
+            if max(map(os.path.getmtime, sources_of(name)), default=0.0) > times[name]:
+                del times[name]
+    return {name for name in times if all(times.get(crate, math.inf) <= times[name] for crate in all_below(uses, name))}
 
 
 def link_or_copy(source: str, target: str) -> None:
@@ -166,14 +166,14 @@ def folder_in(lane: str, crate: str) -> str:
 
 def prove(checks: Checks, proof: Proof) -> tuple[int, str]:
     """Proves a crate in a lane, beginning with what the checkout has of an earlier proof, and moves what is left back."""
-    here, there = f"{TOP}/crates/{proof.crate}/out", folder_in(proof.lane, proof.crate)
-    if os.path.isdir(here):
-        os.rename(here, there)
+    own_folder, lane_folder = f"{TOP}/crates/{proof.crate}/out", folder_in(proof.lane, proof.crate)
+    if os.path.isdir(own_folder):
+        os.rename(own_folder, lane_folder)
     try:
-        return checks.run(os.path.dirname(there), "lib", "--jobs", str(proof.jobs))
+        return checks.run(os.path.dirname(lane_folder), "lib", "--jobs", str(proof.jobs))
     finally:
-        if os.path.isdir(there):
-            os.rename(there, here)
+        if os.path.isdir(lane_folder):
+            os.rename(lane_folder, own_folder)
 
 
 def show(crate: str, seconds: float, jobs: int, printed: str) -> None:
@@ -269,9 +269,9 @@ def take_back(uses: Uses) -> None:
     end_checks_in(os.path.realpath(LANES))
     for lane in lanes:
         for name in uses:
-            here, there = f"{TOP}/crates/{name}/out", folder_in(lane, name)
-            if os.path.isdir(there) and not os.path.exists(here):
-                os.rename(there, here)
+            own_folder, lane_folder = f"{TOP}/crates/{name}/out", folder_in(lane, name)
+            if os.path.isdir(lane_folder) and not os.path.exists(own_folder):
+                os.rename(lane_folder, own_folder)
     shutil.rmtree(LANES)
 
 
@@ -283,8 +283,8 @@ def main() -> int:
 
     def stopped(number: int, _: object) -> NoReturn:
         # a second signal, as from a script that was interrupted too, may not stop what moves the work back
-        for each in SIGNALS:
-            signal.signal(each, signal.SIG_IGN)
+        for handled in SIGNALS:
+            signal.signal(handled, signal.SIG_IGN)
         checks.stop()
         sys.exit(128 + number)
 

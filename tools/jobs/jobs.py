@@ -35,13 +35,13 @@ def serve(pipe: Connection, others: list[Connection], begin: Callable[..., Calla
     # only the parent may hold these, so that their processes see when it is gone
     for other in others:
         other.close()
-    one = begin(*words)
+    work = begin(*words)
     while True:
         try:
             task = pipe.recv()
         except EOFError:
             return
-        pipe.send(one(task))
+        pipe.send(work(task))
 
 
 def give(pipe: Connection, task: Any) -> None:

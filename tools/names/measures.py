@@ -87,13 +87,13 @@ def parameters(head: str) -> int:
     at = begin.start() if begin else len(head)
     if head[at:at + 1] == "<":
         at = head.find("(", closed(head, at))
-    inner, names, k = head[at + 1:closed(head, at)], "", 0
-    while k < len(inner):
-        if inner[k] in "([{<":
-            k = closed(inner, k)
+    inner, names, index = head[at + 1:closed(head, at)], "", 0
+    while index < len(inner):
+        if inner[index] in "([{<":
+            index = closed(inner, index)
         else:
-            names += inner[k]
-        k += 1
+            names += inner[index]
+        index += 1
     return sum(1 for name in names.split(",") if ":" in name)
 
 
@@ -161,7 +161,8 @@ def names_of_types() -> Iterator[Found]:
 
 def beyond(limit: Limit, found: Iterable[Found]) -> list[Found]:
     """What passes a limit, the greatest first."""
-    return sorted((each for each in found if each.size > limit.most), key=lambda each: (-each.size, each.place))
+    return sorted((measure for measure in found if measure.size > limit.most),
+                  key=lambda measure: (-measure.size, measure.place))
 
 
 # ---- the page
@@ -183,7 +184,7 @@ def main() -> int:
         print(f"{limit.what}: at most {limit.most}, {len(exceptions)} of {len(found)} have more"
               + (f", the greatest {exceptions[0].size}" if exceptions else ""))
         if is_list:
-            print("".join(f"    {each}\n" for each in exceptions), end="")
+            print("".join(f"    {exception}\n" for exception in exceptions), end="")
         most, allowed = page.get(limit.what, (0, 0))
         if most != limit.most or len(exceptions) > allowed:
             wrong.append(f"CONTRIBUTING.md: {limit.what}: at most {most}, {allowed} exceptions")

@@ -191,7 +191,7 @@ def crates_of(top: str) -> dict[str, list[str]]:
             head, mark, stands = line.partition(":")
             if mark and not line.startswith("#"):
                 found[head.split()[0]] = stands.split()
-    return {name: [it for it in stands if it in found] for name, stands in found.items()}
+    return {name: [crate for crate in stands if crate in found] for name, stands in found.items()}
 
 
 def files_of(folder: str) -> list[str]:
@@ -215,7 +215,7 @@ def is_looked_at(meaning: Meaning, methods: bool) -> bool:
 def doubles(top: str, methods: bool, only: str) -> dict[str, tuple[list[str], list[Meaning]]]:
     """Each name with two meanings: the crates that see them, and the meanings."""
     stands = crates_of(top)
-    of_crate = {crate: [it for it in meanings_of(top, crate) if is_looked_at(it, methods)] for crate in stands}
+    of_crate = {crate: [meaning for meaning in meanings_of(top, crate) if is_looked_at(meaning, methods)] for crate in stands}
     found: dict[str, tuple[list[str], list[Meaning]]] = {}
     for crate in stands:
         if only and crate != only or crate.endswith("_tests"):
@@ -224,13 +224,13 @@ def doubles(top: str, methods: bool, only: str) -> dict[str, tuple[list[str], li
         for lower in [crate, *stands[crate]]:
             for meaning in of_crate[lower]:
                 trait = meaning.kind == "trait method"
-                one = ("", meaning.owner, "") if trait else (meaning.path, meaning.owner, meaning.kind)
-                seen.setdefault(meaning.key(), {}).setdefault(one, meaning)
+                place = ("", meaning.owner, "") if trait else (meaning.path, meaning.owner, meaning.kind)
+                seen.setdefault(meaning.key(), {}).setdefault(place, meaning)
         for key, several in seen.items():
-            if len(several) > 1 and any(it.crate == crate for it in several.values()):
+            if len(several) > 1 and any(meaning.crate == crate for meaning in several.values()):
                 crates, meanings = found.setdefault(key, ([], []))
                 crates.append(crate)
-                meanings += [it for it in several.values() if it not in meanings]
+                meanings += [meaning for meaning in several.values() if meaning not in meanings]
     return found
 
 

@@ -58,7 +58,7 @@ fn last<H: Fn(u32)>(h: H) {}
 
 class TestReader(unittest.TestCase):
     def test_items_are_found_with_their_owners(self) -> None:
-        found = [(it.line, it.kind, it.owner, it.name) for it in Reader("fm_x", "x.rt", TEXT).read()]
+        found = [(meaning.line, meaning.kind, meaning.owner, meaning.name) for meaning in Reader("fm_x", "x.rt", TEXT).read()]
         self.assertEqual(found, [
             (6, "struct", "", "Room"),
             (10, "trait", "", "Calls"),

@@ -85,7 +85,7 @@ class Terms(NamedTuple):
     """Who made a crate that is linked, and under which terms."""
 
     crate: str
-    told: str
+    text: str
 
 
 def terms(manual: str) -> list[Terms]:
@@ -95,9 +95,9 @@ def terms(manual: str) -> list[Terms]:
         raise ValueError("the man page has no list of linked crates")
     found: dict[str, str] = {}
     for line in re.sub(r"\n {2,}", " ", rows.group(1)).splitlines():
-        crate, told = line.split(None, 1)
-        found[crate] = found.get(told.removeprefix("as "), told)
-    return [Terms(crate, told) for crate, told in found.items()]
+        crate, text = line.split(None, 1)
+        found[crate] = found.get(text.removeprefix("as "), text)
+    return [Terms(crate, text) for crate, text in found.items()]
 
 
 def _licence_of(crate: str) -> str:
@@ -112,7 +112,7 @@ def copyright_of(top: pathlib.Path) -> bytes:
     """The file copyright: what is said of this repository, and the terms of the crates that are linked."""
     parts = [COPYRIGHT.format(own=(top / "COPYING").read_text(encoding="utf-8").strip())]
     for row in terms((top / "docs" / "formula.1").read_text(encoding="utf-8")):
-        parts.append(f"---- {row.crate}: {row.told}\n")
+        parts.append(f"---- {row.crate}: {row.text}\n")
         text = _licence_of(row.crate)
         if text:
             parts.append(text.strip() + "\n")
@@ -140,7 +140,7 @@ def _zipped(content: bytes) -> bytes:
 
 def files_of(top: pathlib.Path, files: dict[str, File], facts: Facts) -> dict[str, File]:
     """What the package puts below /usr."""
-    made: dict[str, File] = {}
+    placed: dict[str, File] = {}
     for name, file in files.items():
         content = file.content
         if name.startswith(f"{LIBRARY}/"):
@@ -149,12 +149,12 @@ def files_of(top: pathlib.Path, files: dict[str, File], facts: Facts) -> dict[st
             name, content = f"{name}.gz", _zipped(content)
         elif name == "bin/formula-score":
             content = content.replace(b"#!/usr/bin/env python3\n", b"#!/usr/bin/python3\n", 1)
-        made[name] = File(content, file.mode)
+        placed[name] = File(content, file.mode)
     folder = f"share/doc/{NAME}"
-    made[f"{folder}/copyright"] = File(copyright_of(top), 0o644)
-    made[f"{folder}/changelog.gz"] = File(_zipped(CHANGELOG.format(**facts._asdict()).encode()), 0o644)
-    made[f"share/lintian/overrides/{NAME}"] = File(OVERRIDES.encode(), 0o644)
-    return made
+    placed[f"{folder}/copyright"] = File(copyright_of(top), 0o644)
+    placed[f"{folder}/changelog.gz"] = File(_zipped(CHANGELOG.format(**facts._asdict()).encode()), 0o644)
+    placed[f"share/lintian/overrides/{NAME}"] = File(OVERRIDES.encode(), 0o644)
+    return placed
 
 
 def links_of() -> dict[str, str]:

@@ -52,8 +52,8 @@ class Trial:
         found: set[str] = set()
         for at, folders, names in os.walk(self.root):
             if at == str(self.root):
-                folders[:] = [each for each in folders if each not in ("dev", "proc", "sys", "tmp")]
-            found.update(os.path.relpath(os.path.join(at, each), self.root) for each in (*folders, *names))
+                folders[:] = [entry for entry in folders if entry not in ("dev", "proc", "sys", "tmp")]
+            found.update(os.path.relpath(os.path.join(at, entry), self.root) for entry in (*folders, *names))
         return found
 
     def put(self, name: str, content: bytes) -> None:
@@ -156,21 +156,21 @@ def trial(deb: pathlib.Path, tarball: pathlib.Path) -> int:
 
 def trial_in(root: pathlib.Path, deb: pathlib.Path, tarball: pathlib.Path) -> int:
     """Tries both in a clean Debian without python3, which is then installed there."""
-    made = Trial(root)
-    made.put("tmp/note.score", b"formula 1; note c4 1/4;")
-    made.put("tmp/refused.score", b"formula 1; note c4 1/7;")
+    trial = Trial(root)
+    trial.put("tmp/note.score", b"formula 1; note c4 1/4;")
+    trial.put("tmp/refused.score", b"formula 1; note c4 1/7;")
     shutil.copy("/etc/resolv.conf", root / "etc/resolv.conf")
     subprocess.run(["mount", "-t", "proc", "proc", root / "proc"], check=True)
     try:
-        made.tell("neither the toolchain nor python3 is there",
-                  made.run("sh", "-c", "command -v rt python3").stdout == b"")
-        made.try_tarball(tarball, False)
+        trial.tell("neither the toolchain nor python3 is there",
+                  trial.run("sh", "-c", "command -v rt python3").stdout == b"")
+        trial.try_tarball(tarball, False)
         for words in (("apt-get", "-qq", "update"), ("apt-get", "-qq", "-y", "--no-install-recommends", "install", "python3")):
-            done = made.run(*words)
-            made.tell(" ".join(words), done.returncode == 0, done.stderr.decode())
-        made.try_tarball(tarball, True)
-        made.try_deb(deb)
+            done = trial.run(*words)
+            trial.tell(" ".join(words), done.returncode == 0, done.stderr.decode())
+        trial.try_tarball(tarball, True)
+        trial.try_deb(deb)
     finally:
         subprocess.run(["umount", root / "proc"], check=False)
-    print(f"{made.passed} passed, {made.failed} failed", flush=True)
-    return 1 if made.failed else 0
+    print(f"{trial.passed} passed, {trial.failed} failed", flush=True)
+    return 1 if trial.failed else 0

@@ -43,7 +43,7 @@ class Fault(NamedTuple):
     """What is wrong on a line of a page."""
 
     line: int
-    told: str
+    problem: str
 
 
 class Measure(NamedTuple):
@@ -64,7 +64,7 @@ def _vague_in(passage: Passage) -> Iterator[Fault]:
 
 
 def faults_of(page: str) -> list[Fault]:
-    """What is wrong with a page, line by line; the mean is told on line 1."""
+    """What is wrong with a page, line by line; the mean is on line 1."""
     found: list[Fault] = []
     lengths: list[int] = []
     for passage in passages(page):
@@ -83,10 +83,10 @@ def faults_of(page: str) -> list[Fault]:
 def measure(page: str) -> Measure:
     """What a page measures."""
     whole = list(passages(page))
-    lengths = [each.words for each in whole if not each.is_cell] or [0]
-    cells = [len(each.text) for each in whole if each.is_cell]
-    return Measure(len(lengths), sum(lengths) / len(lengths), max(lengths), sum(each > MOST_WORDS for each in lengths),
-                   sum(each > MOST_OF_A_CELL for each in cells), sum(1 for each in whole for _ in _vague_in(each)))
+    lengths = [sentence.words for sentence in whole if not sentence.is_cell] or [0]
+    cells = [len(cell.text) for cell in whole if cell.is_cell]
+    return Measure(len(lengths), sum(lengths) / len(lengths), max(lengths), sum(length > MOST_WORDS for length in lengths),
+                   sum(cell > MOST_OF_A_CELL for cell in cells), sum(1 for passage in whole for _ in _vague_in(passage)))
 
 
 def faults_of_readme(page: str) -> list[Fault]:
@@ -107,15 +107,15 @@ def _judged_text(top: pathlib.Path, name: str) -> str:
 
 def judged(top: pathlib.Path) -> list[str]:
     """What is wrong with the pages that are held, and pages that are in no list."""
-    problems = [f"{name}:{fault.line}: {fault.told}" for name in (*HELD, *HELD_TO)
+    problems = [f"{name}:{fault.line}: {fault.problem}" for name in (*HELD, *HELD_TO)
                 for fault in faults_of(_judged_text(top, name))]
-    problems += [f"{path.relative_to(top)}:{fault.line}: {fault.told}" for path in sorted(top.glob("crates/*/README.md"))
+    problems += [f"{path.relative_to(top)}:{fault.line}: {fault.problem}" for path in sorted(top.glob("crates/*/README.md"))
                  for fault in faults_of_readme(path.read_text(encoding="utf-8"))]
-    there = {path.relative_to(top).as_posix() for folder in (".", "docs", "python", "editors", "examples", "examples/releases")
+    present = {path.relative_to(top).as_posix() for folder in (".", "docs", "python", "editors", "examples", "examples/releases")
              for path in (top / folder).glob("*.md")}
     listed = {*HELD, *HELD_TO, *NOT_YET}
-    problems += [f"{name}: tools/pages/plain.py names it in no list" for name in sorted(there - listed)]
-    problems += [f"{name}: tools/pages/plain.py names it, and it is not there" for name in sorted(listed - there)]
+    problems += [f"{name}: tools/pages/plain.py names it in no list" for name in sorted(present - listed)]
+    problems += [f"{name}: tools/pages/plain.py names it, and it is not there" for name in sorted(listed - present)]
     return problems
 
 

@@ -105,6 +105,6 @@ def _written(path: pathlib.Path, tables: Mapping[str, tuple[str, Callable[[], It
 
 def wanted(top: pathlib.Path) -> Mapping[pathlib.Path, str]:
     """Each page with tables and each copy, as it has to be."""
-    made = {top / "docs" / name: _written(top / "docs" / name, tables) for name, tables in PAGES.items()}
-    made.update((top / copy, (top / source).read_text(encoding="utf-8")) for copy, source in COPIES.items())
-    return made
+    pages = {top / "docs" / name: _written(top / "docs" / name, tables) for name, tables in PAGES.items()}
+    pages.update((top / copy, (top / source).read_text(encoding="utf-8")) for copy, source in COPIES.items())
+    return pages

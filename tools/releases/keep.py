@@ -73,17 +73,17 @@ def of_fuzz() -> Iterator[tuple[str, bytes]]:
 
 def recorded(program: str, scores: Iterable[tuple[str, bytes]]) -> Iterator[tuple[str, bytes]]:
     """Runs of accepted scores on record, each followed by one with a change."""
-    made = 0
+    count = 0
     for name, text in scores:
         with tempfile.TemporaryDirectory() as folder:
             runs = harness.Runs(program, folder)
-            ran = runs.anew([runs.put("in", text), runs.out, "--record", *damage.RUNS[made % len(damage.RUNS)]])
-        if made == RECORDS or ran.status or ran.out is None or len(ran.out) > LONGEST_RECORD:
+            ran = runs.anew([runs.put("in", text), runs.out, "--record", *damage.RUNS[count % len(damage.RUNS)]])
+        if count == RECORDS or ran.status or ran.out is None or len(ran.out) > LONGEST_RECORD:
             continue
-        stem = f"runs/{made:02}_{pathlib.PurePath(name).stem}"
+        stem = f"runs/{count:02}_{pathlib.PurePath(name).stem}"
         yield f"{stem}.record", ran.out
         yield f"{stem}_changed.record", damage.damaged(ran.out, random.Random(stem))
-        made += 1
+        count += 1
 
 
 def asked_of(program: str, name: str, data: bytes) -> tuple[str, ...]:

@@ -140,8 +140,8 @@ def compare(program: str, folder: pathlib.Path, count: Count) -> None:
     """Compares each answer of a release with what the program gives now."""
     inputs, rows = read_inputs(folder), read_rows(folder)
     name, asked = folder.relative_to(EXAMPLES), asked_in(rows)
-    count.judge(f"{name}, its inputs", [f"{each} has no row" for each in sorted(inputs.keys() - asked.keys())]
-                + [f"{each} is not there" for each in sorted(asked.keys() - inputs.keys() - {NOTHING})])
+    count.judge(f"{name}, its inputs", [f"{entry} has no row" for entry in sorted(inputs.keys() - asked.keys())]
+                + [f"{entry} is not there" for entry in sorted(asked.keys() - inputs.keys() - {NOTHING})])
     wanted = {(row.input, row.words): row.answer for row in rows}
     count.judge(f"{name}, its rows", "" if len(wanted) == len(rows) else "a run has two rows")
     for row in play_all(program, inputs, asked):

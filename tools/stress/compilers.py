@@ -61,26 +61,26 @@ class Both:
         self.differ: list[str] = []
         self.seconds = [0.0, 0.0]
 
-    def ends(self, which: int, words: Sequence[str]) -> End:
+    def ends(self, side: int, words: Sequence[str]) -> End:
         """Status and outputs of a run, and what it left in OUT, which held nothing before."""
         put(self.out, None)
         before = resource.getrusage(resource.RUSAGE_CHILDREN)
         try:
-            done = subprocess.run([self.programs[which], *words], stdin=subprocess.DEVNULL, stdout=subprocess.PIPE,
+            done = subprocess.run([self.programs[side], *words], stdin=subprocess.DEVNULL, stdout=subprocess.PIPE,
                                   stderr=subprocess.PIPE, timeout=LONGEST, check=False)
             end = done.returncode, done.stdout, done.stderr, held(self.out)
         except subprocess.TimeoutExpired:
-            self.differ.append(f"no end after {LONGEST} seconds: {self.programs[which]} {' '.join(words)}")
+            self.differ.append(f"no end after {LONGEST} seconds: {self.programs[side]} {' '.join(words)}")
             end = NO_END, b"", b"", None
         after = resource.getrusage(resource.RUSAGE_CHILDREN)
-        self.seconds[which] += after.ru_utime + after.ru_stime - before.ru_utime - before.ru_stime
+        self.seconds[side] += after.ru_utime + after.ru_stime - before.ru_utime - before.ru_stime
         return end
 
     def same(self, what: str, name: str, words: Sequence[str], data: Optional[bytes] = None) -> End:
         """Both end in the same way on these words; IN holds the data."""
         if data is not None:
             put(self.given, data)
-        ends = [self.ends(which, words) for which in (0, 1)]
+        ends = [self.ends(side, words) for side in (0, 1)]
         self.counts[what] += 1
         if ends[0] != ends[1]:
             self.differ.append(f"{what}: {name} {' '.join(words[2:])}: {told(ends[0])} in place of {told(ends[1])}")
@@ -101,7 +101,7 @@ class Both:
     def recorded(self, score: str, way: int) -> None:
         """Both record a run, and each audits both records."""
         words = [score, self.out, "--record", *RECORDED[way]]
-        ends = [self.ends(which, words) for which in (0, 1)]
+        ends = [self.ends(side, words) for side in (0, 1)]
         name = f"{os.path.relpath(score, TOP)} {' '.join(RECORDED[way])}"
         self.counts["records"] += 1
         # which thread comes first decides what is recorded
@@ -120,8 +120,8 @@ OPTIONS = ("--workers", "--lead", "--room", "--rounds", "--list", "--parts", "--
 def told(end: End) -> str:
     """How a run ended, in words."""
     status, said, complaint, out = end
-    made = "no OUT" if out is None else f"OUT of {len(out)} bytes, {hashlib.sha256(out).hexdigest()[:8]}"
-    return f"status {status}, {said[:80]!r}, {complaint[:80]!r}, {made}"
+    file = "no OUT" if out is None else f"OUT of {len(out)} bytes, {hashlib.sha256(out).hexdigest()[:8]}"
+    return f"status {status}, {said[:80]!r}, {complaint[:80]!r}, {file}"
 
 
 # ---- what each process does
@@ -209,7 +209,8 @@ def tasks_of(asked: argparse.Namespace) -> list[Task]:
     played = [path for path in scores if "/refused/" not in path and "/long/" not in path]
     tasks: list[Task] = [("large", number) for number in asked.large]
     tasks += [("score", path) for path in scores]
-    tasks += [("record", played[k % len(played)], k // len(played) % len(RECORDED)) for k in range(asked.records)]
+    tasks += [("record", played[number % len(played)], number // len(played) % len(RECORDED))
+              for number in range(asked.records)]
     tasks += [("text", number) for number in range(asked.first, asked.first + asked.texts)]
     return tasks
 
@@ -240,8 +241,8 @@ def run(program: str, asked: argparse.Namespace) -> harness.Count:
                 answer = Counter(), [f"{task}: {answer.reason}"], [0.0, 0.0]
             found, wrong, spent = answer
             counts.update(found)
-            for which in (0, 1):
-                (large if task[0] == "large" else seconds)[which] += spent[which]
+            for side in (0, 1):
+                (large if task[0] == "large" else seconds)[side] += spent[side]
             for line in wrong:
                 count.judge(*line.split(": ", 1))
             progress.one(count.failed)

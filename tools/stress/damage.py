@@ -49,12 +49,12 @@ def tried(program: str, score: str, words: Sequence[str], places: int) -> list[t
         draw = random.Random(label)
         for _ in range(places):
             bent = damaged(record, draw)
-            status, made = run_on(program, folder, bent, ["--audit"])
-            well = status == 3 and made is None or (status, made) == played
+            status, file = run_on(program, folder, bent, ["--audit"])
+            well = status == 3 and file is None or (status, file) == played
             if not well and status == 0:
                 # the text was bent, and the steps are a run over it too
                 length = int.from_bytes(bent[10:HEAD], "big")
-                well = run_on(program, folder, bent[HEAD:HEAD + length], ["--workers", "0"]) == (0, made)
+                well = run_on(program, folder, bent[HEAD:HEAD + length], ["--workers", "0"]) == (0, file)
             found.append((label, "" if well else f"status {status} after {bent.hex()}"[:2000]))
     return found
 

@@ -208,7 +208,7 @@ def tried(runs: Runs, text: bytes, draw: random.Random) -> tuple[list[str], list
 class Tries:
     """Each process that tries texts has one of these."""
 
-    here: ClassVar[Tries]
+    current: ClassVar[Tries]
 
     def __init__(self, program: str, seed: int, folder: str):
         self.texts = Texts(seed)
@@ -217,13 +217,13 @@ class Tries:
     @staticmethod
     def begin(program: str, seed: int, folder: str) -> None:
         """Makes that of this process."""
-        Tries.here = Tries(program, seed, folder)
+        Tries.current = Tries(program, seed, folder)
 
     @staticmethod
     def try_text(number: int) -> tuple[int, bytes, tuple[list[str], list[int]]]:
         """Tries the text of a number."""
-        text, draw = Tries.here.texts.text(number)
-        return number, text, tried(Tries.here.runs, text, draw)
+        text, draw = Tries.current.texts.text(number)
+        return number, text, tried(Tries.current.runs, text, draw)
 
 
 def arguments(parser: argparse.ArgumentParser) -> None:

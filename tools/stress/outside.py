@@ -115,12 +115,12 @@ def event_of(kind: str, fields: Sequence[str]) -> bytes:
 
 def read_by_midicsv(path: str) -> list[str]:
     """The lines of the listing, as midicsv reads the file."""
-    told = subprocess.run(["midicsv", path], stdout=subprocess.PIPE, stderr=subprocess.PIPE, check=False)
-    if told.returncode or told.stderr:
-        raise Unknown(told.stderr.decode("latin-1").strip() or f"midicsv ended with {told.returncode}")
+    done = subprocess.run(["midicsv", path], stdout=subprocess.PIPE, stderr=subprocess.PIPE, check=False)
+    if done.returncode or done.stderr:
+        raise Unknown(done.stderr.decode("latin-1").strip() or f"midicsv ended with {done.returncode}")
     lines: list[str] = []
     head, tracks = "", 0
-    for row in csv.reader(io.StringIO(told.stdout.decode("latin-1")), skipinitialspace=True):
+    for row in csv.reader(io.StringIO(done.stdout.decode("latin-1")), skipinitialspace=True):
         track, tick, kind, fields = int(row[0]), int(row[1]), row[2], row[3:]
         if kind == "Header":
             head = f"format {int(fields[0])} tracks TRACKS division {int(fields[2])}"
@@ -194,10 +194,10 @@ def others(tries: Tries) -> Iterator[tuple[str, str]]:
             with open(os.path.join(folder, "in"), "w", encoding="ascii") as file:
                 file.write(text)
             subprocess.run(words, cwd=folder, stdout=subprocess.DEVNULL, stderr=subprocess.DEVNULL, check=False)
-            made = [os.path.join(folder, file) for file in sorted(os.listdir(folder)) if file.endswith((".mid", ".midi"))]
-            if not made:
+            files = [os.path.join(folder, file) for file in sorted(os.listdir(folder)) if file.endswith((".mid", ".midi"))]
+            if not files:
                 tries.judge(name, "it wrote no file")
-            yield from ((f"a file of {name}", file) for file in made)
+            yield from ((f"a file of {name}", file) for file in files)
 
 
 #: How many tracks a program sees, or what is wrong; None if it is not installed.
@@ -217,19 +217,19 @@ def tracks_by_mido(file: str) -> Seen:
         [path, "-c", "import mido"], stderr=subprocess.DEVNULL, check=False).returncode == 0), None)
     if python is None:
         return None
-    told = subprocess.run([python, "-c", "import mido, sys; print(len(mido.MidiFile(sys.argv[1]).tracks))", file],
+    done = subprocess.run([python, "-c", "import mido, sys; print(len(mido.MidiFile(sys.argv[1]).tracks))", file],
                           stdout=subprocess.PIPE, check=True)
-    return int(told.stdout)
+    return int(done.stdout)
 
 
 def tracks_by_timidity(file: str) -> Seen:
     """What timidity prints of the header; it has to play the file to its end too, with no instruments."""
     if not shutil.which("timidity"):
         return None
-    told = subprocess.run(["timidity", "-c", os.devnull, "-idvv", "-Or", "-s", "8000", "-o", os.devnull, file],
+    done = subprocess.run(["timidity", "-c", os.devnull, "-idvv", "-Or", "-s", "8000", "-o", os.devnull, file],
                           stdout=subprocess.PIPE, stderr=subprocess.STDOUT, check=False)
-    found = re.search(rb"Tracks?: ([0-9]+)", told.stdout)
-    return int(found[1]) if found and told.returncode == 0 else f"it ended with {told.returncode} and printed none"
+    found = re.search(rb"Tracks?: ([0-9]+)", done.stdout)
+    return int(found[1]) if found and done.returncode == 0 else f"it ended with {done.returncode} and printed none"
 
 
 COUNTED: tuple[tuple[str, Callable[[str], Seen]], ...] = (
@@ -251,13 +251,13 @@ def opened(tries: Tries, name: str, file: str, wanted: int) -> None:
     """That MuseScore opens the file, with as many parts as there are channels; and that fluidsynth plays it."""
     program = has("musescore3", "mscore3", "mscore")
     if program:
-        made = tries.path("out.musicxml")
-        subprocess.run([program, "-o", made, file], env={**os.environ, "QT_QPA_PLATFORM": "offscreen"},
+        target = tries.path("out.musicxml")
+        subprocess.run([program, "-o", target, file], env={**os.environ, "QT_QPA_PLATFORM": "offscreen"},
                        stdout=subprocess.DEVNULL, stderr=subprocess.DEVNULL, check=False)
         parts = 0
-        if os.path.exists(made):
-            parts = content(made).count(b"<score-part ")
-            os.remove(made)
+        if os.path.exists(target):
+            parts = content(target).count(b"<score-part ")
+            os.remove(target)
         tries.judge(f"{name}, by {program}", None if parts == wanted - 1 else f"{parts} parts in place of {wanted - 1}")
         tries.compared.append(f"{name} by {program}: {parts} parts")
     font = "/usr/share/sounds/sf2/FluidR3_GM.sf2"

@@ -29,19 +29,19 @@ def run(program: str, asked: argparse.Namespace) -> harness.Count:
     """Compares so many runs."""
     count = harness.Count()
     scores = asked.scores or harness.scores_in(harness.SCORES)
-    each = asked.each or max(1, asked.runs // len(scores))
+    times = asked.each or max(1, asked.runs // len(scores))
     busy = [subprocess.Popen(BUSY) for _ in range(os.cpu_count() or 1)]
     try:
         with tempfile.TemporaryDirectory() as folder:
             runs = harness.Runs(program, folder)
             for score in scores:
                 wanted = runs.anew([score, runs.out, "--workers", "0"])
-                for number in range(each):
+                for number in range(times):
                     found = runs.anew([score, runs.out, *HARD])
-                    same = (found.status, found.out) == (wanted.status, wanted.out)
-                    count.judge(f"{score}, run {number}", "" if same else f"it differs, status {found.status}")
+                    is_same = (found.status, found.out) == (wanted.status, wanted.out)
+                    count.judge(f"{score}, run {number}", "" if is_same else f"it differs, status {found.status}")
     finally:
         for process in busy:
             process.kill()
-    print(f"{len(scores)} scores, {each} runs of each")
+    print(f"{len(scores)} scores, {times} runs of each")
     return count

@@ -103,9 +103,9 @@ def audited(room: Room) -> Optional[bytes]:
     """The file that an audit makes of the record in OUT; None if it makes none."""
     path = room.path("audited")
     subprocess.run([room.program, room.out, path, "--audit"], check=False, stdout=subprocess.DEVNULL)
-    made = held(path)
+    file = held(path)
     pathlib.Path(path).unlink(missing_ok=True)
-    return made
+    return file
 
 
 def try_memory_while_playing(room: Room) -> None:
@@ -118,8 +118,8 @@ def try_memory_while_playing(room: Room) -> None:
     paths = [room.put(f"repeated_{count}", text % (count, count)) for count in (1000, 9000)]
     for way, words in WAYS.items():
         if way != "rounds":
-            few, many = (refusing.run([path, room.out, *words], 0)[1] for path in paths)
-            room.judge(f"allocations while playing, {way}", few == many, f"{few} for a ninth of the events, and then {many}")
+            few, whole = (refusing.run([path, room.out, *words], 0)[1] for path in paths)
+            room.judge(f"allocations while playing, {way}", few == whole, f"{few} for a ninth of the events, and then {whole}")
         room.clear()
 
 

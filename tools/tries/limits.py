@@ -153,8 +153,8 @@ def try_threads(room: Room) -> None:
         return
     for threads in range(1, 7):
         for way, words in WAYS.items():
-            many = [] if "--workers" in words else ["--workers", "16"]
-            ran = room.play([*words, *many], with_limit(resource.RLIMIT_NPROC, threads, NOBODY))
+            workers = [] if "--workers" in words else ["--workers", "16"]
+            ran = room.play([*words, *workers], with_limit(resource.RLIMIT_NPROC, threads, NOBODY))
             room.ends(f"{threads} threads at most, {way}", ran, 0, b"", room.file)
 
 

@@ -171,8 +171,8 @@ def positions(tries: Tries) -> None:
     out = tries.path("out")
     for name in within("positions", ".located"):
         for line in content(name + ".located").decode().splitlines():
-            tick, process, told = re.findall(r"^([0-9]+) ([0-9]+): (.*)$", line)[0]
-            located(tries, name + ".score", tick, process, told if told.startswith("process") else None)
+            tick, process, answer = re.findall(r"^([0-9]+) ([0-9]+): (.*)$", line)[0]
+            located(tries, name + ".score", tick, process, answer if answer.startswith("process") else None)
     for score, data in scores():
         text, end = content(score), model.read(data).tracks[0][-1].tick
         for number, tick in enumerate((0, 1, end // 3, end // 2 + 1, end, model.LAST_TICK)):
@@ -336,8 +336,8 @@ def recorded(tries: Tries, number: int, score: str, wanted: bytes) -> None:
         file = tries.put("in.record", record or b"")
         tries.ends(f"{name}, audited", [file, tries.path("out"), "--audit"], 0, "", wanted)
         if way == number % len(RECORDED):
-            status, said, made = verdict(record)
-            problems = [f"{said!r}"] if status else [] if made == wanted else [difference(wanted, made)]
+            status, said, written = verdict(record)
+            problems = [f"{said!r}"] if status else [] if written == wanted else [difference(wanted, written)]
             tries.judge(f"{name}, audited by tools/core_model", problems)
         audited(tries, name, record)
 
