@@ -80,7 +80,7 @@ class Install(unittest.TestCase):
         said = debian.copyright_of(TOP).decode()
         self.assertIn((TOP / "COPYING").read_text().strip(), said)
         for row in rows:
-            self.assertIn(f"---- {row.crate}: {row.told}\n", said)
+            self.assertIn(f"---- {row.crate}: {row.text}\n", said)
 
 
 class Packaged(unittest.TestCase):
