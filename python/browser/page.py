@@ -35,9 +35,9 @@ def started(downloads: str) -> webdriver.Chrome:
                  *(["--no-sandbox"] if os.geteuid() == 0 else [])):
         options.add_argument(word)
     options.set_capability("goog:loggingPrefs", {"browser": "ALL"})
-    made = webdriver.Chrome(service=Service("/usr/bin/chromedriver"), options=options)
-    made.execute_cdp_cmd("Browser.setDownloadBehavior", {"behavior": "allow", "downloadPath": downloads})
-    return made
+    browser = webdriver.Chrome(service=Service("/usr/bin/chromedriver"), options=options)
+    browser.execute_cdp_cmd("Browser.setDownloadBehavior", {"behavior": "allow", "downloadPath": downloads})
+    return browser
 
 
 class PageTest(unittest.TestCase):
@@ -66,8 +66,8 @@ class PageTest(unittest.TestCase):
         cls.browser, cls.studio, cls.folder, cls.downloads = PageTest._there
 
     def setUp(self) -> None:
-        for each in self.folder.iterdir():
-            each.unlink()
+        for path in self.folder.iterdir():
+            path.unlink()
         (self.folder / "tune.score").write_text(TUNE)
         if self.value("Boolean(window.studio)") and self.browser.current_url == self.studio.address:
             self.again()
@@ -76,8 +76,8 @@ class PageTest(unittest.TestCase):
             self.open()
 
     def tearDown(self) -> None:
-        wrong = [each["message"] for each in self.browser.get_log("browser")
-                 if each["level"] == "SEVERE" and "status of 4" not in each["message"]]
+        wrong = [entry["message"] for entry in self.browser.get_log("browser")
+                 if entry["level"] == "SEVERE" and "status of 4" not in entry["message"]]
         self.assertEqual(wrong, [])
 
     # ---- what is seen
@@ -148,11 +148,11 @@ class PageTest(unittest.TestCase):
         for key in keys:
             chain = ActionChains(self.browser)
             *held, last = key.split("+") if len(key) > 1 and "+" in key else [key]
-            for each in held:
-                chain.key_down(getattr(Keys, each.upper()))
+            for name in held:
+                chain.key_down(getattr(Keys, name.upper()))
             chain.send_keys(getattr(Keys, last.upper(), last))
-            for each in held:
-                chain.key_up(getattr(Keys, each.upper()))
+            for name in held:
+                chain.key_up(getattr(Keys, name.upper()))
             chain.perform()
 
     def write(self, text: str) -> None:

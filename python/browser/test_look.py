@@ -15,14 +15,14 @@ FULL = "tutorial/8_end.score"
 
 def light(colour: str) -> float:
     """The relative luminance of a colour as the browser writes it."""
-    parts = [int(each) / 255 for each in re.findall(r"\d+", colour)[:3]]
-    linear = [each / 12.92 if each <= 0.04045 else ((each + 0.055) / 1.055) ** 2.4 for each in parts]
+    parts = [int(number) / 255 for number in re.findall(r"\d+", colour)[:3]]
+    linear = [part / 12.92 if part <= 0.04045 else ((part + 0.055) / 1.055) ** 2.4 for part in parts]
     return 0.2126 * linear[0] + 0.7152 * linear[1] + 0.0722 * linear[2]
 
 
-def contrast(one: str, other: str) -> float:
+def contrast(ink: str, ground: str) -> float:
     """How far two colours are apart."""
-    low, high = sorted((light(one), light(other)))
+    low, high = sorted((light(ink), light(ground)))
     return (high + 0.05) / (low + 0.05)
 
 
@@ -76,12 +76,12 @@ class Looked(PageTest):
         nodes: list[Any] = self.browser.execute_cdp_cmd("Accessibility.getFullAXTree", {})["nodes"]
         found = []
         for node in nodes:
-            properties = {each["name"]: each["value"].get("value") for each in node.get("properties", [])}
+            properties = {entry["name"]: entry["value"].get("value") for entry in node.get("properties", [])}
             role = node.get("role", {}).get("value")
             if properties.get("focusable") and role not in ("RootWebArea", "generic", "option", "MenuListPopup"):
                 found.append((role, node.get("name", {}).get("value", "")))
         self.assertGreater(len(found), 20)
-        self.assertEqual([each for each in found if not each[1].strip()], [])
+        self.assertEqual([row for row in found if not row[1].strip()], [])
         names = " ".join(name for _, name in found)
         for name in ("Score text", "Piano roll: 100 notes from g2 to g4, channels 0, 1", "Processes: 4", "Loop", "Meter",
                      "Mute channel 0", "Zoom in"):

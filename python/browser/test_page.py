@@ -22,7 +22,7 @@ class Typed(PageTest):
     def test_words_have_the_colours_of_their_kinds(self) -> None:
         found = self.value("[...document.querySelectorAll('.CodeMirror-line span[class]')].map((each) => "
                            "[each.className, each.textContent])")
-        self.assertEqual([each for each in found if each[0].startswith("cm-")][:6], [
+        self.assertEqual([row for row in found if row[0].startswith("cm-")][:6], [
             ["cm-word", "formula"], ["cm-number", "1"], ["cm-says", "note"], ["cm-pitch", "c4"], ["cm-number", "1"],
             ["cm-number", "4"]])
 
@@ -55,7 +55,7 @@ class Typed(PageTest):
         folders = [TOP / "examples" / name for name in ("tutorial", "scores", "positions")]
         for path in sorted(path for folder in folders for path in folder.glob("*.score")):
             file = render(path.read_bytes(), PROGRAM)
-            events = [[each.tick, *each.message] for each in listing(file, PROGRAM).events if each.message[0] < 0xF0]
+            events = [[event.tick, *event.message] for event in listing(file, PROGRAM).events if event.message[0] < 0xF0]
             found = self.browser.execute_async_script("""
                 const [file, done] = arguments;
                 import(new URL("page/midi.js", location.href)).then(({ read, written }) => {
@@ -65,7 +65,7 @@ class Typed(PageTest):
                     done([told(piece), piece.end, told(read(written(piece, () => true)))]);
                 });""", list(file))
             self.assertEqual(found[0], events, path)
-            self.assertEqual(found[1], max(each.tick for each in listing(file, PROGRAM).events), path)
+            self.assertEqual(found[1], max(event.tick for event in listing(file, PROGRAM).events), path)
             self.assertEqual(found[2], events, path)
 
 
@@ -177,7 +177,7 @@ class Exported(PageTest):
 class Alone(PageTest):
     def test_nothing_comes_from_elsewhere(self) -> None:
         found: list[str] = self.value("performance.getEntriesByType('resource').map((each) => each.name)")
-        self.assertEqual([each for each in found if not each.startswith(self.studio.address)], [])
+        self.assertEqual([address for address in found if not address.startswith(self.studio.address)], [])
 
     def test_a_page_of_another_origin_reaches_nothing(self) -> None:
         other = pathlib.Path(self.folder, "evil.html")

@@ -47,16 +47,16 @@ class _Process:
     def __init__(self, number: int, position: int, channel: int, lists: tuple[tuple[str, _List], ...],
                  levels: tuple[Level, ...]):
         self.number, self.position, self.channel = number, position, channel
-        self.lists = tuple((kind, _List(each.values)) for kind, each in lists)
+        self.lists = tuple((kind, _List(entries.values)) for kind, entries in lists)
         self.levels = levels
 
     def outside(self, position: int, onset: bool) -> int:
         return outside(self.levels, position, onset) if self.levels else position
 
     def entry(self, kind: str, otherwise: int) -> int:
-        for named, each in reversed(self.lists):
+        for named, entries in reversed(self.lists):
             if named == kind:
-                return each.take()
+                return entries.take()
         return otherwise
 
 
@@ -160,23 +160,23 @@ def outside(levels: Sequence[Level], position: int, onset: bool) -> int:
     return position
 
 
-def come_out(made: Sequence[Made], end: int) -> list[Made]:
+def come_out(sent: Sequence[Made], end: int) -> list[Made]:
     """What one process plays to its end. Its note-offs wait for their ticks: before each other message comes what is
     due, before the note-ons of a note the longest waiting where there is no room, and the rest at the end."""
     out: list[Made] = []
     waiting: list[Made] = []
     row = 0  # how many note-ons of this note have still to come
-    for place, each in enumerate(made):
-        kind = each[1][0] >> 4
+    for place, message in enumerate(sent):
+        kind = message[1][0] >> 4
         if kind == 8:
-            waiting.append(each)
+            waiting.append(message)
             continue
         if kind == 9 and row == 0:
-            row = next((n for n in range(1, MOST_WAITING) if place + n == len(made) or made[place + n][1][0] >> 4 != 9),
-                       MOST_WAITING)
-        waiting = _release(out, waiting, each[0], MOST_WAITING - row)
+            row = next((count for count in range(1, MOST_WAITING)
+                        if place + count == len(sent) or sent[place + count][1][0] >> 4 != 9), MOST_WAITING)
+        waiting = _release(out, waiting, message[0], MOST_WAITING - row)
         row -= kind == 9
-        out.append(each)
+        out.append(message)
     _release(out, waiting, end, 0)
     return out
 
@@ -184,10 +184,10 @@ def come_out(made: Sequence[Made], end: int) -> list[Made]:
 def _release(out: list[Made], waiting: list[Made], tick: int, room: int) -> list[Made]:
     """Plays the note-offs that are due, then those that wait longest, until no more than `room` wait."""
     if waiting:
-        due = [each for each in waiting if each[0] <= tick]
+        due = [message for message in waiting if message[0] <= tick]
         if due:
             out += sorted(due, key=_by_tick)
-            waiting = [each for each in waiting if each[0] > tick]
+            waiting = [message for message in waiting if message[0] > tick]
         while len(waiting) > room:
             out.append((tick, waiting.pop(0)[1]))
     return waiting
@@ -198,5 +198,5 @@ def events_of(items: tuple[Music, ...]) -> list[Event]:
     player = _Player()
     player.end(player.play(items, player.start(0, None)))
     # those of a process stand in the order of their ticks, and what falls on one tick goes by the processes
-    return sorted((Event(tick, process, number, message) for process, made in enumerate(player.made)
-                   for number, (tick, message) in enumerate(come_out(made, player.ends[process]))), key=_by_tick)
+    return sorted((Event(tick, process, number, message) for process, sent in enumerate(player.made)
+                   for number, (tick, message) in enumerate(come_out(sent, player.ends[process]))), key=_by_tick)

@@ -164,7 +164,7 @@ INDEX = (
          "voices rh lh right_hand left_hand soprano alto tenor staff stave staves track tracks part layer"),
 )
 
-_BY_WORD = {each: word for word in INDEX for each in [*word.words.split(", "), *word.also.split(" ")]}
+_BY_WORD = {name: word for word in INDEX for name in [*word.words.split(", "), *word.also.split(" ")]}
 
 
 def musical(word: str) -> Optional[Word]:

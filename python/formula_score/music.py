@@ -165,10 +165,10 @@ def melody(pitches: Union[str, Iterable[object]], lengths: Union[str, Iterable[L
     In a text `r` is a rest, `+` joins a chord and `~` ties a note to the next one; in a list None is a rest.
     """
     taken = listed("what a melody plays", pitches.split() if isinstance(pitches, str) else pitches, 1)
-    each = listed("the lengths of a melody", lengths.split() if isinstance(lengths, str) else lengths, 1)
-    if len(each) > len(taken):
-        raise ScoreError(f"{len(each)} lengths for {len(taken)} pitches")
-    exact = [exact_ticks(length) for length in each]  # type: ignore[arg-type]
+    several = listed("the lengths of a melody", lengths.split() if isinstance(lengths, str) else lengths, 1)
+    if len(several) > len(taken):
+        raise ScoreError(f"{len(several)} lengths for {len(taken)} pitches")
+    exact = [exact_ticks(length) for length in several]  # type: ignore[arg-type]
     return Seq(tuple(_word(word, exact[at % len(exact)]) for at, word in enumerate(taken)))
 
 
@@ -253,7 +253,7 @@ def _notes(item: Music, known: dict[int, int]) -> int:
         return 0
     if id(item) not in known:
         times = item.count if isinstance(item, Repeat) else 1
-        known[id(item)] = times * sum(_notes(each, known) for each in item.body)
+        known[id(item)] = times * sum(_notes(inner, known) for inner in item.body)
     return known[id(item)]
 
 

@@ -284,7 +284,7 @@ class Par(Music):
         every = [item for branch in branches for item in branch]
         exact = [added(item.exact for item in branch) for branch in branches]
         self._keep(branches=branches, nesting=deeper(Nesting(0, 0, 2, 2), every),
-                   exact=None if None in exact else max(each for each in exact if each is not None),
+                   exact=None if None in exact else max(length for length in exact if length is not None),
                    bar_ticks=max(added(item.bar_ticks for item in branch) or 0 for branch in branches),
                    fine=first_fine(every))
 
@@ -314,7 +314,7 @@ def joined(left: Seq, right: Seq) -> Seq:
     """Both as one, without a look at all they hold: `+` in a loop adds one item at a time."""
     whole_seq = object.__new__(Seq)
     whole_seq._keep(body=left.body + right.body,
-                    nesting=Nesting(*(max(each) for each in zip(left.nesting, right.nesting))),
+                    nesting=Nesting(*(max(depths) for depths in zip(left.nesting, right.nesting))),
                     exact=added((left.exact, right.exact)), bar_ticks=added((left.bar_ticks, right.bar_ticks)),
                     fine=right.fine if left.fine is None else left.fine)
     return whole_seq
@@ -331,21 +331,21 @@ def flattened(items: Iterable[object]) -> Iterator[Music]:
 
 def body_of(items: Iterable[object]) -> tuple[Music, ...]:
     """What a block holds: one after another, each tied note made one with the note behind it."""
-    made: list[Music] = []
+    body: list[Music] = []
     for item in flattened(items):
-        before = made[-1] if made else None
+        before = body[-1] if body else None
         if isinstance(before, Note) and before.tied:
             if not (isinstance(item, Note) and item.pitches == before.pitches):
                 raise ScoreError(f"no note of the same pitches follows the tied note {before!r}")
             both = before.length + item.length
             if both > MAX_LENGTH:
                 raise ScoreError(f"a tied note of {both} ticks is longer than 1,000,000")
-            made[-1] = Note(item.pitches, both, item.tied)
+            body[-1] = Note(item.pitches, both, item.tied)
         else:
-            made.append(item)
-    if made and isinstance(made[-1], Note) and made[-1].tied:
-        raise ScoreError(f"the tied note {made[-1]!r} is the last one of its block")
-    return tuple(made)
+            body.append(item)
+    if body and isinstance(body[-1], Note) and body[-1].tied:
+        raise ScoreError(f"the tied note {body[-1]!r} is the last one of its block")
+    return tuple(body)
 
 
 def _length(length: Exact) -> str:
@@ -357,5 +357,5 @@ def _length(length: Exact) -> str:
 def several(items: Iterable[object]) -> str:
     """Some of the items, and how many more there are; a long one as `repeat(..)`."""
     every = list(items)
-    told = [text if len(text) <= 60 else f"{text.partition('(')[0]}(..)" for text in map(repr, every[:4])]
-    return ", ".join(told) + (f", .. {len(every) - 4} more" if len(every) > 4 else "")
+    texts = [text if len(text) <= 60 else f"{text.partition('(')[0]}(..)" for text in map(repr, every[:4])]
+    return ", ".join(texts) + (f", .. {len(every) - 4} more" if len(every) > 4 else "")

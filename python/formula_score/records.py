@@ -93,11 +93,12 @@ def lines(record: Record) -> Iterator[str]:
         yield f"{step.number:>8} {step.place:>9}  {step.kind:<8}{' '.join(step.words())}".rstrip()
         end = step.place + length(step)
         kinds[step.kind] += 1
-    yield f"{sum(kinds.values())} steps: " + (", ".join(f"{n} {kind}" for kind, n in kinds.most_common()) or "none")
+    yield f"{sum(kinds.values())} steps: " + (", ".join(f"{count} {kind}" for kind, count in kinds.most_common()) or "none")
     if end < len(record.steps):
         yield f"no step begins at byte {end} of the steps: {record.steps[end:end + HEAD].hex(' ').upper()}"
 
 
 def _plain(line: bytes) -> str:
     """The line, with an escape in place of what a terminal might obey."""
-    return "".join(c if c.isprintable() or c == "\t" else ascii(c)[1:-1] for c in line.decode("utf-8", "replace"))
+    return "".join(sign if sign.isprintable() or sign == "\t" else ascii(sign)[1:-1]
+                   for sign in line.decode("utf-8", "replace"))

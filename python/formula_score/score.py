@@ -184,7 +184,7 @@ class _Counts:
         assert isinstance(item, Held)
         inner = self.all(item.body)
         if isinstance(item, Repeat) and inner.processes:  # written out, a round after the other
-            whole_of_it = _Totals(*(item.count * each for each in inner))
+            whole_of_it = _Totals(*(item.count * total for total in inner))
             return whole_of_it.plus(_Totals(operations=1 + item.count))
         if isinstance(item, Repeat):
             return _Totals(0, 2 + inner.operations, item.count * inner.events, 2 + item.count * (inner.steps + 1),

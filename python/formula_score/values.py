@@ -106,8 +106,8 @@ def near(name: str, names: Iterable[str]) -> str:
     every, letters = list(names), "".join(filter(str.isalnum, name.lower()))
     if not letters:
         return ""
-    found = ([each for each in every if letters in "".join(filter(str.isalnum, each))]
-             or [each for each in every if any(word.startswith(letters[:3]) for word in each.split())]
+    found = ([candidate for candidate in every if letters in "".join(filter(str.isalnum, candidate))]
+             or [candidate for candidate in every if any(word.startswith(letters[:3]) for word in candidate.split())]
              or difflib.get_close_matches(name.lower(), every, 3, 0.5))
     return f"; is it {' or '.join(found[:6])}?" if found else ""
 
@@ -116,6 +116,6 @@ def known(what: str, name: object, names: Iterable[str]) -> str:
     """The name, which has to be one of these."""
     every = list(names)
     if not isinstance(name, str) or name not in every:
-        told = near(name, every) if isinstance(name, str) and len(name) < _SHOWN else ""
-        raise ScoreError(f"there is no {what} {shown(name)}{told or '; there are ' + ', '.join(every)}")
+        nearest = near(name, every) if isinstance(name, str) and len(name) < _SHOWN else ""
+        raise ScoreError(f"there is no {what} {shown(name)}{nearest or '; there are ' + ', '.join(every)}")
     return name

@@ -31,7 +31,7 @@ class Words(NamedTuple):
     @property
     def task(self) -> Optional[str]:
         """The option of `TASKS` that counts; None where the score is played."""
-        return next((each for each in TASKS if each in self.options), None)
+        return next((task for task in TASKS if task in self.options), None)
 
 
 def _number_fault(option: str, value: str) -> Optional[str]:

@@ -27,11 +27,11 @@ def track(events: Iterable[Event], end: int) -> bytes:
 def midi(division: int, tracks: list[bytes]) -> bytes:
     """A file: of format 0 where it has one track."""
     head = [0 if len(tracks) == 1 else 1, len(tracks), division]
-    return b"MThd" + (6).to_bytes(4, "big") + b"".join(each.to_bytes(2, "big") for each in head) + b"".join(tracks)
+    return b"MThd" + (6).to_bytes(4, "big") + b"".join(number.to_bytes(2, "big") for number in head) + b"".join(tracks)
 
 
 def notes(channel: int, *found: tuple[int, int, int, int]) -> list[Event]:
     """Notes as (begin, end, key, velocity): their note-ons and note-offs, at one tick the note-offs first."""
     events = [(begin, 1, bytes([0x90 | channel, key, velocity])) for begin, _, key, velocity in found]
     events += [(end, 0 if end > begin else 2, bytes([0x80 | channel, key, 64])) for begin, end, key, _ in found]
-    return [(tick, message) for tick, _, message in sorted(events, key=lambda each: each[:2])]
+    return [(tick, message) for tick, _, message in sorted(events, key=lambda event: event[:2])]

@@ -31,8 +31,8 @@ needs_program = unittest.skipIf(
 
 def foretold(score: Score) -> bytes:
     """The file of a score, of the library's events as tools/score_model writes them."""
-    made: bytes = score_model.file_of(score.events(), score.end, score.version == 2, score.division)
-    return made
+    file: bytes = score_model.file_of(score.events(), score.end, score.version == 2, score.division)
+    return file
 
 
 def run(text: str) -> tuple[int, str, bytes]:

@@ -26,9 +26,9 @@ class Texts:
         return self.one_of("1/4", "1/8", "3/8", "1/12", "1/1", "0/1", f"ticks {self.below(700)}", f"{self.below(5)}/2")
 
     def part(self) -> str:
-        some = self.one_of("1/4", "1/1", "3/2", f"ticks {1 + self.below(900)}")
-        return self.one_of(f"flat {some} by {1 + self.below(3000)}",
-                           f"slope {some} by {1 + self.below(3000)} to {1 + self.below(3000)}",
+        length = self.one_of("1/4", "1/1", "3/2", f"ticks {1 + self.below(900)}")
+        return self.one_of(f"flat {length} by {1 + self.below(3000)}",
+                           f"slope {length} by {1 + self.below(3000)} to {1 + self.below(3000)}",
                            f"pause {self.length()}", f"breath {self.length()}")
 
     def expression(self, loops: int, deep: int = 2) -> str:
@@ -36,9 +36,9 @@ class Texts:
         leaves += [f"n{self.below(loops)}"] if loops else []
         if deep == 0:
             return self.one_of(*leaves)
-        a, b = self.expression(loops, deep - 1), self.expression(loops, deep - 1)
-        return self.one_of(*leaves, f"{a} {self.one_of('+', '-', '*', '/', '%')} {b}", f"-{self.one_of(*leaves)}",
-                           f"({a})", f"{self.one_of('min', 'max', 'less', 'same')}({a}, {b})", f"pick({a})")
+        left, right = self.expression(loops, deep - 1), self.expression(loops, deep - 1)
+        return self.one_of(*leaves, f"{left} {self.one_of('+', '-', '*', '/', '%')} {right}", f"-{self.one_of(*leaves)}",
+                           f"({left})", f"{self.one_of('min', 'max', 'less', 'same')}({left}, {right})", f"pick({left})")
 
     def pitch(self, loops: int) -> str:
         return self.one_of(f"{self.one_of(*'cdefgab')}{self.one_of('', 's', 'b')}{1 + self.below(8)}",
@@ -51,8 +51,8 @@ class Texts:
         return self.one_of(self.length(), self.length(), f"ticks ({self.expression(loops)}) max {self.below(600)}")
 
     def entries(self, entry: str) -> str:
-        made = {"rhythm": self.length, "artic": lambda: str(self.below(401)), "loud": lambda: str(1 + self.below(127))}
-        return ", ".join(made[entry]() for _ in range(1 + self.below(4)))
+        makers = {"rhythm": self.length, "artic": lambda: str(self.below(401)), "loud": lambda: str(1 + self.below(127))}
+        return ", ".join(makers[entry]() for _ in range(1 + self.below(4)))
 
     # ---- statements
 

@@ -125,8 +125,8 @@ class StudioTest(unittest.TestCase):
         cls.folder = cls.home / "scores"
 
     def setUp(self) -> None:
-        for each in self.folder.iterdir():  # the folder itself stays: the studio has it open
-            shutil.rmtree(each) if each.is_dir() and not each.is_symlink() else each.unlink()
+        for path in self.folder.iterdir():  # the folder itself stays: the studio has it open
+            shutil.rmtree(path) if path.is_dir() and not path.is_symlink() else path.unlink()
         (self.folder / "inner").mkdir()
         (self.folder / "tune.score").write_text(self.TUNE)
         (self.folder / "inner" / "other.score").write_text(self.TUNE)

@@ -126,7 +126,8 @@ class Comments(unittest.TestCase):
                                     f"{self.BAR}", f"{self.BAR}  # bar 2", "}", "branch { rest 2/1; }", "}"), [])
 
     def test_bars_of_a_changing_meter(self):
-        text = "formula 1;\n" + "".join(f"note c4 {n}/4; # bar {at}\n" for at, n in ((1, 3), (2, 2), (3, 3), (4, 2)))
+        text = "formula 1;\n" + "".join(f"note c4 {quarters}/4; # bar {bar}\n"
+                                        for bar, quarters in ((1, 3), (2, 2), (3, 3), (4, 2)))
         self.assertEqual(self.findings(text, "--meter", "3/4,2/4"), [])
         self.assertEqual(self.findings(text, "--meter", "3/4,2:2/4,3:3/4,4:2/4"), [])
         self.assertEqual(len(self.findings(text, "--meter", "3/4")), 1)

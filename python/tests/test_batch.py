@@ -40,10 +40,10 @@ tar -cf - .
 
 
 def scores(folder: pathlib.Path, count: int) -> list[Score]:
-    made = [Score(repeat(n + 1, note("c4", ticks(n + 1)))) for n in range(count)]
-    for number, score in enumerate(made):
+    found = [Score(repeat(number + 1, note("c4", ticks(number + 1)))) for number in range(count)]
+    for number, score in enumerate(found):
         (folder / f"{number}.score").write_text(score.text)
-    return made
+    return found
 
 
 class Folder(unittest.TestCase):
@@ -113,23 +113,23 @@ class Batch(Folder):
 
     @needs_program
     def test_a_later_run_plays_what_changed_and_tells_what_is_gone(self) -> None:
-        made = scores(self.folder, 4)
+        pieces = scores(self.folder, 4)
         self.assertEqual(self.run_it().returncode, 0)
         (self.folder / "3.score").unlink()
-        (self.folder / "0.score").write_text(made[1].text)
+        (self.folder / "0.score").write_text(pieces[1].text)
         done = self.run_it()
         self.assertEqual(done.stdout.splitlines(), ["1 of 3 scores were played anew", "status  scores", "0       3",
                                                     "of scores that are gone there is 1 result: 3"])
-        self.assertEqual((self.out / "0.mid").read_bytes(), foretold(made[1]))
+        self.assertEqual((self.out / "0.mid").read_bytes(), foretold(pieces[1]))
         (self.out / "1.mid").unlink()
         with open(self.out / "batch.results", "a", encoding="ascii") as file:
             file.write('["2", "0", "form')  # what is cut off is no result, and the older one stands
         self.assertIn("1 of 3 scores were played anew", self.run_it("--audit").stdout)
-        self.assertEqual((self.out / "1.mid").read_bytes(), foretold(made[1]))
-        (self.folder / "0.score").write_text(made[2].text)
+        self.assertEqual((self.out / "1.mid").read_bytes(), foretold(pieces[1]))
+        (self.folder / "0.score").write_text(pieces[2].text)
         os.utime(self.folder / "0.score", (1, 1))  # older than the file of what stood there
         self.assertIn("1 of 3 scores were played anew", self.run_it().stdout)
-        self.assertEqual((self.out / "0.mid").read_bytes(), foretold(made[2]))
+        self.assertEqual((self.out / "0.mid").read_bytes(), foretold(pieces[2]))
 
     def test_what_it_cannot_begin_with(self) -> None:
         rows: tuple[tuple[tuple[str, ...], str], ...] = (
@@ -167,15 +167,15 @@ case $last in */0.part) : >"$last" ;; *) sleep 300.25 ;; esac
         for number in (signal.SIGINT, signal.SIGTERM):
             shutil.rmtree(self.out, ignore_errors=True)
             ended = self.interrupted(["-j", "2"], program, number, lambda: len(self.at_work("sleep 300.25")) == 2)
-            told = "batch: interrupted: 1 of 9 scores are done; run it again for the rest\n"
-            self.assertEqual(ended, (130, "", told))
+            line = "batch: interrupted: 1 of 9 scores are done; run it again for the rest\n"
+            self.assertEqual(ended, (130, "", line))
             self.assertEqual(self.at_work() + self.at_work("sleep 300.25"), [])
             self.assertEqual(sorted(path.name for path in self.out.iterdir()), ["0.mid", "batch.results"])
 
 
-def own_lines(told: str) -> str:
+def own_lines(text: str) -> str:
     """The lines that scripts/batch says itself."""
-    return "".join(line for line in told.splitlines(keepends=True) if line.startswith("batch:"))
+    return "".join(line for line in text.splitlines(keepends=True) if line.startswith("batch:"))
 
 
 @needs_program
@@ -230,11 +230,11 @@ PermitRootLogin prohibit-password
 
     def hosts(self, *lines: str) -> tuple[str, str]:
         (self.top / "hosts").write_text("".join(f"{line} -F {self.top}/ssh/config {name}\n" if name != ":" else
-                                                f"{line} :\n" for line, name in (each.split() for each in lines)))
+                                                f"{line} :\n" for line, name in (row.split() for row in lines)))
         return "--hosts", str(self.top / "hosts")
 
     def test_other_machines_play_what_is_asked(self) -> None:
-        made = scores(self.folder, 20)
+        pieces = scores(self.folder, 20)
         (self.folder / "bad.score").write_text("formula 1;\nnote c4 1/7;\n")
         for words in ((), ("--audit",)):
             shutil.rmtree(self.out, ignore_errors=True)
@@ -243,16 +243,16 @@ PermitRootLogin prohibit-password
             self.assertEqual((done.returncode, own_lines(done.stderr)), (1, ""), done.stdout)
             self.assertEqual(done.stdout.splitlines()[:4], ["21 of 21 scores were played anew", "status  scores",
                                                             "0       20", "3       1"])
-            for number, score in enumerate(made):
+            for number, score in enumerate(pieces):
                 self.assertEqual((self.out / f"{number}.mid").read_bytes(), foretold(score), number)
 
     def test_a_machine_that_lies_is_found_out(self) -> None:
-        made = scores(self.folder, 6)
+        pieces = scores(self.folder, 6)
         done = self.run_it("--audit", *self.hosts("1 liar"))
         self.assertEqual(done.returncode, 1, done.stderr)
         lied = re.findall(r"^([0-9])\.score: a record of another score$", done.stdout, re.M)
         self.assertEqual(lied, ["0", "3"], done.stdout)
-        for number, score in enumerate(made):
+        for number, score in enumerate(pieces):
             path = self.out / f"{number}.mid"
             self.assertEqual(path.exists(), str(number) not in lied, number)
             self.assertTrue(not path.exists() or path.read_bytes() == foretold(score), number)
@@ -267,8 +267,8 @@ PermitRootLogin prohibit-password
                          (130, "", "batch: interrupted: 0 of 3 scores are done; run it again for the rest\n"))
         self.until(lambda: not self.at_work("sleep 300.75"))
         # nor is anything left there
-        there = pathlib.Path(tempfile.gettempdir())
-        self.until(lambda: not any("300.75" in path.read_text("latin-1") for path in there.glob("tmp.*/.program")))
+        folder = pathlib.Path(tempfile.gettempdir())
+        self.until(lambda: not any("300.75" in path.read_text("latin-1") for path in folder.glob("tmp.*/.program")))
 
     def test_a_machine_that_is_not_there_is_told(self) -> None:
         scores(self.folder, 2)

@@ -39,8 +39,8 @@ class Options(unittest.TestCase):
                        if option.kind is inspect.Parameter.KEYWORD_ONLY]
             self.assertEqual([option.name for option in options], names, call)
             self.assertTrue(all(option.annotation in ("Optional[int]", "bool") for option in options), call)
-        told = inspect.getdoc(formula_score.command)
-        self.assertTrue(told and all(f"`{name}`" in told for name in names))
+        page = inspect.getdoc(formula_score.command)
+        self.assertTrue(page and all(f"`{name}`" in page for name in names))
 
     def test_their_words(self) -> None:
         self.assertEqual(words_of(0, 480, 1, True), ["--workers", "0", "--lead", "480", "--room", "1", "--rounds"])
@@ -94,8 +94,8 @@ class Calls(unittest.TestCase):
         path.write_bytes(digits("files/two_tracks.hex"))
         found = listing(path, PROGRAM)
         self.assertEqual((found.format, found.tracks, found.division), (1, 2, 96))
-        told = [f"{track} {tick} {message.hex(' ').upper()}" for track, tick, message in found.events]
-        self.assertEqual(told, (EXAMPLES / "files" / "two_tracks.listing").read_text().splitlines()[1:])
+        lines = [f"{track} {tick} {message.hex(' ').upper()}" for track, tick, message in found.events]
+        self.assertEqual(lines, (EXAMPLES / "files" / "two_tracks.listing").read_text().splitlines()[1:])
         with self.assertRaises(FileRefused) as caught:
             listing(digits("files/refused/after_end.hex"), PROGRAM)
         self.assertEqual((caught.exception.byte, caught.exception.number), (26, 33))
@@ -120,11 +120,11 @@ class Calls(unittest.TestCase):
 
     def test_many_are_rendered_in_their_order(self) -> None:
         wrong: Any = 7
-        given = [*(Score(repeat(n, note("c4", ticks(n)))) for n in range(20)), "formula 1;\nnote c4 1/7;\n", wrong]
-        made = render_all(given, jobs=3, program=PROGRAM)
-        self.assertEqual(made[:20], [foretold(score) for score in given[:20] if isinstance(score, Score)])
-        self.assertEqual((type(made[20]), getattr(made[20], "line"), len(made)), (Refused, 2, 22))
-        self.assertIsInstance(made[21], Exception)
+        given = [*(Score(repeat(count, note("c4", ticks(count)))) for count in range(20)), "formula 1;\nnote c4 1/7;\n", wrong]
+        files = render_all(given, jobs=3, program=PROGRAM)
+        self.assertEqual(files[:20], [foretold(score) for score in given[:20] if isinstance(score, Score)])
+        self.assertEqual((type(files[20]), getattr(files[20], "line"), len(files)), (Refused, 2, 22))
+        self.assertIsInstance(files[21], Exception)
         self.assertEqual(render_all([]), [])
         self.assertRaises(ScoreError, render_all, [], jobs=0)
 

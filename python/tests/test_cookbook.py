@@ -80,7 +80,7 @@ class Cookbook(unittest.TestCase):
         self.assertEqual((round(late(90, 10) / 10), late(90, 10)), (-15, -150))
         # half a thousandth beside 1000, 2000 and 500
         worst = [late(120_000 / (stretch + 0.499), 10) for stretch in (1000, 2000, 500)]
-        self.assertEqual([round(-each / 10) for each in worst], [30, 15, 60])
+        self.assertEqual([round(-distance / 10) for distance in worst], [30, 15, 60])
         parts = [flat(ticks(1000), by) for by in (1333, 1333, 1334)] * 80
         self.assertEqual(Score(warp(parts, repeat(500, note("c4", "1/4")))).end, 320_000)
 

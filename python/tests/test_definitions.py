@@ -23,7 +23,7 @@ class Lists(unittest.TestCase):
     def test_a_list_knows_its_length_however_it_was_made(self) -> None:
         front, back = running.listed([1, 2, 3]), running.listed([4, 5])
         both = running.joined(front, back)
-        self.assertEqual([running.length(it) for it in (running.NIL, back, both, both.tail, both.tail.tail.tail)],
+        self.assertEqual([running.length(items) for items in (running.NIL, back, both, both.tail, both.tail.tail.tail)],
                          [0, 2, 5, 4, 2])
         more = running.Pair(0, running.joined(running.joined(both, running.NIL), both))
         self.assertEqual((running.length(more), running.length(more)), (11, 11))
@@ -41,14 +41,15 @@ class Lists(unittest.TestCase):
     def test_functions_of_the_library(self) -> None:
         library = {name: function for name, (_, function) in running.LIBRARY.items()}
         numbers = running.listed(range(5))
-        self.assertEqual(list(library["map"](lambda it: it + 1, numbers)), [1, 2, 3, 4, 5])
-        self.assertEqual(list(library["flat_map"](lambda it: running.listed([it] * (it % 3)), numbers)), [1, 2, 2, 4])
-        self.assertEqual(library["count_by"](lambda it: it > 1, numbers), 3)
-        self.assertEqual(library["find"](lambda it: it > 1, numbers), running.some(2))
-        self.assertEqual(library["find"](lambda it: it > 9, numbers), running.NONE)
-        self.assertEqual(running.curried(lambda a, b, c: (a, b, c), 3, 1, 2)(3), (1, 2, 3))
-        self.assertEqual(running.curried(lambda a, b, c: (a, b, c), 3, 1)(2)(3), (1, 2, 3))
-        self.assertEqual(running.curried(lambda a, b, c: (a, b, c), 3)(1)(2)(3), (1, 2, 3))
+        self.assertEqual(list(library["map"](lambda number: number + 1, numbers)), [1, 2, 3, 4, 5])
+        self.assertEqual(list(library["flat_map"](lambda number: running.listed([number] * (number % 3)), numbers)),
+                         [1, 2, 2, 4])
+        self.assertEqual(library["count_by"](lambda number: number > 1, numbers), 3)
+        self.assertEqual(library["find"](lambda number: number > 1, numbers), running.some(2))
+        self.assertEqual(library["find"](lambda number: number > 9, numbers), running.NONE)
+        self.assertEqual(running.curried(lambda first, second, third: (first, second, third), 3, 1, 2)(3), (1, 2, 3))
+        self.assertEqual(running.curried(lambda first, second, third: (first, second, third), 3, 1)(2)(3), (1, 2, 3))
+        self.assertEqual(running.curried(lambda first, second, third: (first, second, third), 3)(1)(2)(3), (1, 2, 3))
 
 
 class Plain(unittest.TestCase):

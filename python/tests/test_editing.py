@@ -30,17 +30,17 @@ def words(text: bytes) -> list[str]:
 class Positions(unittest.TestCase):
     def test_characters_are_those_of_utf_16(self) -> None:
         places = Places("# ♪𝄞x\nab".encode())
-        x = places.data.index(b"x")
-        self.assertEqual((places.position(x), places.byte(Position(0, 5))), (Position(0, 5), x))
+        byte = places.data.index(b"x")
+        self.assertEqual((places.position(byte), places.byte(Position(0, 5))), (Position(0, 5), byte))
         self.assertEqual([places.byte(Position(1, 1)), places.byte(Position(0, 99)), places.byte(Position(9, 0))],
-                         [x + 3, x + 1, x + 4])
-        self.assertEqual(places.byte_of(2, 2), x + 3)
+                         [byte + 3, byte + 1, byte + 4])
+        self.assertEqual(places.byte_of(2, 2), byte + 3)
 
     def test_a_refusal_is_underlined_where_it_is_told(self) -> None:
-        told = refused("formula 1; # 𝄞\nnote c4 1/4\nnote d4 1/4;".encode(), Place(3, 1, 3))
-        self.assertEqual((told.range.start, told.range.end), (Position(1, 10), Position(1, 11)))
-        self.assertIn("a `;` is expected", told.heading)
-        self.assertEqual(told.cure, "each statement ends with `;`: write `note c4 1/4;`")
+        refusal = refused("formula 1; # 𝄞\nnote c4 1/4\nnote d4 1/4;".encode(), Place(3, 1, 3))
+        self.assertEqual((refusal.range.start, refusal.range.end), (Position(1, 10), Position(1, 11)))
+        self.assertIn("a `;` is expected", refusal.heading)
+        self.assertEqual(refusal.cure, "each statement ends with `;`: write `note c4 1/4;`")
         word = refused(b"formula 1; volume 200 { }", Place(1, 19, 7))
         self.assertEqual((word.range.start, word.range.end), (Position(0, 18), Position(0, 21)))
         byte = refused("formula 1; note 𝄞 1/4;".encode(), Place(1, 17, 1))
@@ -52,14 +52,14 @@ class Names(unittest.TestCase):
     def test_all_places_of_a_name_are_found(self) -> None:
         use = use_at(TEXT, TEXT.index(b"do tune") + 4)
         assert use is not None
-        self.assertEqual([(each.start, each.defines) for each in same_name(TEXT, use)],
+        self.assertEqual([(place.start, place.defines) for place in same_name(TEXT, use)],
                          [(TEXT.index(b"tune {"), True)] + [(at, False) for at in
                           (TEXT.index(b"tune; }\n"), TEXT.index(b"tune; do"), TEXT.rindex(b"tune"))])
         self.assertIsNone(use_at(TEXT, TEXT.index(b"c4")))
 
     def test_a_new_name_is_one_that_may_stand_there(self) -> None:
         at = TEXT.index(b"rit")
-        self.assertEqual([each.start for each in renamed(TEXT, at, "slower") if not isinstance(each, str)],
+        self.assertEqual([use.start for use in renamed(TEXT, at, "slower") if not isinstance(use, str)],
                          [at, TEXT.index(b"rit {")])
         for name in ("c4", "r0", "n3", "note", "tune", "Rit", "1x", "", "a b"):
             self.assertIsInstance(renamed(TEXT, at, name), str, name)
@@ -110,9 +110,9 @@ class Outline(unittest.TestCase):
             ("phrase", "tune", b"4; }"), ("shape", "rit", b"500;"), ("branch", "branch 1", b"e; }"),
             ("branch", "branch 2", b" } }")])
         nested = outline(b"phrase a { par { branch { par { branch { } branch { } } } branch { } } } par { branch {")
-        self.assertEqual([each.name for each in nested], ["a", "branch 1"])
-        self.assertEqual([each.name for each in nested[0].inner], ["branch 1", "branch 2"])
-        self.assertEqual([each.name for each in nested[0].inner[0].inner], ["branch 1", "branch 2"])
+        self.assertEqual([entry.name for entry in nested], ["a", "branch 1"])
+        self.assertEqual([entry.name for entry in nested[0].inner], ["branch 1", "branch 2"])
+        self.assertEqual([entry.name for entry in nested[0].inner[0].inner], ["branch 1", "branch 2"])
 
 
 if __name__ == "__main__":

@@ -38,7 +38,7 @@ def refuses(path: str, body: str) -> None:
 class Editors(unittest.TestCase):
     def setUp(self) -> None:
         with open(GRAMMAR, encoding="utf-8") as file:
-            self.patterns = [(one["name"], re.compile(one["match"])) for one in json.load(file)["patterns"]]
+            self.patterns = [(pattern["name"], re.compile(pattern["match"])) for pattern in json.load(file)["patterns"]]
 
     def test_each_example_has_scopes_for_all_it_holds(self) -> None:
         tried = 0
@@ -78,7 +78,7 @@ class Editors(unittest.TestCase):
                     "PATH": f"{folder}:{os.environ['PATH']}", "WANTED": f"{score} {folder}/{name}.mid"})
                 match = re.match(pattern["regexp"], done.stdout)
                 assert match is not None
-                self.assertEqual([done.returncode, *(match[pattern[it]] for it in ("file", "line", "column", "message"))],
+                self.assertEqual([done.returncode, *(match[pattern[group]] for group in ("file", "line", "column", "message"))],
                                  [3, score, "2", "12", "fault 3"])
 
     @unittest.skipUnless(shutil.which("vim"), "vim is not installed")

@@ -45,9 +45,9 @@ class Excerpts(unittest.TestCase):
 
     def test_parts_of_all_bars_have_what_the_programs_parts_have(self):
         self.assertIn("outside the proof", self.made(SCORE, "--bars", "1-16", "--parts"))
-        made, theirs = listing_of_file(str(self.out)), listing_of_file(str(self.of_the_program(SCORE, "--parts")))
-        self.assertEqual(made.events[0].message[3:], MADE_BY)
-        self.assertEqual((made.format, made.tracks, made.division, made.events[1:]),
+        own, theirs = listing_of_file(str(self.out)), listing_of_file(str(self.of_the_program(SCORE, "--parts")))
+        self.assertEqual(own.events[0].message[3:], MADE_BY)
+        self.assertEqual((own.format, own.tracks, own.division, own.events[1:]),
                          (1, 3, theirs.division, theirs.events))
 
     def test_one_channel_alone(self):

@@ -90,13 +90,13 @@ class Places(unittest.TestCase):
         for console in sorted(pathlib.Path(TOP, "examples", "refused").glob("*.console")):
             place = place_of(console.read_text())
             text = console.with_suffix(".score").read_bytes()
-            told = refusal("a.score", text, place).split("\n")
+            lines = refusal("a.score", text, place).split("\n")
             # a `;` that is missing at the end of a line is shown there
             shown = "3:12" if console.stem == "not_expected" else f"{place.line}:{place.column}"
-            self.assertRegex(told[0], rf"^a\.score:{shown}: .+ \(fault {place.number}\)$")
+            self.assertRegex(lines[0], rf"^a\.score:{shown}: .+ \(fault {place.number}\)$")
             if place.number in (4, *range(9, 19)):
-                self.assertIn(FAULTS[place.number].means, told[0])
-            self.assertEqual(len(told), 4, console)
+                self.assertIn(FAULTS[place.number].means, lines[0])
+            self.assertEqual(len(lines), 4, console)
 
     def test_each_refused_file_is_explained(self):
         names = sorted(pathlib.Path(TOP, "examples", "files", "refused").glob("*.console"))
@@ -106,12 +106,12 @@ class Places(unittest.TestCase):
             for name, place in zip(names, places):
                 digits = re.sub(r"#.*", "", name.with_suffix(".hex").read_text())
                 pathlib.Path(file.name).write_bytes(bytes.fromhex(digits))
-                told = file_refusal(file.name, place).split("\n")
+                lines = file_refusal(file.name, place).split("\n")
                 fault = FILE_FAULTS[place.number]
                 means = ("this is a packed file, as .mxl and .mscz are, and not a MIDI file" if name.stem == "not_midi"
                          else fault.means)
-                self.assertEqual(told[0], f"{file.name}: byte {place.byte}: {means} (fault {fault.number})")
-                self.assertEqual((told[-1], len(told)), (fault.do, 4 if digits.strip() else 2), name)
+                self.assertEqual(lines[0], f"{file.name}: byte {place.byte}: {means} (fault {fault.number})")
+                self.assertEqual((lines[-1], len(lines)), (fault.do, 4 if digits.strip() else 2), name)
 
     def test_each_refused_record_is_explained(self):
         numbers = set()
@@ -119,20 +119,20 @@ class Places(unittest.TestCase):
             for name in sorted(pathlib.Path(TOP, "examples", "records", "refused").glob("*.console")):
                 data = bytes.fromhex(re.sub(r"#.*", "", name.with_suffix(".hex").read_text()))
                 pathlib.Path(file.name).write_bytes(data)
-                told = explanation(3, name.read_text(), [file.name, "out", "--audit"]).split("\n")
+                lines = explanation(3, name.read_text(), [file.name, "out", "--audit"]).split("\n")
                 place = record_place_of(name.read_text())
                 if place is None:
-                    self.assertTrue(told[0].startswith(f"{file.name}, its score:1:11: "), told)
+                    self.assertTrue(lines[0].startswith(f"{file.name}, its score:1:11: "), lines)
                     continue
                 fault = RECORD_FAULTS[place.number]
                 numbers.add(place.number)
-                self.assertTrue(told[0].startswith(f"{file.name}: "), told)
-                self.assertEqual(len(told), {44: 3, 45: 2}.get(place.number, 4), name)
+                self.assertTrue(lines[0].startswith(f"{file.name}: "), lines)
+                self.assertEqual(len(lines), {44: 3, 45: 2}.get(place.number, 4), name)
                 if name.stem != "no_record":
-                    self.assertTrue(told[0].endswith(f"{fault.means} (fault {fault.number})"), told)
-                    self.assertEqual(told[-1], fault.do, name)
+                    self.assertTrue(lines[0].endswith(f"{fault.means} (fault {fault.number})"), lines)
+                    self.assertEqual(lines[-1], fault.do, name)
                 if name.stem == "end_that_is_not_recorded":
-                    self.assertEqual(told[1], "1 4 Give seat 0 process 0 taken 0 computed 0 clock 0 ended")
+                    self.assertEqual(lines[1], "1 4 Give seat 0 process 0 taken 0 computed 0 clock 0 ended")
         self.assertEqual(numbers, set(RECORD_FAULTS) - {46})
 
     def test_a_file_of_another_kind_is_told(self):
@@ -161,9 +161,9 @@ class Places(unittest.TestCase):
             name = pathlib.Path(folder, "in")
             for data, said, words, heading, do in rows:
                 name.write_bytes(data)
-                told = explanation(3, said, [str(name), "out", *words]).split("\n")
-                self.assertIn(f": {heading} (fault ", told[0])
-                self.assertEqual(told[-1], do)
+                lines = explanation(3, said, [str(name), "out", *words]).split("\n")
+                self.assertIn(f": {heading} (fault ", lines[0])
+                self.assertEqual(lines[-1], do)
 
     def test_the_caret_stands_under_the_byte(self):
         rows = (

@@ -24,13 +24,13 @@ class Growth(unittest.TestCase):
         quarter = note("c4", "1/4")
         shape = [flat("1/4", 900), slope("1/4", 1000, 900), breath("1/8")] * 80
         rows: tuple[tuple[str, Callable[[int], Music]], ...] = (
-            ("plain", lambda n: repeat(n, quarter)),
-            ("overlapping", lambda n: gate(400, repeat(n, quarter))),
-            ("deformed", lambda n: repeat(n // 160, warp(shape, repeat(160, quarter)))),
+            ("plain", lambda count: repeat(count, quarter)),
+            ("overlapping", lambda count: gate(400, repeat(count, quarter))),
+            ("deformed", lambda count: repeat(count // 160, warp(shape, repeat(160, quarter)))),
         )
         for name, music in rows:
-            few, many = (seconds(Score(music(n))) for n in (1_600, 25_600))
-            self.assertLess(many, 40 * few + 0.1, name)
+            few, long = (seconds(Score(music(count))) for count in (1_600, 25_600))
+            self.assertLess(long, 40 * few + 0.1, name)
 
 
 if __name__ == "__main__":

@@ -97,9 +97,9 @@ par {
                                  (480, bytes([0x90, 62, 64]))], 960)])
         answer, text = imported(file)
         self.assertEqual(answer.status, 0, answer.complaint)
-        for told in ("1 lyric", "1 channel pressure", "1 system exclusive message", "1 note-off without a note",
+        for line in ("1 lyric", "1 channel pressure", "1 system exclusive message", "1 note-off without a note",
                      "1 release velocity other than 64", "1 note without an end (ended with the file)"):
-            self.assertIn(told, answer.said)
+            self.assertIn(line, answer.said)
         self.assertEqual(played(text), ([(0, b"\x90\x3c\x40"), (240, b"\x80\x3c"), (480, b"\x90\x3e\x40"),
                                          (960, b"\x80\x3e")], 960))
 
@@ -135,13 +135,13 @@ par {
         asked = []
         full = Numbers([30], False, lambda run: asked.append(run) or len(run) <= 250)
         row = full.add([0] * 1_000)
-        self.assertEqual([full.loops[each][0] for each in full.rows[row]], [250] * 4)
+        self.assertEqual([full.loops[number][0] for number in full.rows[row]], [250] * 4)
         self.assertLess(len(asked), 1_000)
 
     def test_what_differs_first_is_told(self):
         listing = listed(file_model.listing(file_model.read(WALTZ)).decode().splitlines())
-        late = [each._replace(tick=each.tick + 1) if each.message == b"\x90\x49\x40" else each
-                for each in listing.events]
+        late = [event._replace(tick=event.tick + 1) if event.message == b"\x90\x49\x40" else event
+                for event in listing.events]
         answer = compared(listing, piece_of(listing), listing._replace(events=late))
         self.assertEqual((answer.events, answer.differing), (49, 8))  # four notes, each missing and at another tick
         self.assertEqual(answer.first, "tick 96, channel 0, note-on 73 64: not played")
@@ -159,33 +159,33 @@ class Maker:
         self.random = random.Random(seed)
 
     def line(self, channel, division):
-        r = self.random
-        tick, found = r.choice([0, 0, r.randrange(division)]), []
-        step = r.choice([division // 4, division // 2, division, 7])
-        loud = r.choice([[64], [80, 60], list(range(1, 127))])
-        pattern = [(r.randrange(30, 90), r.choice([step, 2 * step, step // 2, 1, 0, step - 1, 5 * step]))
-                   for _ in range(r.randrange(1, 9))]
-        for at in range(r.randrange(1, 60)):
+        draw = self.random
+        tick, found = draw.choice([0, 0, draw.randrange(division)]), []
+        step = draw.choice([division // 4, division // 2, division, 7])
+        loud = draw.choice([[64], [80, 60], list(range(1, 127))])
+        pattern = [(draw.randrange(30, 90), draw.choice([step, 2 * step, step // 2, 1, 0, step - 1, 5 * step]))
+                   for _ in range(draw.randrange(1, 9))]
+        for at in range(draw.randrange(1, 60)):
             key, sounds = pattern[at % len(pattern)]
-            for high in r.choice([(0,), (0,), (0, 4, 7)]):
-                found.append((tick, tick + sounds, key + high, r.choice(loud)))
-            tick += r.choice([step, step, 2 * step, r.randrange(1, 50)])
+            for high in draw.choice([(0,), (0,), (0, 4, 7)]):
+                found.append((tick, tick + sounds, key + high, draw.choice(loud)))
+            tick += draw.choice([step, step, 2 * step, draw.randrange(1, 50)])
         events = notes(channel, *found)
-        for _ in range(r.choice([0, 2, 30])):
-            at = r.randrange(tick + 1)
-            message = r.choice([bytes([0xB0 | channel, r.randrange(120), r.randrange(128)]),
-                                bytes([0xC0 | channel, r.randrange(128)]),
-                                bytes([0xE0 | channel, r.randrange(128), r.randrange(128)])])
+        for _ in range(draw.choice([0, 2, 30])):
+            at = draw.randrange(tick + 1)
+            message = draw.choice([bytes([0xB0 | channel, draw.randrange(120), draw.randrange(128)]),
+                                bytes([0xC0 | channel, draw.randrange(128)]),
+                                bytes([0xE0 | channel, draw.randrange(128), draw.randrange(128)])])
             events.append((at, message))
-        return sorted(events, key=lambda each: each[0])
+        return sorted(events, key=lambda event: event[0])
 
     def file(self):
         """The bytes of a file, its events, and its end."""
-        r = self.random
-        division = r.choice([24, 96, 120, 480, 89, 960])
-        tracks = [self.line(r.randrange(16), division) for _ in range(r.randrange(1, 5))]
-        end = max(tick for events in tracks for tick, _ in events) + r.choice([0, 1, division])
-        head = [(0, meta(0x58, bytes([r.choice([2, 3, 4, 7]), 2, 24, 8])))] if r.random() < 0.7 else []
+        draw = self.random
+        division = draw.choice([24, 96, 120, 480, 89, 960])
+        tracks = [self.line(draw.randrange(16), division) for _ in range(draw.randrange(1, 5))]
+        end = max(tick for events in tracks for tick, _ in events) + draw.choice([0, 1, division])
+        head = [(0, meta(0x58, bytes([draw.choice([2, 3, 4, 7]), 2, 24, 8])))] if draw.random() < 0.7 else []
         if len(tracks) == 1:
             return midi(division, [track(head + tracks[0], end)]), tracks[0], end
         whole = [track(head, end), *(track(events, end) for events in tracks)]

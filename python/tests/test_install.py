@@ -75,8 +75,8 @@ class Install(unittest.TestCase):
     def test_the_copyright_names_each_crate(self) -> None:
         rows = debian.terms((TOP / "docs" / "formula.1").read_text())
         self.assertEqual(tuple(sorted(row.crate for row in rows)), LINKED)
-        told = {row.crate: row.text for row in rows}
-        self.assertEqual(told["thiserror"], told["itoa"])
+        texts = {row.crate: row.text for row in rows}
+        self.assertEqual(texts["thiserror"], texts["itoa"])
         said = debian.copyright_of(TOP).decode()
         self.assertIn((TOP / "COPYING").read_text().strip(), said)
         for row in rows:

@@ -61,9 +61,9 @@ class Jobs(unittest.TestCase):
         work = jobs.Jobs(2, 60.0, begin, 0)
         timer = threading.Timer(1.0, os.kill, (os.getpid(), signal.SIGTERM))
         timer.start()
-        with contextlib.redirect_stdout(io.StringIO()) as told:
+        with contextlib.redirect_stdout(io.StringIO()) as printed:
             self.assertEqual(sorted(work.done([1, 2, SLEEPS, SLEEPS, 3])), [(1, 1), (2, 2)])
-        self.assertEqual(told.getvalue(), "interrupted: what follows is of the tasks that were done\n")
+        self.assertEqual(printed.getvalue(), "interrupted: what follows is of the tasks that were done\n")
         self.assertEqual((work.interrupted, signal.getsignal(signal.SIGTERM)), (True, signal.SIG_DFL))
 
     def test_it_ends_where_no_process_can_begin(self) -> None:

@@ -61,16 +61,16 @@ class Left(unittest.TestCase):
         forecast = left.Forecast(USES, ORDER, PROGRAM, table)
         done = set[str]()
         end = build[PROGRAM].ended
-        for name in sorted(ORDER, key=lambda each: build[each].ended):
+        for name in sorted(ORDER, key=lambda crate: build[crate].ended):
             now = build[name].ended
             done.add(name)
             forecast.took(name, now - build[name].begun)
             running = {other: left.Running(row.jobs, now - row.begun) for other, row in build.items()
                        if row.begun < now and other not in done}
-            told = forecast.left(done, running, lanes)
+            foretold = forecast.left(done, running, lanes)
             if len(done) >= STEADY:
-                self.assertLessEqual(abs(told - (end - now)), WITHIN * (end - now),
-                                     f"{why}: {told:.0f} s behind {name}, and {end - now:.0f} s were left")
+                self.assertLessEqual(abs(foretold - (end - now)), WITHIN * (end - now),
+                                     f"{why}: {foretold:.0f} s behind {name}, and {end - now:.0f} s were left")
 
     def test_a_build_is_foretold(self) -> None:
         self.is_steady(ROWS, HERE, 4, "by its own seconds")

@@ -49,25 +49,25 @@ def operations(count: int) -> Music:
 # What is nested, the fault's number, music by its depth, the greatest depth that is within, how the text of its body
 # begins, and what makes it one deeper.
 NESTED: tuple[tuple[str, int, Callable[[int], Music], int, str, str], ...] = (
-    ("warps", 12, lambda n: nested(n, lambda inner: tempo(90, inner)), 8, "warp", "warp shape_1"),
+    ("warps", 12, lambda count: nested(count, lambda inner: tempo(90, inner)), 8, "warp", "warp shape_1"),
     ("loops and lists", 12, lists, 16, "loud", "repeat 1"),
     ("blocks, as phrases", 12, phrases, 64, "do", "channel 1"),
-    ("braces", 4, lambda n: nested(n, lambda inner: dynamics("p", inner)), 64, "volume", "volume 49"),
-    ("braces of a par", 4, lambda n: nested(n, lambda inner: channel(1, inner), par(QUARTER)), 62, "channel",
+    ("braces", 4, lambda count: nested(count, lambda inner: dynamics("p", inner)), 64, "volume", "volume 49"),
+    ("braces of a par", 4, lambda count: nested(count, lambda inner: channel(1, inner), par(QUARTER)), 62, "channel",
      "channel 1"),
 )
 # What is counted, the fault's number, music by its size, and the greatest size that is within.
 ROWS: tuple[tuple[str, int, Callable[[int], Music], int], ...] = (
-    ("processes", 13, lambda n: repeat(n, par(QUARTER)), 2047),
+    ("processes", 13, lambda count: repeat(count, par(QUARTER)), 2047),
     ("operations", 14, operations, 262_144),
-    ("ticks", 15, lambda n: seq(repeat(1_000_000, repeat(1, rest(ticks(1_000_000)))),
-                                repeat(99_511, rest(ticks(1_000_000))), rest(ticks(n))), 627_776),
-    ("ticks in a warp", 15, lambda n: warp([pause(0)], repeat(1_000_000, rest(ticks(1_000_000))),
-                                           repeat(99_511, rest(ticks(1_000_000))), rest(ticks(n))), 627_776),
+    ("ticks", 15, lambda count: seq(repeat(1_000_000, repeat(1, rest(ticks(1_000_000)))),
+                                repeat(99_511, rest(ticks(1_000_000))), rest(ticks(count))), 627_776),
+    ("ticks in a warp", 15, lambda count: warp([pause(0)], repeat(1_000_000, rest(ticks(1_000_000))),
+                                           repeat(99_511, rest(ticks(1_000_000))), rest(ticks(count))), 627_776),
     # a loop of 1,000,000 rounds of two notes has 4,000,000 events; one more is too many
-    ("events", 16, lambda n: seq(repeat(1_000_000, note(["c4", "e4"], ticks(1))), *[QUARTER] * n), 0),
+    ("events", 16, lambda count: seq(repeat(1_000_000, note(["c4", "e4"], ticks(1))), *[QUARTER] * count), 0),
     # 2 for the loop and 17 a round, and 1 for the end: with 15 more they are 16,777,216
-    ("steps", 17, lambda n: seq(repeat(986_894, *[rest(ticks(1))] * 16), *[rest(ticks(1))] * n), 15),
+    ("steps", 17, lambda count: seq(repeat(986_894, *[rest(ticks(1))] * 16), *[rest(ticks(1))] * count), 15),
 )
 # Within these limits a score plays for long.
 NOT_PLAYED = ("events", "steps")

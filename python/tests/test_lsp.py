@@ -128,15 +128,15 @@ class Spoken(unittest.TestCase):
         self.assertIsNone(self.at("hover", 0, 14))
         self.assertEqual(self.at("definition", 3, 4)["range"]["start"], {"line": 1, "character": 7})
         uses = self.at("references", 1, 8, context={"includeDeclaration": True})
-        self.assertEqual([(each["range"]["start"]["line"], each["range"]["start"]["character"]) for each in uses],
+        self.assertEqual([(use["range"]["start"]["line"], use["range"]["start"]["character"]) for use in uses],
                          [(1, 7), (2, 18), (3, 3)])
         symbols = self.ask("textDocument/documentSymbol", {"textDocument": {"uri": URI}})
-        self.assertEqual([each["name"] for each in symbols], ["tune", "other"])
+        self.assertEqual([symbol["name"] for symbol in symbols], ["tune", "other"])
 
     def test_what_may_be_written_is_offered(self) -> None:
         self.open(TEXT + "do t")
         offered = self.at("completion", 4, 4)["items"]
-        self.assertEqual([(each["label"], each["textEdit"]["range"]["start"]["character"]) for each in offered],
+        self.assertEqual([(item["label"], item["textEdit"]["range"]["start"]["character"]) for item in offered],
                          [("tune", 3)])
 
     def test_a_name_is_renamed_everywhere_or_not_at_all(self) -> None:
@@ -165,7 +165,7 @@ class Neovim(unittest.TestCase):
         with tempfile.TemporaryDirectory() as name:
             folder = pathlib.Path(name)
             (folder / "tune.score").write_text(TEXT.replace("note c4 1/4;", "note c4 1/4"))
-            given = ", ".join(f"'{each}'" for each in words_of_server())
+            given = ", ".join(f"'{word}'" for word in words_of_server())
             (folder / "init.lua").write_text(
                 f"local ARGUMENTS = {{ '{folder}/tune.score', {{ {given} }}, '{folder}/said' }}\n{NEOVIM}")
             subprocess.run([neovim, "--headless", "-u", "NONE", "-i", "NONE", "-c", f"luafile {folder}/init.lua"],

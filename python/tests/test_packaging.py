@@ -61,7 +61,7 @@ class Package(unittest.TestCase):
             self.assertEqual(done.returncode, 0, done.stdout)
             with zipfile.ZipFile(pathlib.Path(folder, done.stdout.splitlines()[-1])) as wheel:
                 names = wheel.namelist()
-                about = email.message_from_bytes(wheel.read(next(n for n in names if n.endswith("METADATA"))))
+                about = email.message_from_bytes(wheel.read(next(name for name in names if name.endswith("METADATA"))))
                 wheel.extractall(pathlib.Path(folder, "installed"))
             said = subprocess.run([sys.executable, "-c", "import formula_score; print(formula_score.__version__)"],
                                   cwd=folder, env={"PYTHONPATH": f"{folder}/installed"}, stdout=subprocess.PIPE,
@@ -108,11 +108,11 @@ class Help(unittest.TestCase):
             formula_score.Listing(0, 1, 480, []), formula_score.FileEvent(0, 0, b""), formula_score.Large(1, 1, 1, 1),
         )
         for sample in samples:
-            told = " ".join(inspect.getdoc(base) or "" for base in type(sample).__mro__[:-1])
+            text = " ".join(inspect.getdoc(base) or "" for base in type(sample).__mro__[:-1])
             names = ([field.name for field in dataclasses.fields(sample)] if dataclasses.is_dataclass(sample)
                      else getattr(sample, "_fields", None) or [name for name in vars(sample) if name[0] != "_"])
             for name in names:
-                self.assertIn(f"`{name}`", told, type(sample).__name__)
+                self.assertIn(f"`{name}`", text, type(sample).__name__)
         self.assertIn("`ticks` is the length, of which a quarter note has 480", inspect.getdoc(Music) or "")
 
     def test_a_value_is_shown_as_it_is_written(self) -> None:

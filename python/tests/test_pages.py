@@ -41,29 +41,30 @@ here -->
 
 class Prose(unittest.TestCase):
     def test_sentences_and_cells(self) -> None:
-        found = [(it.line, it.words, it.text) for it in prose.passages(PAGE) if not it.is_cell]
+        found = [(passage.line, passage.words, passage.text) for passage in prose.passages(PAGE) if not passage.is_cell]
         self.assertEqual(found, [
             (3, 4, "One, two `a name. With a dot` four."), (3, 3, "(A second sentence.)"),
             (3, 9, "Version 1.0 of it ends here: with a list"), (5, 9, "of an item, e.g. This one is no end"),
             (6, 2, "and *another.*"), (6, 2, "And more!"),
             (17, 6, "[A link](docs/A_PAGE.md) counts by its text.")])
-        cells = [(it.line, it.text) for it in prose.passages(PAGE) if it.is_cell]
+        cells = [(passage.line, passage.text) for passage in prose.passages(PAGE) if passage.is_cell]
         self.assertEqual(cells[:2] + cells[-1:], [(8, "A"), (8, "cell"), (10, "two words. And more")])
 
     def test_what_is_beyond_the_limits(self) -> None:
-        for text, told in (
+        for text, problem in (
             ("word " * 30 + "more.", "a sentence of 31 words"), ("word " * 30 + ".", "the sentences have 30.0 words in the mean"),
             (f"| {'c' * 251} |", "a cell of 251 characters"), ("It stood there.", "`stood` means too much"),
             ("It goes over all.", "`goes over` means too much"), ("Want\nof memory.", "`Want of memory` means too much"),
         ):
-            self.assertIn(told, "\n".join(it.problem for it in plain.faults_of(text)), text)
+            self.assertIn(problem, "\n".join(fault.problem for fault in plain.faults_of(text)), text)
         for text in ("word " * 18 + ".", f"| {'c' * 250} |", "`stands` and ```stood``` are names. A standard.", "Storytelling",
                      "[A link](#what-stands-here) says its target apart."):
             self.assertEqual(plain.faults_of(text), [], text)
 
     def test_the_readme_of_a_crate(self) -> None:
-        for text, told in (("x\n" * 61, "61 lines"), ("x" * 161, "a line of 161 characters"), ("It stood there.\n", "`stood` means")):
-            self.assertIn(told, "\n".join(it.problem for it in plain.faults_of_readme(text)), text)
+        for text, problem in (("x\n" * 61, "61 lines"), ("x" * 161, "a line of 161 characters"),
+                              ("It stood there.\n", "`stood` means")):
+            self.assertIn(problem, "\n".join(fault.problem for fault in plain.faults_of_readme(text)), text)
         self.assertEqual(plain.faults_of_readme(("- " + "x" * 157 + ".\n") * 60), [])
 
 
@@ -84,7 +85,7 @@ class Options(unittest.TestCase):
             (places.README, "1 to 64", "0 to 64", "--room has the range (0, 64) in place of (1, 64)"),
             (places.README, "| `--record` |", "| `--records` |", "--records is not an option"),
         )
-        for name, old, new, told in changes:
+        for name, old, new, problem in changes:
             with tempfile.TemporaryDirectory() as folder:
                 top = pathlib.Path(folder)
                 shutil.copytree(TOP / places.CODE, top / places.CODE)
@@ -94,7 +95,7 @@ class Options(unittest.TestCase):
                 text = (top / name).read_text(encoding="utf-8")
                 self.assertIn(old, text, name)
                 (top / name).write_text(text.replace(old, new), encoding="utf-8")
-                self.assertIn(told, "\n".join(places.differences(top)), name)
+                self.assertIn(problem, "\n".join(places.differences(top)), name)
 
 
 if __name__ == "__main__":

@@ -23,7 +23,7 @@ SCORES = 500
 Loudness = Union[str, int]
 LOUDNESSES: list[Loudness] = ["pp", "ff", 1, 127]
 ACCENTS: list[Loudness] = ["f", "p", 17]
-LENGTHS = [Fraction(a, b) for a, b in ((1, 4), (1, 8), (1, 16), (1, 12), (3, 8), (1, 2), (0, 1))] + [ticks(7)]
+LENGTHS = [Fraction(over, under) for over, under in ((1, 4), (1, 8), (1, 16), (1, 12), (3, 8), (1, 2), (0, 1))] + [ticks(7)]
 
 
 class Maker:
@@ -36,60 +36,60 @@ class Maker:
         return self.random.choice(LENGTHS)
 
     def pitches(self) -> Any:
-        r = self.random
-        return r.choice([
-            Pitch(r.randrange(12, 116)), Scale("d4", "dorian")[r.randrange(-9, 9)],
-            f"{r.choice('cdefgab')}{r.choice(['', 's'])}4",
-            chord(r.choice(["Am7", "C", "F#dim", "Bbmaj9"]), r.randrange(2, 6)),
+        draw = self.random
+        return draw.choice([
+            Pitch(draw.randrange(12, 116)), Scale("d4", "dorian")[draw.randrange(-9, 9)],
+            f"{draw.choice('cdefgab')}{draw.choice(['', 's'])}4",
+            chord(draw.choice(["Am7", "C", "F#dim", "Bbmaj9"]), draw.randrange(2, 6)),
         ])
 
     def line(self) -> Music:
-        r = self.random
+        draw = self.random
         choices: list[Callable[[], Music]] = [
             lambda: note(self.pitches(), self.length()),
             lambda: seq(note("g4", "1/4", tied=True), note("g4", self.length())),
             lambda: rest(self.length()),
-            lambda: melody("c4 e4 r g4+b4 g4~ g4", [self.length() for _ in range(r.randrange(1, 6))]),
-            lambda: hits(euclid(r.randrange(6), r.randrange(6, 9)), drum(r.choice(list(DRUMS))), "1/16"),
-            lambda: control(r.randrange(128), r.randrange(128)),
-            lambda: instrument(r.choice(INSTRUMENTS)),
-            lambda: bend(r.randrange(-8192, 8192)),
+            lambda: melody("c4 e4 r g4+b4 g4~ g4", [self.length() for _ in range(draw.randrange(1, 6))]),
+            lambda: hits(euclid(draw.randrange(6), draw.randrange(6, 9)), drum(draw.choice(list(DRUMS))), "1/16"),
+            lambda: control(draw.randrange(128), draw.randrange(128)),
+            lambda: instrument(draw.choice(INSTRUMENTS)),
+            lambda: bend(draw.randrange(-8192, 8192)),
         ]
-        return r.choice(choices)()
+        return draw.choice(choices)()
 
     def part(self) -> Part:
-        r = self.random
+        draw = self.random
         choices: list[Callable[[], Part]] = [
-            lambda: flat(r.choice(LENGTHS[:6]), r.randrange(1, 3000)),
-            lambda: slope(r.choice(LENGTHS[:6]), r.randrange(1, 3000), r.randrange(1, 3000)),
+            lambda: flat(draw.choice(LENGTHS[:6]), draw.randrange(1, 3000)),
+            lambda: slope(draw.choice(LENGTHS[:6]), draw.randrange(1, 3000), draw.randrange(1, 3000)),
             lambda: pause(self.length()), lambda: breath(self.length()),
         ]
-        return r.choice(choices)()
+        return draw.choice(choices)()
 
     def name(self) -> str:
         self.names += 1
         return f"phrase_{self.names}"
 
     def music(self, depth: int) -> Music:
-        r = self.random
-        if depth == 0 or r.random() < 0.3:
+        draw = self.random
+        if depth == 0 or draw.random() < 0.3:
             return self.line()
-        inner = [self.music(depth - 1) for _ in range(r.randrange(1, 4))]
+        inner = [self.music(depth - 1) for _ in range(draw.randrange(1, 4))]
         choices: list[Callable[[], Music]] = [
-            lambda: seq(*inner), lambda: repeat(r.randrange(4), *inner), lambda: par(*inner),
-            lambda: channel(r.randrange(16), *inner), lambda: drums(*inner),
-            lambda: dynamics(r.choice(LOUDNESSES), *inner), lambda: gate(r.randrange(401), *inner),
-            lambda: accents(ACCENTS[:r.randrange(1, 4)], *inner),
-            lambda: articulations([r.randrange(401) for _ in range(r.randrange(1, 5))], *inner),
-            lambda: warp([self.part() for _ in range(r.randrange(1, 5))], *inner),
-            lambda: tempo(r.randrange(30, 300), *inner),
-            lambda: tempo_change(r.randrange(30, 300), r.randrange(30, 300), *inner),
-            lambda: swing(seq(*inner), long=r.choice([0.5, 0.6, 2 / 3, 0.75])),
+            lambda: seq(*inner), lambda: repeat(draw.randrange(4), *inner), lambda: par(*inner),
+            lambda: channel(draw.randrange(16), *inner), lambda: drums(*inner),
+            lambda: dynamics(draw.choice(LOUDNESSES), *inner), lambda: gate(draw.randrange(401), *inner),
+            lambda: accents(ACCENTS[:draw.randrange(1, 4)], *inner),
+            lambda: articulations([draw.randrange(401) for _ in range(draw.randrange(1, 5))], *inner),
+            lambda: warp([self.part() for _ in range(draw.randrange(1, 5))], *inner),
+            lambda: tempo(draw.randrange(30, 300), *inner),
+            lambda: tempo_change(draw.randrange(30, 300), draw.randrange(30, 300), *inner),
+            lambda: swing(seq(*inner), long=draw.choice([0.5, 0.6, 2 / 3, 0.75])),
             lambda: crescendo("pp", "ff", melody("c4 d4 e4 f4", "1/8"), repeat(2, self.line(), note("a4", "1/8"))),
             lambda: seq(*[phrase(self.name(), *inner)] * 2),
             lambda: phrase(self.name(), *inner).transpose(1) if depth == 1 else seq(*inner),
         ]
-        return r.choice(choices)()
+        return draw.choice(choices)()
 
     def score(self) -> Score:
         return Score(*(self.music(4) for _ in range(self.random.randrange(1, 4))), seed=self.random.randrange(10**9))
@@ -126,7 +126,8 @@ class RandomScores(unittest.TestCase):
         for seed in range(SCORES):
             score = made(seed)
             events, end = score_model.played(score.text.encode())
-            self.assertEqual([tuple(e) for e in score.events()], [(*e[:3], bytes(e[3])) for e in events], seed)
+            self.assertEqual([tuple(event) for event in score.events()],
+                             [(*event[:3], bytes(event[3])) for event in events], seed)
             self.assertEqual(score.end, end, seed)
 
     @needs_program

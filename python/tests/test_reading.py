@@ -59,13 +59,14 @@ class Agreement(unittest.TestCase):
             self.assertEqual(known, walk.ended[last].written, name)
         if not wholly:
             return
-        process = max(range(len(walk.begun)), key=lambda each: len(walk.begun[each].levels))
+        process = max(range(len(walk.begun)), key=lambda number: len(walk.begun[number].levels))
         begun = walk.begun[process]
         tick = (tick_of(begun.levels, begun.position) + listing.end) // 2
         self.assertEqual(located(text, tick, process), positions(begun.levels, tick), (name, tick, process))
-        some = walk.happenings[::1 + len(walk.happenings) // 40]
-        spots = [Spot(each.process, each.levels, each.position) for each in some]
-        self.assertEqual(ticks_of(walk.reading, spots), [tick_of(each.levels, each.position) for each in some], name)
+        chosen = walk.happenings[::1 + len(walk.happenings) // 40]
+        spots = [Spot(happening.process, happening.levels, happening.position) for happening in chosen]
+        self.assertEqual(ticks_of(walk.reading, spots),
+                         [tick_of(happening.levels, happening.position) for happening in chosen], name)
 
     def test_every_example(self):
         for path in examples():
@@ -108,12 +109,12 @@ repeat 2 {
     def test_places_and_comments(self):
         reading = read(self.TEXT)
         self.assertEqual((reading.version, reading.division, reading.seed, reading.whole), (2, 96, 7, 384))
-        self.assertEqual([(each.word, each.first.line, each.first.column, each.last.line, each.last.column)
-                          for each in reading.every_statement()],
+        self.assertEqual([(statement.word, statement.first.line, statement.first.column, statement.last.line, statement.last.column)
+                          for statement in reading.every_statement()],
                          [("note", 4, 15, 4, 45), ("rest", 4, 47, 4, 73), ("repeat", 5, 1, 7, 1),
                           ("rhythm", 6, 3, 6, 45), ("play", 6, 23, 6, 31), ("skip", 6, 33, 6, 37),
                           ("skip", 6, 39, 6, 43), ("warp", 7, 3, 7, 23), ("do", 7, 14, 7, 21)])
-        self.assertEqual([(each.text, each.line, each.column, each.alone) for each in reading.comments],
+        self.assertEqual([(comment.text, comment.line, comment.column, comment.alone) for comment in reading.comments],
                          [("begin", 1, 34, False), ("alone", 2, 1, True)])
 
     def test_lengths_that_are_known_without_playing(self):
@@ -155,9 +156,9 @@ repeat 2 {
         self.assertEqual(seen, [("phrase", 0, 0, 0, 480), ("phrase", 0, 1, 480, 960), ("block", 0, 1, 480, 960),
                                 ("branch", 0, 1, 480, 960), ("round", 0, 2, 480, 1440), ("round", 1, 2, 1440, 2400),
                                 ("branch", 1, 2, 480, 2400), ("score", 0, 0, 0, 4320)])
-        self.assertEqual([(each.written, each.position) for each in walk.begun],
+        self.assertEqual([(spot.written, spot.position) for spot in walk.begun],
                          [(0, 0), (480, 480), (480, 480), (2400, 2400)])
-        self.assertEqual([walk.ended[n].written for n in range(4)], [480, 960, 2400, 4320])
+        self.assertEqual([walk.ended[number].written for number in range(4)], [480, 960, 2400, 4320])
 
 
 if __name__ == "__main__":

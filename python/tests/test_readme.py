@@ -24,7 +24,7 @@ def examples() -> Iterator[tuple[str, list[str]]]:
             try:
                 with contextlib.redirect_stdout(printed):
                     exec(text, names)
-                saved = [each.read_text() for each in sorted(pathlib.Path(folder).iterdir())]
+                saved = [path.read_text() for path in sorted(pathlib.Path(folder).iterdir())]
             finally:
                 os.chdir(home)
         yield printed.getvalue(), saved

@@ -16,7 +16,7 @@ from formula_score.music import deformed
 
 def starts(score: Score) -> list[tuple[int, int, int]]:
     """Of each note its tick, key and velocity."""
-    return [(e.tick, e.message[1], e.message[2]) for e in score.events() if e.message[0] >> 4 == 9]
+    return [(event.tick, event.message[1], event.message[2]) for event in score.events() if event.message[0] >> 4 == 9]
 
 
 class Pitches(unittest.TestCase):
@@ -30,7 +30,7 @@ class Pitches(unittest.TestCase):
             self.assertRaises(ScoreError, Pitch, wrong)
 
     def test_scales_and_chords(self) -> None:
-        self.assertEqual([str(Scale("d4", "dorian")[n]) for n in range(-1, 8)],
+        self.assertEqual([str(Scale("d4", "dorian")[degree]) for degree in range(-1, 8)],
                          "c4 d4 e4 f4 g4 a4 b4 c5 d5".split())
         self.assertEqual(list(map(str, chord("Am7", 3))), "a3 c4 e4 g4".split())
         self.assertEqual(list(map(str, chord("Bb", 3, inversion=1))), "d4 f4 as4".split())
@@ -78,7 +78,7 @@ class Time(unittest.TestCase):
     def test_tempo(self) -> None:
         self.assertEqual(tempo(90, repeat(8, note("c4", "1/4"))).parts[0].first, 1333)
         self.assertEqual(tempo(60, note("c4", "1/4")).ticks, 960)
-        self.assertEqual([p.ticks for p in tempo(60, repeat(3, rest("521/2"))).parts], [1_000_000, 500_480])
+        self.assertEqual([part.ticks for part in tempo(60, repeat(3, rest("521/2"))).parts], [1_000_000, 500_480])
         self.assertEqual(tempo_change(120, 60, note("c4", "1/1")).ticks, 2880)
 
     def test_swing_keeps_beats(self) -> None:
@@ -96,7 +96,7 @@ class Time(unittest.TestCase):
 
 class Overlaps(unittest.TestCase):
     def heard(self, *items: Music) -> list[tuple[int, int, int]]:
-        return [(e.tick, e.message[0] >> 4, e.message[1]) for e in Score(*items).events()]
+        return [(event.tick, event.message[0] >> 4, event.message[1]) for event in Score(*items).events()]
 
     def test_notes_sound_on_over_the_next_ones(self) -> None:
         self.assertEqual(self.heard(gate(200, melody("c4 d4", "1/4"))),

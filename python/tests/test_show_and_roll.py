@@ -100,8 +100,8 @@ class Picture(unittest.TestCase):
 
     def lines(self, path):
         root = xml.etree.ElementTree.parse(path).getroot()
-        return [(round(float(each.get("x1")), 1), each.get("class"))
-                for each in root.iter("{http://www.w3.org/2000/svg}line") if each.get("class") in ("strong", "weak")]
+        return [(round(float(line.get("x1")), 1), line.get("class"))
+                for line in root.iter("{http://www.w3.org/2000/svg}line") if line.get("class") in ("strong", "weak")]
 
 
 @needs_program
@@ -125,12 +125,12 @@ class Roll(InAFolder, Picture):
         self.assertEqual(score("roll", path, out, "--meter", "3/4").status, 0)
         strong = [at for at, kind in self.lines(out) if kind == "strong"]
         weak = [at for at, kind in self.lines(out) if kind == "weak"]
-        self.assertEqual(strong, [44 + 48 * each for each in (0, 3, 9)])
-        self.assertEqual(weak, [44 + 48 * each for each in (1, 2, 5, 7, 10)])
+        self.assertEqual(strong, [44 + 48 * quarter for quarter in (0, 3, 9)])
+        self.assertEqual(weak, [44 + 48 * quarter for quarter in (1, 2, 5, 7, 10)])
         subprocess.run([PROGRAM, path, self.folder / "t.mid"], check=True)
         self.assertEqual(score("roll", self.folder / "t.mid", out, "--meter", "3/4").status, 0)
         self.assertEqual([at for at, kind in self.lines(out) if kind == "strong"],
-                         [44 + 48 * 3 * each for each in range(5)])
+                         [44 + 48 * 3 * quarter for quarter in range(5)])
 
     def test_the_bars_of_the_longest_piece_are_few_lines(self):
         rules = bars(Meter((Group(1, (Signature(4, 4),)),), Fraction(0), 1920), 2 ** 40)

@@ -79,7 +79,7 @@ class Guarded(StudioTest):
         self.refused("the token is missing", path="/socket", token="x", **upgrade)
 
     def test_only_this_computer_reaches_it(self) -> None:
-        names = {each[4][0] for each in socket.getaddrinfo(socket.gethostname(), None, socket.AF_INET)}
+        names = {host[4][0] for host in socket.getaddrinfo(socket.gethostname(), None, socket.AF_INET)}
         for name in names - {"127.0.0.1"}:
             with socket.socket() as caller:
                 caller.settimeout(2)
@@ -87,7 +87,7 @@ class Guarded(StudioTest):
 
     def test_the_page_takes_nothing_from_elsewhere(self) -> None:
         headers = self.studio.get("/").headers
-        policy = dict(each.strip().split(" ", 1) for each in headers["Content-Security-Policy"].split(";"))
+        policy = dict(rule.strip().split(" ", 1) for rule in headers["Content-Security-Policy"].split(";"))
         self.assertEqual(policy["default-src"], "'none'")
         for name, sources in policy.items():
             for source in sources.split():
@@ -235,13 +235,13 @@ class Opened(StudioTest):
 class Exports(StudioTest):
     def test_a_text_is_exported_as_the_program_plays_it(self) -> None:
         asked = {"text": self.TUNE, "meter": "4/4", "upbeat": "", "from": 0, "to": 100}
-        made = {kind: self.studio.ask("POST", f"/export/{kind}", json.dumps(asked).encode())
+        answers = {kind: self.studio.ask("POST", f"/export/{kind}", json.dumps(asked).encode())
                 for kind in ("midi", "parts", "excerpt", "svg")}
-        self.assertEqual([answer.status for answer in made.values()], [200] * 4)
-        self.assertTrue(made["midi"].body.endswith(bytes.fromhex("00903C40 8330803C40 30FF2F00")))
-        self.assertEqual(made["parts"].body[8:12], bytes([0, 1, 0, 2]))
-        self.assertTrue(made["excerpt"].body.endswith(bytes.fromhex("00903C40 64803C40 00FF2F00")))
-        self.assertIn(b"<title>c4 channel 0 tick 0 to 432</title>", made["svg"].body)
+        self.assertEqual([answer.status for answer in answers.values()], [200] * 4)
+        self.assertTrue(answers["midi"].body.endswith(bytes.fromhex("00903C40 8330803C40 30FF2F00")))
+        self.assertEqual(answers["parts"].body[8:12], bytes([0, 1, 0, 2]))
+        self.assertTrue(answers["excerpt"].body.endswith(bytes.fromhex("00903C40 64803C40 00FF2F00")))
+        self.assertIn(b"<title>c4 channel 0 tick 0 to 432</title>", answers["svg"].body)
         refused = self.studio.ask("POST", "/export/midi", json.dumps({**asked, "text": "formula 1"}).encode())
         self.assertEqual(refused.status, 422)
 

@@ -49,11 +49,11 @@ class Pictures(unittest.TestCase):
 
     def test_processes_begin_where_the_program_says(self) -> None:
         found = self.picture(NESTED).processes()
-        self.assertEqual([each["begin"] for each in found],
+        self.assertEqual([process["begin"] for process in found],
                          [locate(NESTED, 0, process, PROGRAM).start for process in range(len(found))])
-        self.assertEqual([tuple(each["waits"]) for each in found], [(), (0,), (1,), (1,), (2, 3), (0,), (4, 5)])
+        self.assertEqual([tuple(process["waits"]) for process in found], [(), (0,), (1,), (1,), (2, 3), (0,), (4, 5)])
         # by hand: the block begins at 100, its positions take two ticks, those of `half` half a position
-        self.assertEqual([(each["begin"], each["end"]) for each in found],
+        self.assertEqual([(process["begin"], process["end"]) for process in found],
                          [(0, 160), (160, 260), (260, 280), (260, 270), (280, 280), (160, 220), (280, 280)])
         self.assertEqual(found[3]["name"], "process 3 (branch 2, line 8)")
 
@@ -63,7 +63,7 @@ class Pictures(unittest.TestCase):
         table = array("i", picture.table())
         processes, partners = table[:events], table[2 * events:3 * events]
         lines, characters = table[3 * events:][:happenings], table[3 * events + happenings:]
-        ons = [at for at, each in enumerate(picture.events) if each.message[0] == 0x90]
+        ons = [at for at, event in enumerate(picture.events) if event.message[0] == 0x90]
         self.assertEqual([(picture.events[at].tick, processes[at], picture.events[partners[at]].tick) for at in ons],
                          [(160, 1, 250), (160, 5, 200), (180, 5, 220), (260, 3, 268), (260, 3, 268)])
         self.assertEqual([(lines[table[events + at]], characters[table[events + at]]) for at in ons[:3]],
@@ -71,7 +71,7 @@ class Pictures(unittest.TestCase):
 
     def test_a_note_is_told_in_bars_ticks_and_seconds(self) -> None:
         picture = self.picture(b"formula 1;\nphrase a {\n  note d4 1/4; volume 80 { note e4 1/2; }\n}\ndo a; do a;\n")
-        second = [at for at, each in enumerate(picture.events) if each.message[0] == 0x90][3]
+        second = [at for at, event in enumerate(picture.events) if event.message[0] == 0x90][3]
         self.assertEqual(picture.facts(second, meter_of(picture.reading, "3/4", "")), [
             ["Note", "e4, key 64, velocity 80, channel 0"],
             ["Process", "process 0 (outside all branches), its note 4"],
@@ -103,9 +103,9 @@ class Pictures(unittest.TestCase):
             self.picture(b"formula 1; note c4 1/4;", b"formula 1; note d4 1/4;")
 
     def test_the_examples_are_all_there(self) -> None:
-        for each in examples.listed():
-            text = examples.read(each.folder, each.name)
-            self.assertEqual(text, (TOP / "examples" / each.folder / each.name).read_bytes())
+        for example in examples.listed():
+            text = examples.read(example.folder, example.name)
+            self.assertEqual(text, (TOP / "examples" / example.folder / example.name).read_bytes())
         self.assertIsNone(examples.read("scores", "../tutorial/1_line.score"))
         self.assertGreater(len(examples.listed()), 20)
 

@@ -68,7 +68,7 @@ class Sessions(StudioTest):
     def test_a_text_is_played_and_then_looked_at(self) -> None:
         self.page.send(do="text", number=1, text=self.TUNE)
         frames = [self.page.next() for _ in range(3)]
-        self.assertEqual([(each.head["kind"], each.head["number"]) for each in frames],
+        self.assertEqual([(frame.head["kind"], frame.head["number"]) for frame in frames],
                          [("file", 1), ("picture", 1), ("bars", 1)])
         self.assertEqual(frames[0].body, render(self.TUNE, PROGRAM))
         self.assertEqual(frames[2].head["bars"][:1], [[0, 1]])

@@ -33,7 +33,7 @@ ERRORS, MOST_WRONG = 600, 0.03
 
 def neighbour(key: str, side: int) -> str:
     """The key beside one; itself where there is none."""
-    row = next((each for each in ROWS if key in each), "")
+    row = next((row for row in ROWS if key in row), "")
     at = row.find(key) + side
     return row[at] if row and 0 <= at < len(row) else key
 
@@ -49,8 +49,8 @@ def mistyped(draw: random.Random, text: str) -> str:
 def words(text: str) -> list[str]:
     """The tokens of a text, each name by the order in which names come."""
     names: dict[str, str] = {}
-    return [names.setdefault(each.text, f"NAME {len(names)}") if each.kind == NAME else each.text
-            for each in tokens(text)]
+    return [names.setdefault(token.text, f"NAME {len(names)}") if token.kind == NAME else token.text
+            for token in tokens(text)]
 
 
 def judged(text: str, wrong: str) -> str:
@@ -63,7 +63,7 @@ def judged(text: str, wrong: str) -> str:
     ways = followed(spot, found.cure) if found and not isinstance(found.cure, Known) else []
     if not ways:
         return "general"
-    return "right" if any(words(changed(spot, each, 0, len(wrong))) == words(text) for each in ways) else "wrong"
+    return "right" if any(words(changed(spot, way, 0, len(wrong))) == words(text) for way in ways) else "wrong"
 
 
 class Typing(unittest.TestCase):

@@ -105,9 +105,9 @@ class Values(unittest.TestCase):
             (tempo(Fraction(181, 2), QUARTER), tempo(90.5, QUARTER)),
             (tempo(unlike(Decimal("90.5")), QUARTER), tempo(90.5, QUARTER)),
         )
-        for made, wanted in pairs:
-            self.assertEqual(made, wanted)
-            self.assertEqual(Score(made).text, Score(wanted).text)
+        for value, wanted in pairs:
+            self.assertEqual(value, wanted)
+            self.assertEqual(Score(value).text, Score(wanted).text)
         self.assertEqual(Score(QUARTER, seed=unlike(Index(7))).text, Score(QUARTER, seed=7).text)
         self.assertEqual((Pitch("c4") + unlike(Index(2)), Scale("c4")[unlike(Index(1))]), (62, 62))
 
@@ -130,52 +130,52 @@ class Values(unittest.TestCase):
                     call()
 
     def test_what_is_no_music_is_refused_with_its_cure(self) -> None:
-        a, b = QUARTER, rest("1/4")
+        quarter, silence = QUARTER, rest("1/4")
         star, written = "put a star before what holds several, as in `seq(*items)`", "a note is written `note("
         comes_first = "comes before the music, and here stands note('c4', '1/4')"
         rows: tuple[tuple[Callable[[], object], str], ...] = (
-            (lambda: seq(unlike([a, b])), star),
-            (lambda: par(unlike([a])), star),
-            (lambda: channel(1, unlike(a for _ in range(2))), star),
-            (lambda: Score(unlike(iter([a]))), star),
-            (lambda: a + unlike("d4"), written),
-            (lambda: unlike("d4") + a, written),
-            (lambda: sum(unlike([a, b])), "`seq(*items)` joins what `sum` would"),
+            (lambda: seq(unlike([quarter, silence])), star),
+            (lambda: par(unlike([quarter])), star),
+            (lambda: channel(1, unlike(quarter for _ in range(2))), star),
+            (lambda: Score(unlike(iter([quarter]))), star),
+            (lambda: quarter + unlike("d4"), written),
+            (lambda: unlike("d4") + quarter, written),
+            (lambda: sum(unlike([quarter, silence])), "`seq(*items)` joins what `sum` would"),
             (lambda: seq(unlike(60)), written),
-            (lambda: par(a, unlike(None)), "does a function of yours end without `return`?"),
+            (lambda: par(quarter, unlike(None)), "does a function of yours end without `return`?"),
             (lambda: seq(unlike(seq)), "call it"),
             (lambda: warp([flat("1/4", 1000)], unlike(pause("1/4"))), "at the begin of a warp"),
-            (lambda: warp(unlike(flat("1/4", 1000)), a), "a shape is a list"),
-            (lambda: warp(unlike([a]), a), "flat, slope, pause and breath make them"),
-            (lambda: Score(unlike(Score(a))), "is no music"),
+            (lambda: warp(unlike(flat("1/4", 1000)), quarter), "a shape is a list"),
+            (lambda: warp(unlike([quarter]), quarter), "flat, slope, pause and breath make them"),
+            (lambda: Score(unlike(Score(quarter))), "is no music"),
             (lambda: seq(unlike(Music())), "is no music"),
-            (lambda: repeat(unlike(a), unlike(4)), comes_first),
-            (lambda: tempo(unlike(a), unlike(90)), comes_first),
-            (lambda: dynamics(unlike(a), unlike("mf")), comes_first),
-            (lambda: channel(unlike(a), unlike(1)), comes_first),
-            (lambda: tempo(0, a), "a tempo goes from 0.12"),
-            (lambda: tempo(unlike(True), a), "is a number, and True is none"),
-            (lambda: tempo(unlike("90"), a), "is a number, and '90' is none"),
-            (lambda: tempo_change(120, float("nan"), a), "is a number, and nan is none"),
-            (lambda: tempo(10**400, a), "is a number"),
+            (lambda: repeat(unlike(quarter), unlike(4)), comes_first),
+            (lambda: tempo(unlike(quarter), unlike(90)), comes_first),
+            (lambda: dynamics(unlike(quarter), unlike("mf")), comes_first),
+            (lambda: channel(unlike(quarter), unlike(1)), comes_first),
+            (lambda: tempo(0, quarter), "a tempo goes from 0.12"),
+            (lambda: tempo(unlike(True), quarter), "is a number, and True is none"),
+            (lambda: tempo(unlike("90"), quarter), "is a number, and '90' is none"),
+            (lambda: tempo_change(120, float("nan"), quarter), "is a number, and nan is none"),
+            (lambda: tempo(10**400, quarter), "is a number"),
             (lambda: stretch_of(float("inf")), "is a number, and inf is none"),
-            (lambda: swing(a, long=float("nan")), "is a number, and nan is none"),
-            (lambda: swing(a, long=1.5), "it lies between 0 and 1"),
+            (lambda: swing(quarter, long=float("nan")), "is a number, and nan is none"),
+            (lambda: swing(quarter, long=1.5), "it lies between 0 and 1"),
             (lambda: nest(1000), "at most 64 blocks stand in one another"),
-            (lambda: accents(unlike("mf"), a), "put it into brackets"),
+            (lambda: accents(unlike("mf"), quarter), "put it into brackets"),
             (lambda: hits("x-.x", "c2", "1/8"), "'-' is no beat: a pattern has `x` for a hit and `.` for a rest"),
             (lambda: hits(unlike(["x", "."]), "c2", "1/8"), "is True or False"),
             (lambda: note(unlike(itertools.count(60)), "1/4"), "more than 16"),
             (lambda: melody(unlike(itertools.repeat(60)), "1/4"), "more than 262,144"),
             (lambda: note(unlike(None), "1/4"), "what a note plays is a list, and None is none"),
             (lambda: rest("1e999999999"), "write '1/4' or Fraction(1, 4)"),
-            (lambda: phrase(unlike(a), a), "the name of a phrase is a text"),
-            (lambda: phrase("verse\n", a), "'verse\\n' is no name"),
+            (lambda: phrase(unlike(quarter), quarter), "the name of a phrase is a text"),
+            (lambda: phrase("verse\n", quarter), "'verse\\n' is no name"),
             (lambda: instrument("flut"), "is it flute or pan flute?"),
             (lambda: instrument("saxofone"), "is it "),
             (lambda: drum("snar"), "is it snare or electric snare?"),
             (lambda: drum(unlike(38)), "there is no drum 38"),
-            (lambda: Score(a, division=960), "write version=2 too"),
+            (lambda: Score(quarter, division=960), "write version=2 too"),
         )
         for number, (call, cure) in enumerate(rows):
             with self.assertRaises(ScoreError, msg=f"row {number}, {cure}") as caught:
@@ -215,15 +215,15 @@ class Maker:
         ])
 
     def value(self, kind: str) -> Any:
-        r = self.random
-        if r.random() < 0.08:
+        draw = self.random
+        if draw.random() < 0.08:
             return self.odd()
         if kind == "music":
-            return r.choice(self.made)
+            return draw.choice(self.made)
         if kind == "name":
             self.names += 1
-            return f"{r.choice(['verse', 'shape', 'a'])}_{self.names}"
-        return r.choice(POOLS[kind])
+            return f"{draw.choice(['verse', 'shape', 'a'])}_{self.names}"
+        return draw.choice(POOLS[kind])
 
     def arguments(self, kinds: str) -> list[Any]:
         found: list[Any] = []
@@ -287,36 +287,36 @@ class RandomCalls(unittest.TestCase):
     @needs_program
     def test_each_is_refused_or_plays_as_foretold(self) -> None:
         assert PROGRAM is not None
-        maker, told = Maker(20_000), {"refused": 0, "no score": 0, "played": 0, "too long to play": 0}
+        maker, counts = Maker(20_000), {"refused": 0, "no score": 0, "played": 0, "too long to play": 0}
         for number in range(CALLS):
             call, kinds = maker.random.choice(MUSIC_CALLS)
             given = maker.arguments(kinds)
             options = {name: maker.value(name) for name in ("seed", "version", "division")
                        if maker.random.random() < 0.4}
             try:
-                made = call(*given)
+                music = call(*given)
             except ScoreError:
-                told["refused"] += 1
+                counts["refused"] += 1
                 continue
             except Exception as error:  # it is to be told with the call
                 raise AssertionError(f"call {number}: {kinds} of {given!r}") from error
-            self.assertIsInstance(made, Music)
+            self.assertIsInstance(music, Music)
             try:
-                score = Score(made, **options)
+                score = Score(music, **options)
             except ScoreError:
-                told["no score"] += 1
+                counts["no score"] += 1
                 continue
             if score.step_count < 500:
-                maker.made = [*maker.made[-40:], made]
+                maker.made = [*maker.made[-40:], music]
             if score.step_count > MOST_STEPS:
-                told["too long to play"] += 1
+                counts["too long to play"] += 1
                 continue
             self.assertEqual(run(score.text), (0, "", foretold(score)), f"call {number}: {score.text}")
-            told["played"] += 1
-        self.assertGreater(told["played"], CALLS // 5, told)
-        self.assertGreater(told["refused"], CALLS // 10, told)
+            counts["played"] += 1
+        self.assertGreater(counts["played"], CALLS // 5, counts)
+        self.assertGreater(counts["refused"], CALLS // 10, counts)
         if CALLS > 500:
-            print(told)
+            print(counts)
 
 
 if __name__ == "__main__":

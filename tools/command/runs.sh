@@ -33,10 +33,10 @@ words() {
 
 # is_same NAME NAME: whether both name one file that is there.
 is_same() {
-    local one=$1 other=$2
-    case $one in /*) ;; *) one=./$one ;; esac
-    case $other in /*) ;; *) other=./$other ;; esac
-    [ "$one" -ef "$other" ]
+    local first=$1 second=$2
+    case $first in /*) ;; *) first=./$first ;; esac
+    case $second in /*) ;; *) second=./$second ;; esac
+    [ "$first" -ef "$second" ]
 }
 
 # is_file NAME: whether it is a plain file, or a link to one.

@@ -53,8 +53,8 @@ def run(options: argparse.Namespace) -> int:
     if options.bar is not None:
         return _tell_bar(agreed(text), meter, options.bar, options.process)
     named = sections(reading, lambda comment: marks.bars_of(comment) is None)
-    wanted = [each for mark in marks.marks(reading) for each in (mark.first, mark.last)]
-    structure = Structure(reading, wanted + [each for section in named for each in (section.first, section.last)])
+    wanted = [edge for mark in marks.marks(reading) for edge in (mark.first, mark.last)]
+    structure = Structure(reading, wanted + [edge for section in named for edge in (section.first, section.last)])
     structure.run()
     print(f"meter {meter}" + (f", upbeat {options.upbeat}" if meter.upbeat else ""))
     for line in _table(reading, structure, meter, named):
@@ -79,8 +79,8 @@ def _bars(span: Span, meter: Meter) -> str:
 
 
 def _times(spans: list[Span], meter: Meter) -> str:
-    told = ", ".join(meter.tell(span.begin) for span in spans[:_SHOWN]) + (", .." if len(spans) > _SHOWN else "")
-    return _bars(spans[0], meter) if len(spans) == 1 else f"{len(spans)} times: {told}"
+    begins = ", ".join(meter.tell(span.begin) for span in spans[:_SHOWN]) + (", .." if len(spans) > _SHOWN else "")
+    return _bars(spans[0], meter) if len(spans) == 1 else f"{len(spans)} times: {begins}"
 
 
 def _rows(reading: Reading, structure: Structure, meter: Meter,
@@ -108,10 +108,10 @@ def _rows(reading: Reading, structure: Structure, meter: Meter,
 def _table(reading: Reading, structure: Structure, meter: Meter, named: list[Section]) -> Iterator[str]:
     rows = sorted(_rows(reading, structure, meter, named))
     whole = Span(0, structure.end, structure.place)
-    told = [(f"line {line}", *row) for line, *row in rows]
-    told.append(("", "the piece", meter.lasts(0, structure.end), _bars(whole, meter)))
-    widths = [min(60, max(len(row[at]) for row in told)) for at in range(3)]
-    for row in told:
+    table = [(f"line {line}", *row) for line, *row in rows]
+    table.append(("", "the piece", meter.lasts(0, structure.end), _bars(whole, meter)))
+    widths = [min(60, max(len(row[at]) for row in table)) for at in range(3)]
+    for row in table:
         yield "  ".join(f"{cell:<{width}}" for cell, width in zip(row, [*widths, 0])).rstrip()
 
 
@@ -152,10 +152,10 @@ def _branches(par: Statement, played: list[list[Span]], meter: Meter) -> Iterato
     for branches in played:
         lengths = [span.end - span.begin for span in branches]
         if len(set(lengths)) > 1:
-            told = ", ".join(f"branch {at + 1} (line {par.blocks[at].head.line}) {meter.lasts(span.begin, span.end)}"
+            listed = ", ".join(f"branch {at + 1} (line {par.blocks[at].head.line}) {meter.lasts(span.begin, span.end)}"
                              for at, span in enumerate(branches))
             yield Finding(par.first.line, par.first.column, "branches are not equally long, by up to "
-                          f"{meter.length(max(lengths) - min(lengths))}: {told}")
+                          f"{meter.length(max(lengths) - min(lengths))}: {listed}")
             return
 
 
@@ -180,7 +180,7 @@ def _tell_tick(walk: Played, meter: Meter, bar: int, process: Optional[int]) -> 
         return 1
     found = ticks_by_process(walk, meter.start(bar), process)
     for tick, processes in found.items():
-        only = "" if len(walk.begun) == 1 else " in " + ", ".join(process_name(walk, each) for each in processes)
+        only = "" if len(walk.begun) == 1 else " in " + ", ".join(process_name(walk, process) for process in processes)
         print(f"bar {bar}: tick {tick}{only}")
     if not found:
         print(f"{'no' if process is None else 'no such'} process plays where bar {bar} begins")
@@ -198,22 +198,23 @@ def ticks_by_process(walk: Played, written: int, only: Optional[int]) -> dict[in
 
 def _tell_bar(walk: Played, meter: Meter, tick: int, process: Optional[int]) -> int:
     end = walk.tick_of_end(len(walk.begun) - 1)
-    playing = [each for each in happening_at(walk, tick) if process in (None, each.process)]
+    playing = [happening for happening in happening_at(walk, tick) if process in (None, happening.process)]
     if not playing:
         where = "" if process is None else f" in process {process}"
         print(f"nothing is played at tick {tick}{where}: the piece ends at tick {end}")
         return 1
     found: dict[int, list[tuple[Happening, str]]] = {}
-    for each in playing:
-        position = position_at(walk.reading, each.levels, tick)
-        written = each.end if position is None else each.begin + position - each.position
-        place = f"line {each.statement.line}, column {each.statement.first.column}{ring(each.place, written, meter)}"
-        found.setdefault(written, []).append((each, place))
+    for happening in playing:
+        position = position_at(walk.reading, happening.levels, tick)
+        written = happening.end if position is None else happening.begin + position - happening.position
+        statement = happening.statement
+        place = f"line {statement.line}, column {statement.first.column}{ring(happening.place, written, meter)}"
+        found.setdefault(written, []).append((happening, place))
     for written, several in found.items():
         print(f"tick {tick}: written in {meter.tell(written)}; played in {meter.tell(tick)} of the file, which has 120 "
               "quarter notes a minute throughout")
-        for each, place in several:
-            print(f"  {place}" + (f", in {process_name(walk, each.process)}" if len(walk.begun) > 1 else ""))
+        for happening, place in several:
+            print(f"  {place}" + (f", in {process_name(walk, happening.process)}" if len(walk.begun) > 1 else ""))
     return 0
 
 
@@ -227,5 +228,5 @@ def ring(place: Place, written: int, meter: Meter) -> str:
         if seen.kind == "round" and isinstance(seen.node, Statement):
             said.append(f"{inside} of round {seen.number + 1} of the loop at line {seen.node.line}")
         if seen.outer is None:
-            return "".join(f"; {each}" for each in said)
+            return "".join(f"; {sentence}" for sentence in said)
         seen = seen.outer

@@ -82,7 +82,8 @@ def quarters(listing: Listing) -> list[Rule]:
     count, step = _quarters(listing.end, listing.division), 1
     while count // step > MOST_LINES:
         step *= 4
-    return [Rule(each * listing.division, "" if each % (4 * step) else str(each)) for each in range(0, count + 1, step)]
+    return [Rule(quarter * listing.division, "" if quarter % (4 * step) else str(quarter))
+            for quarter in range(0, count + 1, step)]
 
 
 def bars(meter: Meter, end: int) -> list[Rule]:

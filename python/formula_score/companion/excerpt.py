@@ -72,7 +72,7 @@ def run(options: argparse.Namespace) -> int:
         listing = listing_of_file(whole)
     events = [(event.tick, event.message) for event in listing.events if event.message[0] < 0xF0]
     if options.channel is not None:
-        events = [each for each in events if each[1][0] & 15 == options.channel]
+        events = [event for event in events if event[1][0] & 15 == options.channel]
     save(options.out, file_of(listing.division, _tracks(events, options.parts), listing.end))
     print(f"{options.out}: {OUTSIDE}")
     if not events:
@@ -85,7 +85,7 @@ def _tracks(events: list[Timed], in_parts: bool) -> list[list[Timed]]:
     if not in_parts:
         return [[(0, TEMPO), *events]]
     channels = sorted({message[0] & 15 for _, message in events})
-    return [[(0, TEMPO)], *([each for each in events if each[1][0] & 15 == channel] for channel in channels)]
+    return [[(0, TEMPO)], *([event for event in events if event[1][0] & 15 == channel] for channel in channels)]
 
 
 def window_of(options: argparse.Namespace, text: bytes) -> list[str]:
@@ -100,8 +100,8 @@ def window_of(options: argparse.Namespace, text: bytes) -> list[str]:
     if first < (0 if meter.upbeat else 1) or not all(is_there):
         if first < 1 and last:
             raise Failed(1, "bars count from 1, and bar 0 is what stands before it, as --upbeat says")
-        there = f"the piece ends in bar {meter.at(last - 1).bar}: it has {meter.lasts(0, last)}" if last else ""
-        raise Failed(1, there or "the piece is empty")
+        reason = f"the piece ends in bar {meter.at(last - 1).bar}: it has {meter.lasts(0, last)}" if last else ""
+        raise Failed(1, reason or "the piece is empty")
     begin = _ticks(walk, meter, first, options.process)
     words = ["--from", str(min(begin))]
     end = _ticks(walk, meter, behind, options.process) if behind and meter.start(behind) < last else []
@@ -118,7 +118,7 @@ def _ticks(walk: Played, meter: Meter, bar: int, process: Optional[int]) -> list
     found = ticks_by_process(walk, meter.start(bar), process)
     if len(found) > 1:
         for tick, processes in found.items():
-            print(f"bar {bar} begins at tick {tick} in {', '.join(process_name(walk, each) for each in processes)}")
+            print(f"bar {bar} begins at tick {tick} in {', '.join(process_name(walk, process) for process in processes)}")
     if not found:
         raise Failed(1, f"no {'such ' if process is not None else ''}process plays where bar {bar} begins")
     return list(found)

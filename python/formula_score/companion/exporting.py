@@ -42,7 +42,7 @@ def run(options: argparse.Namespace) -> int:
     walk = agreed(written)
     meter = Meter(options.meter, options.upbeat, walk.reading.whole)
     grid = grid_of(walk, meter)
-    tracks = staves(walk, [each for _, each in grid.events])
+    tracks = staves(walk, [event for _, event in grid.events])
     save(options.out, _file(grid, tracks, meter))
     print(f"{options.out}: {many(len(tracks), 'track')} ({'; '.join(staff.name for staff in tracks)}), meter {meter}, "
           f"{many(len(grid.tempos), 'tempo')}; made by the companion, outside the proof")
@@ -66,12 +66,12 @@ def _file(grid: Grid, tracks: list[Staff], meter: Meter) -> bytes:
     tick_of = {id(event): tick for tick, event in grid.events}
     first = [*_signatures(grid, meter), *((tick, b"\xff\x51\x03" + tempo.to_bytes(3, "big"))
                                           for tick, tempo in grid.tempos)]
-    found: list[list[Timed]] = [sorted(first, key=lambda each: each[0])]
+    found: list[list[Timed]] = [sorted(first, key=lambda event: event[0])]
     for staff in tracks:
         events: list[Timed] = [(0, text(3, staff.name.encode("utf-8")))]
         if staff.instrument:
             events.append((0, text(4, staff.instrument.encode())))
-        timed = sorted(((tick_of[id(event)], event) for event in staff.events), key=lambda each: (each[0], each[1][:3]))
+        timed = sorted(((tick_of[id(event)], event) for event in staff.events), key=lambda pair: (pair[0], pair[1][:3]))
         found.append([*events, *((tick, event.message) for tick, event in timed)])
     return file_of(grid.division, found, grid.end)
 

@@ -43,7 +43,7 @@ def run(options: argparse.Namespace) -> int:
     must_differ(options.file, options.score)
     listing = listing_of_file(options.file, refused=1)
     fit = scaled(listing, options.scale, options.exact)
-    for line in fit.told:
+    for line in fit.lines:
         print(line)
     if fit.listing is None:
         return 1
@@ -52,9 +52,9 @@ def run(options: argparse.Namespace) -> int:
     text, voices, played = _written(piece, os.path.basename(options.file))
     save(options.score, text.encode())
     answer = compared(fit.listing, piece, played)
-    each = len(text) / max(1, answer.events)
+    per_event = len(text) / max(1, answer.events)
     phrases = sum(line.startswith("phrase ") for line in text.splitlines())
-    print(f"{options.score}: {many(voices, 'branch')}, {many(phrases, 'phrase')}, {len(text):,} bytes, {each:.1f} an "
+    print(f"{options.score}: {many(voices, 'branch')}, {many(phrases, 'phrase')}, {len(text):,} bytes, {per_event:.1f} an "
           "event")
     if answer.differing:
         print(f"played and compared: {answer.differing:,} of {answer.events:,} events differ; first {answer.first}")
@@ -74,10 +74,10 @@ def _written(piece: Piece, name: str) -> tuple[str, int, Listing]:
         for is_flat in (False, True):
             text, voices = fitting_text(piece, name, MOST_BYTES, is_flat)
             save(source, text.encode())
-            made = play(source, target, "--workers", "0")
-            if made.status != 3 or not made.said.endswith(_TOO_DEEP):
+            run = play(source, target, "--workers", "0")
+            if run.status != 3 or not run.said.endswith(_TOO_DEEP):
                 break
-        needs(made, refused=1)
+        needs(run, refused=1)
         return text, voices, listing_of_file(target)
 
 

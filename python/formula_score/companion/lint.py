@@ -57,8 +57,8 @@ def _names(reading: Reading) -> Iterator[Finding]:
         letter, octave = named.groups()
         goes = {"cs", "fs"} <= pitches if letter == "e" else bool(pitches & {"cs", "ds", "fs", "gs"})
         if not goes:
-            same = f"the same key as `f{octave}`" if letter == "e" else "a black key"
-            yield Finding(token.line, token.column, f"`{token.text}` is {letter.upper()} sharp, {same}; "
+            key = f"the same key as `f{octave}`" if letter == "e" else "a black key"
+            yield Finding(token.line, token.column, f"`{token.text}` is {letter.upper()} sharp, {key}; "
                           f"{letter.upper()} flat is `{letter}b{octave}`")
 
 
@@ -115,7 +115,7 @@ class Looks(Walk):
             for before in range(at):
                 shared = sorted(channels & played[before])
                 if shared:
-                    lines = " and ".join(str(par.blocks[each].head.line) for each in (before, at))
+                    lines = " and ".join(str(par.blocks[branch].head.line) for branch in (before, at))
                     self.find("channel", par, f"branches {before + 1} and {at + 1} (lines {lines}) both play on "
                               f"channel {shared[0]}: where notes of one key overlap there, many players end both at "
                               "the first note-off")
@@ -159,7 +159,7 @@ class Looks(Walk):
         if note.percent <= 100 and not self.waiting:
             return
         begin = tick_of(note.levels, note.position)
-        self.waiting = [each for each in self.waiting if each[0] > begin]
+        self.waiting = [waiting for waiting in self.waiting if waiting[0] > begin]
         while len(self.waiting) + len(note.values) > MOST_WAITING:
             end, cut = self.waiting.pop(0)
             self.cut(cut, end - begin, f"by the note at line {note.statement.line}, since 16 pitches sound at most")
@@ -181,7 +181,7 @@ class Looks(Walk):
 
 
 def _goes_one_way(entries: tuple[int, ...]) -> bool:
-    steps = [b - a for a, b in zip(entries, entries[1:])]
+    steps = [later - earlier for earlier, later in zip(entries, entries[1:])]
     return any(steps) and (all(step >= 0 for step in steps) or all(step <= 0 for step in steps))
 
 

@@ -128,8 +128,8 @@ def marks(reading: Reading) -> list[Mark]:
         bars, found = bars_of(comment), lines.of(comment)
         if bars and found:
             sought.append(_Sought(comment, bars, *found))
-    behind = sorted((_begin(each), each.bars[0]) for each in sought)
-    return [_mark(each, behind, phrases) for each in sought]
+    behind = sorted((_begin(node), node.bars[0]) for node in sought)
+    return [_mark(node, behind, phrases) for node in sought]
 
 
 def _begin(of: _Sought) -> int:
@@ -143,7 +143,7 @@ def _phrases(every: Iterable[Sequence]) -> dict[int, Phrase]:
         owner = sequence.owner
         phrase = owner if isinstance(owner, Phrase) else found.get(owner.first.start) if owner else None
         if phrase:
-            found.update({each.first.start: phrase for each in sequence.statements})
+            found.update({statement.first.start: phrase for statement in sequence.statements})
     return found
 
 
@@ -205,7 +205,7 @@ def _verdicts(mark: Mark, structure: Structure, meter: Meter) -> dict[_Key, Verd
             continue
         end = ends[id(span.place)].end
         rings = list(_rings(span.place))
-        playing = next((id(each) for each in rings if each.kind == "phrase" and each.node is mark.phrase), 0)
+        playing = next((id(span) for span in rings if span.kind == "phrase" and span.node is mark.phrase), 0)
         keep(("piece", playing), span, end, 0, 0)
         for ring in rings:
             kind = "phrase" if ring.kind == "phrase" and ring.node is mark.phrase else "ring"
@@ -251,8 +251,8 @@ def _told(group: list[tuple[Mark, Verdict]], meter: Meter) -> list[Finding]:
             found.append(Finding(mark.comment.line, mark.comment.column, what))
             carried = verdict.late
         elif verdict.ends_wrong and verdict.over != carried:
-            much = meter.length(abs(verdict.over - verdict.late))
-            what = (f"{said} {'are' if name == 'bars' else 'is'} {much} too "
+            difference = meter.length(abs(verdict.over - verdict.late))
+            what = (f"{said} {'are' if name == 'bars' else 'is'} {difference} too "
                     f"{'long' if verdict.over > verdict.late else 'short'}")
             found.append(Finding(mark.comment.line, mark.comment.column, what))
             carried = verdict.over

@@ -57,7 +57,7 @@ class Meter:
     @property
     def only(self) -> Optional[int]:
         """The ticks of a bar, where all are equal."""
-        lengths = {self._of(each) for group in self.groups for each in group.signatures}
+        lengths = {self._of(signature) for group in self.groups for signature in group.signatures}
         return lengths.pop() if len(lengths) == 1 else None
 
     def _of(self, signature: Signature) -> int:
@@ -75,26 +75,26 @@ class Meter:
     def _length(self, group: Group, bars: int) -> int:
         """The ticks of so many bars from the beginning of a group on."""
         turns, left = divmod(bars, len(group.signatures))
-        lengths = [self._of(each) for each in group.signatures]
+        lengths = [self._of(signature) for signature in group.signatures]
         return turns * sum(lengths) + sum(lengths[:left])
 
     def signature(self, bar: int) -> Signature:
         """The signature of a bar; of the upbeat that of bar 1."""
-        group = next(each for each in reversed(self.groups) if each.first <= max(bar, 1))
+        group = next(group for group in reversed(self.groups) if group.first <= max(bar, 1))
         return group.signatures[(max(bar, 1) - group.first) % len(group.signatures)]
 
     def start(self, bar: int) -> int:
         """Where a bar begins, in ticks as written."""
         if bar < 1:
             return 0
-        at, group = next(each for each in reversed(self._starts()) if each[1].first <= bar)
+        at, group = next(start for start in reversed(self._starts()) if start[1].first <= bar)
         return at + self._length(group, bar - group.first)
 
     def at(self, ticks: int) -> At:
         """The bar and beat of a position."""
         if ticks < self.upbeat:
             return self._beat(0, ticks, self.signature(1))
-        at, group = next(each for each in reversed(self._starts()) if each[0] <= ticks)
+        at, group = next(start for start in reversed(self._starts()) if start[0] <= ticks)
         turns, left = divmod(ticks - at, self._length(group, len(group.signatures)))
         bar = group.first + turns * len(group.signatures)
         for signature in group.signatures:

@@ -43,9 +43,9 @@ def track(events: Sequence[Timed], end: int) -> bytes:
 def file_of(division: int, tracks: Sequence[Sequence[Timed]], end: int) -> bytes:
     """A file, of format 0 where it has one track; the first track begins with who made it."""
     first, *others = tracks
-    chunks = [track([(0, text(1, MADE_BY)), *first], end), *(track(each, end) for each in others)]
+    chunks = [track([(0, text(1, MADE_BY)), *first], end), *(track(events, end) for events in others)]
     head = [int(len(tracks) > 1), len(tracks), division]
-    return b"MThd" + (6).to_bytes(4, "big") + b"".join(each.to_bytes(2, "big") for each in head) + b"".join(chunks)
+    return b"MThd" + (6).to_bytes(4, "big") + b"".join(number.to_bytes(2, "big") for number in head) + b"".join(chunks)
 
 
 def save(path: str, data: bytes) -> None:

@@ -33,7 +33,7 @@ def plain(data: bytes) -> str:
         words = data.decode("utf-8")
     except UnicodeDecodeError:
         words = data.decode("latin-1")
-    return "".join(each if each.isprintable() else ascii(each)[1:-1] for each in words)
+    return "".join(sign if sign.isprintable() else ascii(sign)[1:-1] for sign in words)
 
 
 def note(channel: int, key: int) -> str:

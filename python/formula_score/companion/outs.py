@@ -132,8 +132,8 @@ class Beside:
         return os.path.join(self.folder, f".formula-{secrets.token_hex(8)}")
 
     def _take_owner(self) -> None:
-        made = os.fstat(self.file)
-        if self.old and (made.st_uid, made.st_gid) != (self.old.st_uid, self.old.st_gid):
+        facts = os.fstat(self.file)
+        if self.old and (facts.st_uid, facts.st_gid) != (self.old.st_uid, self.old.st_gid):
             try:
                 os.fchown(self.file, self.old.st_uid, self.old.st_gid)
             except OSError as error:

@@ -175,11 +175,12 @@ def _is_in(target: str, source: str) -> bool:
     """Whether OUT is the file that is read: devices may be both."""
     number = descriptor_of(target)
     try:
-        one = os.fstat(0) if source == "-" else os.stat(source)
-        other = os.stat(target) if number is None else os.fstat(number)
+        source_facts = os.fstat(0) if source == "-" else os.stat(source)
+        target_facts = os.stat(target) if number is None else os.fstat(number)
     except (OSError, ValueError):
         return False
-    return os.path.samestat(one, other) and not stat.S_ISCHR(one.st_mode) and not stat.S_ISDIR(one.st_mode)
+    mode = source_facts.st_mode
+    return os.path.samestat(source_facts, target_facts) and not stat.S_ISCHR(mode) and not stat.S_ISDIR(mode)
 
 
 def _means_output(number: Optional[int]) -> bool:

@@ -70,11 +70,11 @@ def run(source: str, target: str, *options: str) -> Run:
     return Run(status, said, f"{before}\n{BY_VERBS[line]}" if line in BY_VERBS else why)
 
 
-def needs(made: Run, refused: Optional[int] = None) -> Run:
+def needs(run: Run, refused: Optional[int] = None) -> Run:
     """The run, where it ended with 0; else its status ends the verb, or `refused` in place of a refusal's."""
-    if made.status == 0:
-        return made
-    raise Failed(refused if refused is not None and made.status == 3 else made.status, made.why, made.said)
+    if run.status == 0:
+        return run
+    raise Failed(refused if refused is not None and run.status == 3 else run.status, run.why, run.said)
 
 
 def text_of(path: str) -> bytes:

@@ -176,10 +176,10 @@ class _Reader:
 
     def statement(self) -> Statement:
         first = self.step()
-        made = getattr(self, f"read_{first.text}", None)
-        if made is None:
+        reader = getattr(self, f"read_{first.text}", None)
+        if reader is None:
             raise Unread(f"{first.line}:{first.column}: no statement begins here")
-        fields = made()
+        fields = reader()
         last = self.tokens[self.at - 1] if fields.get("blocks") else self.expect(";")
         return Statement(first.text, first, last, **fields)
 

@@ -70,7 +70,7 @@ def record_in(path: str) -> Optional[records.Record]:
 def own_meter(listing: Listing) -> Optional[tuple[Group, ...]]:
     """The meters that the file names, where each begins at a bar line of the one before."""
     groups: tuple[Group, ...] = ()
-    for event in sorted(listing.events, key=lambda each: each.tick):
+    for event in sorted(listing.events, key=lambda event: event.tick):
         data = event.message
         if data[:3] != b"\xff\x58\x04" or not data[3] or data[4] > 6:
             continue
@@ -85,7 +85,7 @@ def own_meter(listing: Listing) -> Optional[tuple[Group, ...]]:
         at = Meter(groups, Fraction(0), 4 * listing.division).at(event.tick)
         if (at.beat, at.ticks) != (1, 0):
             return None
-        groups = (*(each for each in groups if each.first < at.bar), Group(at.bar, (signature,)))
+        groups = (*(group for group in groups if group.first < at.bar), Group(at.bar, (signature,)))
     return groups or None
 
 

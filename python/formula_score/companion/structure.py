@@ -21,7 +21,8 @@ def sequences(reading: Reading) -> list[Sequence]:
     found = [Sequence(None, None, reading.statements)]
     found += [Sequence(phrase, phrase.block, phrase.block.statements) for phrase in reading.phrases.values()]
     for sequence in found:  # it grows meanwhile
-        found += [Sequence(each, block, block.statements) for each in sequence.statements for block in each.blocks]
+        found += [Sequence(statement, block, block.statements)
+                  for statement in sequence.statements for block in statement.blocks]
     return found
 
 
@@ -50,8 +51,8 @@ def sections(reading: Reading, may_name: Callable[[Comment], bool]) -> list[Sect
     for sequence in sequences(reading):
         if isinstance(sequence.owner, Phrase):
             continue
-        heads = [(at, above[each.first.start][0]) for at, each in enumerate(sequence.statements)
-                 if each.first.start in above]
+        heads = [(at, above[statement.first.start][0]) for at, statement in enumerate(sequence.statements)
+                 if statement.first.start in above]
         for (at, comment), behind in zip(heads, [*(at for at, _ in heads[1:]), len(sequence.statements)]):
             found.append(Section(comment.text, comment.line, sequence.statements[at], sequence.statements[behind - 1]))
     return found
@@ -64,7 +65,7 @@ class Structure(Walk):
         super().__init__(reading)
         self.phrases: dict[str, list[Span]] = {}
         self.pars: dict[int, tuple[Statement, list[list[Span]]]] = {}  # by the byte where a `par` begins
-        self.spans: dict[int, list[Span]] = {each.first.start: [] for each in wanted}
+        self.spans: dict[int, list[Span]] = {statement.first.start: [] for statement in wanted}
         self._open: list[Span] = []
 
     def statement(self, happening: Happening) -> None:

@@ -89,11 +89,11 @@ def _page_that_leads(address: str, home: str) -> str:
 
 def _listener(port: int) -> socket.socket:
     """A socket that this computer alone can reach."""
-    made = socket.socket()
-    made.setsockopt(socket.SOL_SOCKET, socket.SO_REUSEADDR, 1)
+    listener = socket.socket()
+    listener.setsockopt(socket.SOL_SOCKET, socket.SO_REUSEADDR, 1)
     try:
-        made.bind(("127.0.0.1", port))
+        listener.bind(("127.0.0.1", port))
     except OSError as error:
-        made.close()
+        listener.close()
         raise Failed(1, f"the studio cannot listen on port {port}: {error.strerror}") from error
-    return made
+    return listener

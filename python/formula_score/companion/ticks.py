@@ -38,7 +38,7 @@ def agreed(text: bytes) -> Played:
     expected = [(event.tick, event.message) for event in walk.events()]
     last = walk.tick_of_end(len(walk.begun) - 1)
     if heard != expected or listing.end != last:
-        differs = next((at for at, (one, other) in enumerate(zip(heard, expected)) if one != other),
+        differs = next((at for at, (tick, expected_tick) in enumerate(zip(heard, expected)) if tick != expected_tick),
                        min(len(heard), len(expected)))
         raise Failed(1, f"this companion reads the score otherwise than the program plays it, from event {differs} on: "
                         "this is a fault of the companion, and nothing is told")
@@ -78,7 +78,7 @@ def ticks_of(reading: Reading, spots: Sequence[Spot]) -> list[int]:
     found: dict[int, int] = {}
     for share in _shares(spots):
         asked = [at for row in share for at in row]
-        number = {at: each for each, at in enumerate(asked)}
+        number = {at: number_of_tick for number_of_tick, at in enumerate(asked)}
         branches = [f"branch {{ {_within(spots[row[0]].levels, _marks(spots, row, number))} }}" for row in share]
         head = _head(reading, [level for row in share for level in spots[row[0]].levels])
         heard = {event.message[1] * 128 + event.message[2]: event.tick
@@ -107,13 +107,13 @@ def _shares(spots: Sequence[Spot]) -> Iterator[list[list[int]]]:
     steps = marks = 0
     for row in rows.values():
         row.sort(key=lambda at: spots[at].position)
-        for some in (row[first:first + _MARKS] for first in range(0, len(row), _MARKS)):
-            last = spots[some[-1]]
+        for marks_of_row in (row[first:first + _MARKS] for first in range(0, len(row), _MARKS)):
+            last = spots[marks_of_row[-1]]
             own = (last.position + sum(level.begin for level in last.levels)) // _LONGEST * 2
-            if share and (len(share) == _ROWS or steps + own > _STEPS or marks + len(some) > _MARKS):
+            if share and (len(share) == _ROWS or steps + own > _STEPS or marks + len(marks_of_row) > _MARKS):
                 yield share
                 share, steps, marks = [], 0, 0
-            share, steps, marks = [*share, some], steps + own, marks + len(some)
+            share, steps, marks = [*share, marks_of_row], steps + own, marks + len(marks_of_row)
     if share:
         yield share
 
@@ -135,9 +135,10 @@ def positions_at(reading: Reading, levels: Sequence[Level], tick: int) -> Option
 def spots_at(walk: Played, written: int) -> list[Spot]:
     """Where a position as written lies, in each process that plays there: of the first statement that takes time."""
     found: dict[int, Spot] = {}
-    for each in walk.happenings:
-        if each.begin <= written < each.end and each.process not in found:
-            found[each.process] = Spot(each.process, each.levels, each.position + written - each.begin)
+    for happening in walk.happenings:
+        if happening.begin <= written < happening.end and happening.process not in found:
+            position = happening.position + written - happening.begin
+            found[happening.process] = Spot(happening.process, happening.levels, position)
     last = walk.ended[len(walk.begun) - 1]
     if not found and written == last.written:
         found[len(walk.begun) - 1] = Spot(len(walk.begun) - 1, last.levels, last.position)
@@ -149,9 +150,10 @@ def spots_of(walk: Played, written: list[int]) -> list[Optional[Spot]]:
     found: dict[int, Spot] = {}
     last = walk.ended[len(walk.begun) - 1]
     wanted = sorted(set(written))
-    for each in walk.happenings:
-        for position in _between(wanted, each.begin, each.end):
-            found.setdefault(position, Spot(each.process, each.levels, each.position + position - each.begin))
+    for happening in walk.happenings:
+        for position in _between(wanted, happening.begin, happening.end):
+            inside = happening.position + position - happening.begin
+            found.setdefault(position, Spot(happening.process, happening.levels, inside))
     found.setdefault(last.written, Spot(len(walk.begun) - 1, last.levels, last.position))
     return [found.get(position) for position in written]
 
@@ -163,9 +165,9 @@ def _between(rising: list[int], first: int, behind: int) -> list[int]:
 def happening_at(walk: Played, tick: int) -> list[Happening]:
     """What takes time at a tick of the file, in each process that plays there."""
     found: dict[int, Happening] = {}
-    for each in walk.happenings:
-        if each.begin < each.end and each.process not in found:
-            length = each.end - each.begin
-            if tick_of(each.levels, each.position) <= tick < tick_of(each.levels, each.position + length):
-                found[each.process] = each
+    for happening in walk.happenings:
+        if happening.begin < happening.end and happening.process not in found:
+            length = happening.end - happening.begin
+            if tick_of(happening.levels, happening.position) <= tick < tick_of(happening.levels, happening.position + length):
+                found[happening.process] = happening
     return [found[process] for process in sorted(found)]

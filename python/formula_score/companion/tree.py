@@ -151,8 +151,8 @@ class Reading:
     def every_statement(self) -> Iterator[Statement]:
         """All statements of the text in their order, those inside others too."""
         blocks = [phrase.block.statements for phrase in self.phrases.values()] + [self.statements]
-        found = [each for statements in blocks for each in _with_inner(statements)]
-        return iter(sorted(found, key=lambda each: each.first.start))
+        found = [statement for statements in blocks for statement in _with_inner(statements)]
+        return iter(sorted(found, key=lambda statement: statement.first.start))
 
     def comments_above(self) -> dict[int, list[Comment]]:
         """The comments on lines of their own between a token and the one before it, by the byte of the token."""
@@ -227,7 +227,7 @@ class _Lengths:
             self.start_anew()
             lengths.append(self.of(branch))
         self.start_anew()
-        return None if None in lengths else max(each for each in lengths if each is not None)
+        return None if None in lengths else max(length for length in lengths if length is not None)
 
     def start_anew(self) -> None:
         for _, given in self.rhythms:
@@ -274,6 +274,6 @@ def _takes_entries(reading: Reading, statements: tuple[Statement, ...]) -> bool:
             inner = [reading.phrases[statement.name].block.statements]
         if statement.word in ("play", "skip"):
             return True
-        if statement.word != "rhythm" and any(_takes_entries(reading, each) for each in inner):
+        if statement.word != "rhythm" and any(_takes_entries(reading, statement) for statement in inner):
             return True
     return False

@@ -100,9 +100,9 @@ def _within(value: int, low: int = -_LIMIT, high: int = _LIMIT) -> int:
 
 
 _OPERATORS: dict[str, Callable[[int, int], int]] = {
-    "+": lambda a, b: a + b, "-": lambda a, b: a - b, "*": lambda a, b: a * b,
-    "/": lambda a, b: a // b if b else 0, "%": lambda a, b: a % b if b else 0,
-    "min": min, "max": max, "less": lambda a, b: int(a < b), "same": lambda a, b: int(a == b),
+    "+": lambda left, right: left + right, "-": lambda left, right: left - right, "*": lambda left, right: left * right,
+    "/": lambda left, right: left // right if right else 0, "%": lambda left, right: left % right if right else 0,
+    "min": min, "max": max, "less": lambda left, right: int(left < right), "same": lambda left, right: int(left == right),
 }
 
 
@@ -149,12 +149,12 @@ class Walk:
         self.now = _Now(len(self.begun), position, written, self.reading.seed)
         self.waits_for.append(waits_for)
         self.begun.append(self._here())
-        self.open_lists = [Entries(each.kind, each.entries, each.statement) for each in self.open_lists]
+        self.open_lists = [Entries(entries.kind, entries.entries, entries.statement) for entries in self.open_lists]
 
     def _end(self) -> None:
         self.ended[self.now.number] = self._here()
-        for each in self.open_lists:
-            self.emptied(each, self.now.number)
+        for entries in self.open_lists:
+            self.emptied(entries, self.now.number)
         self.process_ended(self.now.number)
 
     def _here(self) -> Process:
@@ -190,7 +190,7 @@ class Walk:
             return self.now.registers[of.number]
         if of.of == "n":
             return self.rounds[-1 - of.number]
-        operands = [self._value(each) for each in of.operands]
+        operands = [self._value(operand) for operand in of.operands]
         if of.of == "negative":
             return _within(-operands[0])
         if of.of == "pick":
@@ -210,7 +210,7 @@ class Walk:
         return _within(self._value(length.value), 0, length.most) if isinstance(length, Computed) else length
 
     def _entry(self, kind: str, otherwise: int) -> int:
-        return next((each.next() for each in reversed(self.open_lists) if each.kind == kind), otherwise)
+        return next((entries.next() for entries in reversed(self.open_lists) if entries.kind == kind), otherwise)
 
     # ---- statements
 
@@ -310,10 +310,10 @@ class Played(Walk):
 
     def events(self) -> list[Event]:
         """All events with their ticks, in the order of the file: what the program is expected to play."""
-        made: list[list[Made]] = [[] for _ in self.begun]
+        events_of: list[list[Made]] = [[] for _ in self.begun]
         for happening in self.happenings:
-            made[happening.process] += messages_of(happening)
-        return sorted(Event(tick, process, number, message) for process, own in enumerate(made)
+            events_of[happening.process] += messages_of(happening)
+        return sorted(Event(tick, process, number, message) for process, own in enumerate(events_of)
                       for number, (tick, message) in enumerate(come_out(own, self.tick_of_end(process))))
 
     def tick_of_end(self, process: int) -> int:

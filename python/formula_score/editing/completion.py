@@ -67,8 +67,8 @@ def _items(spot: Spot, begun: str) -> Iterator[Item]:
 def _anything(data: bytes) -> Iterator[Item]:
     """All words and names, where a fault stands before the place and nothing is known of it."""
     yield from map(_word, SAYS)
-    for each in uses(data):
-        yield Item(each.name, each.name, each.kind)
+    for use in uses(data):
+        yield Item(use.name, use.name, use.kind)
 
 
 def _statements(spot: Spot) -> Iterator[Item]:
@@ -88,9 +88,9 @@ def _musical(spot: Spot) -> Iterator[Item]:
 
 def _names(spot: Spot) -> Iterator[Item]:
     wanted = "shape" if spot.head == "warp" else "phrase"
-    for each in uses(spot.data):
-        if each.defines and each.kind == wanted and each.start < spot.place:
-            yield Item(each.name, each.name, wanted)
+    for use in uses(spot.data):
+        if use.defines and use.kind == wanted and use.start < spot.place:
+            yield Item(use.name, use.name, wanted)
 
 
 def _pitches(spot: Spot) -> Iterator[Item]:

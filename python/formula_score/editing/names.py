@@ -39,17 +39,17 @@ def uses(data: bytes) -> list[Use]:
 
 def use_at(data: bytes, byte: int) -> Optional[Use]:
     """The name at a byte or directly before it."""
-    return next((each for each in uses(data) if each.start <= byte <= each.end), None)
+    return next((use for use in uses(data) if use.start <= byte <= use.end), None)
 
 
 def definition(data: bytes, use: Use) -> Optional[Use]:
     """Where the name of a use is defined."""
-    return next((each for each in uses(data) if each.defines and each.name == use.name), None)
+    return next((candidate for candidate in uses(data) if candidate.defines and candidate.name == use.name), None)
 
 
 def same_name(data: bytes, use: Use) -> list[Use]:
     """All places of a name, its definition too."""
-    return [each for each in uses(data) if each.name == use.name]
+    return [candidate for candidate in uses(data) if candidate.name == use.name]
 
 
 def renamed(data: bytes, byte: int, name: str) -> Union[list[Use], str]:
@@ -62,6 +62,6 @@ def renamed(data: bytes, byte: int, name: str) -> Union[list[Use], str]:
     kind = kind_of(name)
     if kind != NAME:
         return f"`{name}` is a word of the language" if kind == name else f"`{name}` is a {kind.lower()}, and no name"
-    if name != use.name and any(each.name == name for each in uses(data)):
+    if name != use.name and any(candidate.name == name for candidate in uses(data)):
         return f"another phrase or shape is called `{name}`"
     return same_name(data, use)

@@ -34,7 +34,7 @@ class _Outline:
         self.is_par = False
 
     def add(self, part: Part) -> None:
-        owner = next((each for each in reversed(self.braces) if each is not None), None)
+        owner = next((brace for brace in reversed(self.braces) if brace is not None), None)
         (self.top if owner is None else owner.inner).append(part)
 
     def step(self, before: Optional[Token], token: Token) -> None:

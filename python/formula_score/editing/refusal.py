@@ -36,9 +36,9 @@ def refused(data: bytes, place: Place) -> Refusal:
 def _underlined(places: Places, line: int, column: int) -> Range:
     """The token at a place; where none begins there, the character before it in its line."""
     byte = places.byte_of(line, column)
-    here = next(tokens(places.data[byte:byte + 4000].decode("latin-1")))
-    if here.start == 0 and here.text:
-        end = byte + here.end
+    token = next(tokens(places.data[byte:byte + 4000].decode("latin-1")))
+    if token.start == 0 and token.text:
+        end = byte + token.end
         while end < len(places.data) and places.data[end] & 0xC0 == 0x80:  # a character of several bytes
             end += 1
         return places.range(byte, end)

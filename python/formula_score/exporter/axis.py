@@ -31,9 +31,9 @@ class Sent(bytes):
     @staticmethod
     def of(tick: int, message: bytes, spot: Spot) -> "Sent":
         """A message with both."""
-        made = Sent(message)
-        made.tick, made.spot = tick, spot
-        return made
+        sent = Sent(message)
+        sent.tick, sent.spot = tick, spot
+        return sent
 
 
 class Heard(NamedTuple):
@@ -87,11 +87,11 @@ def _end(process: Process) -> Spot:
 
 def heard(walk: Played) -> list[Heard]:
     """All events in the order of the file."""
-    made: list[list[Made]] = [[] for _ in walk.begun]
+    events: list[list[Made]] = [[] for _ in walk.begun]
     for happening in walk.happenings:
-        made[happening.process] += _sent(happening)
+        events[happening.process] += _sent(happening)
     found = []
-    for process, own in enumerate(made):
+    for process, own in enumerate(events):
         spot = _end(walk.ended[process])
         for number, (tick, message) in reversed(list(enumerate(come_out(own, walk.tick_of_end(process))))):
             assert isinstance(message, Sent)
@@ -99,7 +99,7 @@ def heard(walk: Played) -> list[Heard]:
                 spot = message.spot
             # a note-off that was cut lies where what cut it does
             found.append(Heard(tick, process, number, bytes(message), message.spot if tick == message.tick else spot))
-    return sorted(found, key=lambda each: each[:3])
+    return sorted(found, key=lambda event: event[:3])
 
 
 class Axis:
@@ -110,19 +110,19 @@ class Axis:
         self.sections: dict[Level, Section] = {}
         lengths: dict[Level, int] = {}
         notes: dict[Level, int] = {}
-        for each in walk.happenings:
-            if each.levels and each.levels[0] not in left_out:
-                outer = each.levels[0]
-                end = _spot(each.levels, each.position + each.end - each.begin, True).position
+        for happening in walk.happenings:
+            if happening.levels and happening.levels[0] not in left_out:
+                outer = happening.levels[0]
+                end = _spot(happening.levels, happening.position + happening.end - happening.begin, True).position
                 lengths[outer] = max(lengths.get(outer, 0), end)
-                notes[outer] = notes.get(outer, 0) + len(each.values)
+                notes[outer] = notes.get(outer, 0) + len(happening.values)
         begin = behind = 0
         taken: list[Section] = []
-        for level in sorted(lengths, key=lambda each: (-notes[each], each.begin)):
+        for level in sorted(lengths, key=lambda level: (-notes[level], level.begin)):
             section = Section(0, level, lengths[level])
             if all(section.until <= other.tick or other.until <= section.tick for other in taken):
                 taken.append(section)
-        for section in sorted(taken, key=lambda each: (each.tick, each.until)):
+        for section in sorted(taken, key=lambda section: (section.tick, section.until)):
             begin += section.tick - behind
             self.sections[section.level] = section._replace(begin=begin + lead)
             begin, behind = begin + section.length, section.until
@@ -131,7 +131,7 @@ class Axis:
     def near(self, place: int) -> Section:
         """The last section that begins at a place or before it, else the first one."""
         found = list(self.sections.values())
-        return next((each for each in reversed(found) if each.begin <= place), found[0])
+        return next((section for section in reversed(found) if section.begin <= place), found[0])
 
     def of(self, spot: Spot) -> Optional[int]:
         """Where a place lies on the grid; None where the tempo of others is no grid for it."""

@@ -40,9 +40,9 @@ def _times(listing: Listing) -> dict[tuple[int, int, int], list[Fraction]]:
     return {key: sorted(several) for key, several in found.items()}
 
 
-def checked(proved: Listing, made: Listing) -> Checked:
+def checked(proved: Listing, written: Listing) -> Checked:
     """Whether each note of one file begins and ends within a millisecond of the other's."""
-    wanted, got = _times(proved), _times(made)
+    wanted, got = _times(proved), _times(written)
     notes = off = 0
     most, first = Fraction(0), ""
     for (channel, key, kind), times in sorted(wanted.items()):

@@ -36,7 +36,7 @@ def grid_of(walk: Played, meter: Meter) -> Grid:
     left_out: frozenset[Level] = frozenset()
     while True:
         axis = Axis(walk, 0, left_out)
-        if any(axis.of(each.spot) == 0 and each.tick > 0 for each in events):
+        if any(axis.of(event.spot) == 0 and event.tick > 0 for event in events):
             axis = Axis(walk, meter.start(2) - meter.start(1), left_out)
         making = _Making(walk, axis, [*events, last])
         if making.tempos.missed is None or not axis.sections:
@@ -48,7 +48,7 @@ def grid_of(walk: Played, meter: Meter) -> Grid:
 class _Making:
     def __init__(self, walk: Played, axis: Axis, events: list[Heard]):
         self.axis, self.division, self.events = axis, walk.reading.division, events
-        self.direct = [axis.of(each.spot) for each in events]
+        self.direct = [axis.of(event.spot) for event in events]
         self.moved: dict[tuple[int, int], int] = {}
         regions = [Region(begin, end, PLAIN * part.first // 1000 if part.kind == "flat" else None)
                    for begin, end, part in axis.stretches()]
@@ -57,12 +57,12 @@ class _Making:
     def points(self) -> list[Point]:
         """The places of the grid with their times; of a place that has two, the earlier one comes shortly before."""
         at: dict[int, dict[int, Point]] = {0: {0: Point(0, 0, 0)}}
-        for each, place in zip(self.events, self.direct):
-            if place is not None and place not in at or place is not None and each.tick not in at[place]:
-                aim = each.tick * PLAIN
-                if each.spot.level is not None:
-                    aim += int(self.axis.exactly(each.spot) * PLAIN) - PLAIN // 2
-                at.setdefault(place, {})[each.tick] = Point(place, each.tick * PLAIN, aim)
+        for event, place in zip(self.events, self.direct):
+            if place is not None and place not in at or place is not None and event.tick not in at[place]:
+                aim = event.tick * PLAIN
+                if event.spot.level is not None:
+                    aim += int(self.axis.exactly(event.spot) * PLAIN) - PLAIN // 2
+                at.setdefault(place, {})[event.tick] = Point(place, event.tick * PLAIN, aim)
         found: list[Point] = []
         for place in sorted(at):
             *earlier, latest = [at[place][tick] for tick in sorted(at[place])]
@@ -77,19 +77,19 @@ class _Making:
     def made(self) -> Grid:
         """The whole."""
         found = self.tempos
-        beside = [each for each, place in zip(self.events, self.direct) if place is None]
-        slowest = max([found.tempo_at(each.tick * PLAIN) for each in beside], default=0)
+        beside = [event for event, place in zip(self.events, self.direct) if place is None]
+        slowest = max([found.tempo_at(event.tick * PLAIN) for event in beside], default=0)
         times = max(1, min(-(-slowest // (1200 * self.division)), _MOST_TICKS // self.division))
         placed = []
-        for each, place in zip(self.events, self.direct):
+        for event, place in zip(self.events, self.direct):
             if place is None:
-                placed.append((round(times * found.place(each.tick * PLAIN)), each))
+                placed.append((round(times * found.place(event.tick * PLAIN)), event))
             else:
-                placed.append((times * self.moved.get((place, each.tick * PLAIN), place), each))
+                placed.append((times * self.moved.get((place, event.tick * PLAIN), place), event))
         *events, (end, _) = placed
         end = max([end, *(tick for tick, _ in events)])
         changes = tuple((times * place, tempo) for place, tempo in found.changes)
-        notes = sum(each.message[:1] != b"" for each in beside) + len(self.moved)
+        notes = sum(event.message[:1] != b"" for event in beside) + len(self.moved)
         return Grid(times * self.division, changes, tuple(events), end, times * self.axis.lead, notes)
 
 

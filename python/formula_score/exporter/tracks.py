@@ -61,19 +61,19 @@ def staves(walk: Played, events: list[Heard]) -> list[Staff]:
             if not name_of.get(place.number):
                 name_of[place.number] = _said(walk.reading, block) or _phrase(block.statements)
     groups: dict[tuple[Optional[int], int], list[Heard]] = {}
-    for each in events:
-        groups.setdefault((branch_of[each.process], each.message[0] & 15), []).append(each)
+    for event in events:
+        groups.setdefault((branch_of[event.process], event.message[0] & 15), []).append(event)
     for (branch, channel), own in list(groups.items()):
         other = next((key for key in groups if key[0] is not None and key[1] == channel), None)
         if branch is None and other is not None:  # what stands round a `par` goes to its branch of the same channel
             groups[other] += groups.pop((branch, channel))
     whole = _phrase(walk.reading.statements)
     found = []
-    for (branch, channel), own in sorted(groups.items(), key=lambda each: (each[0][0] is None, each[0])):
+    for (branch, channel), own in sorted(groups.items(), key=lambda item: (item[0][0] is None, item[0])):
         name = name_of[branch] if branch is not None else whole
         several = sum(key[0] == branch for key in groups) > 1
         name = name or (f"branch {branch + 1}" if branch is not None else "score")
-        program = next((each.message[1] for each in sorted(own) if each.message[0] >> 4 == 0xC), None)
+        program = next((event.message[1] for event in sorted(own) if event.message[0] >> 4 == 0xC), None)
         found.append(Staff(f"{name}, channel {channel}" if several else name,
                            INSTRUMENTS[program] if program is not None and channel != 9 else "", tuple(own)))
     return found

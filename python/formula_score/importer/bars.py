@@ -27,7 +27,7 @@ def bar_lines(piece: Piece) -> list[int]:
     """The ticks at which bars begin, by the time signatures, else by 4/4; the last one is not before the end. A piece
     of very many bars is taken as one."""
     whole = 4 * piece.division * piece.longer
-    meters = [each for each in piece.meters if whole * each.over >= each.under]
+    meters = [meter for meter in piece.meters if whole * meter.over >= meter.under]
     if not meters or meters[0].tick > 0:
         meters.insert(0, Meter(0, 4, 4))
     lines: list[int] = []
@@ -85,8 +85,8 @@ class _Spelling:
         most = min(following - begin, MAX_LENGTH)
         if sounds < most and self.whole // gcd(self.whole, sounds) <= 32:
             return sounds
-        named = next((each for each in reversed(self.values)
-                      if sounds <= each < most and percents(each, sounds) is not None), None)
+        named = next((value for value in reversed(self.values)
+                      if sounds <= value < most and percents(value, sounds) is not None), None)
         return named or fitting(most, sounds) or most
 
     def lengths(self, begin: int, sounds: int, following: int, behind: int) -> Iterator[int]:
@@ -103,14 +103,14 @@ class _Spelling:
         """The note value of a note that is much shorter than the time to what follows."""
         if self.channel == DRUMS or 5 * sounds >= length or 4 * length < self.whole:
             return None
-        return next((each for each in self.values if sounds <= each < length and percents(each, sounds)), None)
+        return next((value for value in self.values if sounds <= value < length and percents(value, sounds)), None)
 
 
 def bars_of(voice: Voice, lines: Sequence[int], piece: Piece, channel: int) -> list[Bar]:
     """The bars of a voice, to the end of the piece."""
     spelled = _Spelling(lines, 4 * piece.division, channel, piece.end)
-    items: list[tuple[int, int, Union[Message, Chord]]] = [(each.tick, 0, each) for each in voice.messages]
-    items += [(each.begin, 1, each) for each in voice.chords]
+    items: list[tuple[int, int, Union[Message, Chord]]] = [(message.tick, 0, message) for message in voice.messages]
+    items += [(chord.begin, 1, chord) for chord in voice.chords]
     items.sort(key=lambda item: item[:2])
     for place, (tick, _, item) in enumerate(items):
         spelled.rest_until(tick)

@@ -75,12 +75,12 @@ def nodes_of(atoms: Sequence[Atom], defaults: Defaults, spelled: Spelled, is_den
                      ((loud, defaults.velocity), (artic, defaults.percent)))
     comma = "," if is_dense else ", "
 
-    def heads(word: str, one: str, passage: Passage) -> str:
+    def heads(word: str, single: str, passage: Passage) -> str:
         if len(passage.values) == 1:
-            return f"{one} {passage.values[0]}"
+            return f"{single} {passage.values[0]}"
         return f"{word} [{comma.join(map(str, passage.values))}]"
 
-    is_loud_outside = sum(not each.is_plain for each in louds) <= sum(not each.is_plain for each in artics)
+    is_loud_outside = sum(not passage.is_plain for passage in louds) <= sum(not passage.is_plain for passage in artics)
     outer, inner = (louds, artics) if is_loud_outside else (artics, louds)
     inner_ranges, inner_default = (artic, defaults.percent) if is_loud_outside else (loud, defaults.velocity)
     words = (("loud", "volume"), ("artic", "gate"))
@@ -88,9 +88,9 @@ def nodes_of(atoms: Sequence[Atom], defaults: Defaults, spelled: Spelled, is_den
     found: list[Node] = []
     for passage in outer:
         held: list[Node] = []
-        for each in split(inner, passage.begin, passage.end, inner_ranges, inner_default):
-            nodes = loops(atoms[each.begin:each.end], spelled)
-            held += nodes if each.is_plain else _round(heads(*inner_words, each), nodes)
+        for piece in split(inner, passage.begin, passage.end, inner_ranges, inner_default):
+            nodes = loops(atoms[piece.begin:piece.end], spelled)
+            held += nodes if piece.is_plain else _round(heads(*inner_words, piece), nodes)
         found += held if passage.is_plain else _round(heads(*outer_words, passage), held)
     return found
 
@@ -118,19 +118,19 @@ def loops(atoms: Sequence[Atom], spelled: Spelled) -> list[Node]:
     at, begun = 0, 0  # places in `real`, and in `atoms`
     while at < len(real):
         best, width, count = 0, 0, 0
-        for each in range(1, min(_LONGEST_LOOP, (len(real) - at) // 2) + 1):
+        for size in range(1, min(_LONGEST_LOOP, (len(real) - at) // 2) + 1):
             times = 1
-            while all(at + times * each + k < len(real)
-                      and texts[real[at + times * each + k]] == texts[real[at + k]] for k in range(each)):
+            while all(at + times * size + offset < len(real)
+                      and texts[real[at + times * size + offset]] == texts[real[at + offset]] for offset in range(size)):
                 times += 1
-            times = _whole_rounds(real, at, each, times)
-            gain = (times - 1) * sum(len(texts[real[at + k]]) + 1 for k in range(each)) - 14
+            times = _whole_rounds(real, at, size, times)
+            gain = (times - 1) * sum(len(texts[real[at + offset]]) + 1 for offset in range(size)) - 14
             if times > 1 and gain > best:
-                best, width, count = gain, each, times
+                best, width, count = gain, size, times
         if best > 6:
             first, last = real[at], real[at + width * count - 1] + 1
             found += rhythms(atoms[begun:first], spelled)
-            body = [atoms[real[at + k]] for k in range(width)]
+            body = [atoms[real[at + offset]] for offset in range(width)]
             found.append(repeated(count, tuple(rhythms(body, spelled))))
             at += width * count
             begun = last
@@ -166,8 +166,8 @@ def rhythms(atoms: Sequence[Atom], spelled: Spelled) -> list[Node]:
         if isinstance(atom, (Sound, Silence)):
             upto, entries = _rhythm(atoms, at, spelled)
             if entries:
-                held: list[Node] = [each if isinstance(each, Mark) else Plain(spelled.text(each, True))
-                                    for each in atoms[at:upto]]
+                held: list[Node] = [atom if isinstance(atom, Mark) else Plain(spelled.text(atom, True))
+                                    for atom in atoms[at:upto]]
                 found += _round(f"rhythm [{', '.join(map(spelled.length, entries))}]", held)
                 at = upto
                 continue
@@ -211,8 +211,8 @@ def _rhythm(atoms: Sequence[Atom], begin: int, spelled: Spelled) -> tuple[int, t
         while count < len(lengths) and lengths[count] == lengths[count - width]:
             count += 1
         count = _whole_bars(atoms, begin, places, count)
-        saved = sum(len(spelled.length(each)) + 1 for each in lengths[:count])
-        gain = saved - sum(len(spelled.length(each)) + 2 for each in lengths[:width]) - 13
+        saved = sum(len(spelled.length(length)) + 1 for length in lengths[:count])
+        gain = saved - sum(len(spelled.length(length)) + 2 for length in lengths[:width]) - 13
         if count >= 2 * width and gain > best:
             best, upto, entries = gain, places[count - 1] + 1, tuple(lengths[:width])  # type: ignore[assignment]
     return upto, entries

@@ -26,7 +26,7 @@ class Compared(NamedTuple):
 def _sent(listing: Listing) -> list[_Sent]:
     """The notes, control changes, programs and bends, in the order in which they are sent; a note-off by its key."""
     found = []
-    for event in sorted(listing.events, key=lambda each: (each.tick, each.track)):
+    for event in sorted(listing.events, key=lambda event: (event.tick, event.track)):
         status, data = event.message[0], event.message[1:]
         if status >> 4 == 9 and data[1] == 0:
             status -= 0x10
@@ -45,22 +45,22 @@ def _orders(sent: list[_Sent]) -> Counter[tuple[object, ...]]:
     """Of each channel and tick what is heard of the order: of each key's note-ons and note-offs, of messages, and how
     many messages stand before each note-on and note-off."""
     ticks: dict[tuple[int, int], list[_Sent]] = defaultdict(list)
-    for each in sent:
-        ticks[each[0], each[1] & 15].append(each)
+    for event in sent:
+        ticks[event[0], event[1] & 15].append(event)
     found: Counter[tuple[object, ...]] = Counter()
     for place, several in ticks.items():
         if len(several) == 1:
             continue
         messages: list[_Sent] = []
         keys: dict[int, list[int]] = defaultdict(list)
-        for each in several:
-            kind = each[1] >> 4
+        for event in several:
+            kind = event[1] >> 4
             if kind in (8, 9):
-                found[(*place, kind, each[2], len(messages))] += 1
-                keys[each[2][0]].append(kind)
+                found[(*place, kind, event[2], len(messages))] += 1
+                keys[event[2][0]].append(kind)
             else:
-                messages.append(each)
-                found[(*place, 0, each[1:], len(messages))] += 1
+                messages.append(event)
+                found[(*place, 0, event[1:], len(messages))] += 1
         for key, kinds in keys.items():
             if len(kinds) > 1:
                 found[(*place, 1, key, tuple(kinds))] += 1
@@ -88,7 +88,7 @@ def compared(file: Listing, piece: Piece, played: Listing) -> Compared:
     elif file.end != played.end:
         differing, first = 1, f"the end is at tick {played.end}, in the file at {file.end}"
     idle = Counter({(tick, status, bytes([key])): count for (tick, status, key), count in piece.idle.items()})
-    kept = [each for each in sent if not idle[each]]
+    kept = [event for event in sent if not idle[event]]
     orders = _orders(kept) - _orders(got)
     early = sum(count for order, count in orders.items() if order[2] == 8)
     return Compared(sum(wanted.values()), differing, first or "", early, sum(orders.values()) - early)

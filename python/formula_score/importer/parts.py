@@ -93,7 +93,7 @@ def _text(data: bytes) -> str:
     while data[start] & 0x80:
         start += 1
     plain = data[start + 1:].decode("latin-1")
-    return " ".join("".join(c if " " <= c <= "~" else " " for c in plain).split())
+    return " ".join("".join(sign if " " <= sign <= "~" else " " for sign in plain).split())
 
 
 def _add_track(piece: Piece, number: int, events: list[tuple[int, bytes]], form: int) -> None:

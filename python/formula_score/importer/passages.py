@@ -59,9 +59,9 @@ def passages(ranges: Ranges, default: int, lines: set[int], most: int) -> list[P
     for at, wanted in enumerate(ranges):
         if not wanted:
             continue
-        cost, step = min(best.values(), key=lambda each: each[0])
-        low, high = max(each[0] for each in wanted), min(each[1] for each in wanted)
-        is_free = all(each[0] <= default <= each[1] for each in wanted)
+        cost, step = min(best.values(), key=lambda step: step[0])
+        low, high = max(limits[0] for limits in wanted), min(limits[1] for limits in wanted)
+        is_free = all(limits[0] <= default <= limits[1] for limits in wanted)
         new: dict[str, tuple[float, _Step]] = {}
         if is_free:
             new["plain"] = best["plain"] if best.get("plain", (1e18,))[0] <= cost else (
@@ -73,13 +73,13 @@ def passages(ranges: Ranges, default: int, lines: set[int], most: int) -> list[P
                 narrow = max(low, old.range[0]), min(high, old.range[1])
                 if narrow[0] <= narrow[1] and own <= cost + _BLOCK:
                     new["block"] = (own, old._replace(range=narrow))
-        entries = sum(len(str(best_percent(*each, default))) + 2 for each in wanted)
+        entries = sum(len(str(best_percent(*limits, default))) + 2 for limits in wanted)
         new["list"] = (cost + _LIST + entries, _Step("list", at, step, (0, 0)))
         if "list" in best and best["list"][0] <= cost + _LIST:
             new["list"] = (best["list"][0] + entries, best["list"][1])
         best = new
     found: list[Passage] = []
-    end, last = len(ranges), min(best.values(), key=lambda each: each[0])[1]
+    end, last = len(ranges), min(best.values(), key=lambda step: step[0])[1]
     step_now: Optional[_Step] = last
     while step_now is not None:
         begin = step_now.begin
@@ -97,7 +97,7 @@ def _valued(step: _Step, begin: int, end: int, ranges: Ranges, default: int) -> 
         return Passage(begin, end, ())
     if step.kind == "block":
         return Passage(begin, end, (best_percent(*step.range, default),))
-    return Passage(begin, end, tuple(best_percent(*each, default) for wanted in ranges[begin:end] for each in wanted))
+    return Passage(begin, end, tuple(best_percent(*limits, default) for wanted in ranges[begin:end] for limits in wanted))
 
 
 def _short_enough(whole: Passage, ranges: Ranges, lines: set[int], most: int) -> list[Passage]:
@@ -120,17 +120,17 @@ def _short_enough(whole: Passage, ranges: Ranges, lines: set[int], most: int) ->
         upto, taken = (line, at_line) if line > begin else (max(end, begin + 1), taken)
         pieces.append(Passage(begin, upto, period(whole.values[first:taken])))
         begin, first = upto, taken
-    return [each._replace(values=each.values[:1]) if len(set(each.values)) == 1 else each for each in pieces]
+    return [piece._replace(values=piece.values[:1]) if len(set(piece.values)) == 1 else piece for piece in pieces]
 
 
 def period(values: tuple[int, ...]) -> tuple[int, ...]:
     """The first of the values, as many as go round through all of them."""
     fail = [0] * len(values)
     for at in range(1, len(values)):
-        k = fail[at - 1]
-        while k and values[at] != values[k]:
-            k = fail[k - 1]
-        fail[at] = k + (values[at] == values[k])
+        length = fail[at - 1]
+        while length and values[at] != values[length]:
+            length = fail[length - 1]
+        fail[at] = length + (values[at] == values[length])
     return values[:len(values) - fail[-1]] if values else values
 
 
@@ -138,14 +138,14 @@ def split(inner: list[Passage], begin: int, end: int, ranges: Ranges,
            default: int) -> list[Passage]:
     """What of the passages lies between two atoms."""
     found = []
-    for each in inner:
-        low, high = max(each.begin, begin), min(each.end, end)
+    for passage in inner:
+        low, high = max(passage.begin, begin), min(passage.end, end)
         if low >= high:
             continue
-        if len(each.values) > 1 and (low, high) != (each.begin, each.end):
-            wanted = [one for some in ranges[low:high] for one in some]
-            values = period(tuple(best_percent(*one, default) for one in wanted))
+        if len(passage.values) > 1 and (low, high) != (passage.begin, passage.end):
+            wanted = [limits for of_atom in ranges[low:high] for limits in of_atom]
+            values = period(tuple(best_percent(*limits, default) for limits in wanted))
             found.append(Passage(low, high, values))
         else:
-            found.append(each._replace(begin=low, end=high))
+            found.append(passage._replace(begin=low, end=high))
     return found

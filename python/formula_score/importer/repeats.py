@@ -36,7 +36,7 @@ class Numbers:
 
     def flat_row(self, row: int) -> list[int]:
         """The bars of a row as they are played."""
-        return [bar for each in self.rows[row] for bar in self.flat(each)]
+        return [bar for number in self.rows[row] for bar in self.flat(number)]
 
     def add(self, bars: Sequence[int]) -> int:
         """A row for a sequence of bars, with loops; the row's number."""
@@ -46,7 +46,7 @@ class Numbers:
         return row
 
     def _text(self, run: Sequence[int]) -> int:
-        return sum(self.sizes[each] for each in run)
+        return sum(self.sizes[number] for number in run)
 
     def _looped(self, bars: list[int]) -> list[int]:
         found: list[int] = []
@@ -112,11 +112,11 @@ class Numbers:
         used: set[tuple[int, int]] = set()
         taken: dict[int, dict[int, int]] = defaultdict(dict)  # of each row, where a run begins, and its number
         for _, found, run in gains:
-            free = [(row, at) for row, at in found if all((row, at + k) not in used for k in range(width))]
+            free = [(row, at) for row, at in found if all((row, at + offset) not in used for offset in range(width))]
             if self._gain(run, len(free)) <= _WORTH:
                 continue
             for row, at in free:
-                used.update((row, at + k) for k in range(width))
+                used.update((row, at + offset) for offset in range(width))
                 taken[row][at] = len(self.sizes)
             self.phrases[len(self.sizes)] = len(self.rows)
             self.sizes.append(_CALL)

@@ -16,7 +16,7 @@ class Scaled(NamedTuple):
 
     listing: Optional[Listing]
     longer: int
-    told: tuple[str, ...]
+    lines: tuple[str, ...]
 
 
 def scaled(listing: Listing, may_move: bool, may_be_longer: bool) -> Scaled:
@@ -37,12 +37,12 @@ def scaled(listing: Listing, may_move: bool, may_be_longer: bool) -> Scaled:
     moved = [(event, _scaled(event.tick, old, MOST)) for event in listing.events if event.message[0] < 0xF0]
     off = [abs(tick * old - event.tick * MOST) for event, tick in moved]
     most = max(off, default=0)
-    told = (f"{sum(each > 0 for each in off):,} of {len(off):,} events, by at most {most}/{old} of a tick, "
+    moves = (f"{sum(distance > 0 for distance in off):,} of {len(off):,} events, by at most {most}/{old} of a tick, "
             f"{500 * most / old / MOST:.2f} ms at 120 quarter notes a minute")
     if may_move:
-        return Scaled(_with(listing, MOST), 1, (f"{old} ticks a quarter note: written with {MOST}; moved are {told}",))
+        return Scaled(_with(listing, MOST), 1, (f"{old} ticks a quarter note: written with {MOST}; moved are {moves}",))
     lines = [f"{old} ticks a quarter note: a score has {LEAST} to {MOST}",
-             f"--scale writes it with {MOST}, and moves {told}"]
+             f"--scale writes it with {MOST}, and moves {moves}"]
     if longer:
         lines.append(f"--exact writes it with {old // longer}, each length {longer} times as long; no tick moves")
     return Scaled(None, 1, tuple(lines))

@@ -103,7 +103,7 @@ class Writer:
         """The whole text."""
         numbers = [[self.number(bar, branch.defaults) for bar in branch.bars] for branch in self.branches]
         self.whole_bars = Numbers(list(map(self.size, range(len(self.tokens)))), self.is_flat)
-        self.row_of = [self.whole_bars.add(each) for each in numbers]
+        self.row_of = [self.whole_bars.add(bars) for bars in numbers]
         self.whole_bars.name_runs()
         self._name_notes()
         return self._page()
@@ -114,14 +114,14 @@ class Writer:
         sizes = list(map(self.size_of_notes, range(len(self.plain))))
 
         def may_be_one(run: Sequence[int]) -> bool:
-            flat = [bar for each in run for bar in self.notes_alone.flat(each)]
+            flat = [bar for number in run for bar in self.notes_alone.flat(number)]
             return sum(counts[bar] for bar in flat) <= _MOST_SOUNDS
 
         self.notes_alone = Numbers(sizes, self.is_flat, may_be_one)
         self.run_at: dict[tuple[int, int], int] = {}
         for row, sequence in enumerate(self.whole_bars.rows):
             for at, upto in self._runs(sequence):
-                self.run_at[row, at] = self.notes_alone.add([self.notes[each] for each in sequence[at:upto]])
+                self.run_at[row, at] = self.notes_alone.add([self.notes[bar] for bar in sequence[at:upto]])
         self.notes_alone.name_runs()
 
     def _runs(self, sequence: Sequence[int]) -> Iterator[tuple[int, int]]:
@@ -216,16 +216,16 @@ class Writer:
         """The bars that have no name: as calls of phrases of notes alone, or as they are."""
         atoms: list[Atom] = []
         sequence = iter(self.whole_bars.rows[row][at:upto])
-        for each in self.notes_alone.rows[self.run_at[row, at]]:
-            flat = self.notes_alone.flat(each)
+        for number in self.notes_alone.rows[self.run_at[row, at]]:
+            flat = self.notes_alone.flat(number)
             if bars is not None:
                 atoms.append(_mark([next(bars) for _ in flat]))
             tokens = [token for bar in itertools.islice(sequence, len(flat)) for token in self.tokens[bar]]
-            if each < self.notes_alone.bars:
+            if number < self.notes_alone.bars:
                 atoms += tokens
             else:
                 sounds = tuple(token for token in tokens if isinstance(token, Sound))
-                atoms.append(self._call(each, branch, sounds))
+                atoms.append(self._call(number, branch, sounds))
         return _with_long_rests(atoms)
 
     def _call(self, number: int, branch: Branch, sounds: tuple[Sound, ...]) -> Call:
@@ -241,11 +241,11 @@ class Writer:
     def _notes(self, row: int, branch: Branch) -> list[Node]:
         """The statements of notes alone."""
         atoms: list[Atom] = []
-        for each in self.notes_alone.rows[row]:
-            if each < self.notes_alone.bars:
-                atoms += self.plain[each]
+        for number in self.notes_alone.rows[row]:
+            if number < self.notes_alone.bars:
+                atoms += self.plain[number]
             else:
-                atoms.append(self._call(each, branch, ()))
+                atoms.append(self._call(number, branch, ()))
         return loops(atoms, self.spelled)
 
     def _phrase(self, number: int, branch: Branch) -> str:

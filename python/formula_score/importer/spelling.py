@@ -48,10 +48,10 @@ def percents(length: int, sounds: int) -> Optional[tuple[int, int]]:
 def fitting(length: int, sounds: int) -> Optional[int]:
     """The greatest length up to this one of which some percent sounds so long."""
     least = max(1, -(-sounds // 4))
-    for each in range(length, least - 1, -1):
-        if percents(each, sounds) is not None:
-            return each
-        if each < length - 100 and each > sounds > 0:
+    for candidate in range(length, least - 1, -1):
+        if percents(candidate, sounds) is not None:
+            return candidate
+        if candidate < length - 100 and candidate > sounds > 0:
             return sounds
     return None
 

@@ -55,8 +55,8 @@ def chords_of(part: Part) -> list[Chord]:
     for (begin, _, end, velocity), notes in groups.items():
         notes.sort(key=lambda note: note.key)
         for at in range(0, len(notes), MOST_PITCHES):
-            some = tuple(notes[at:at + MOST_PITCHES])
-            chords.append(Chord(begin, end, velocity, tuple(note.key for note in some), some))
+            several = tuple(notes[at:at + MOST_PITCHES])
+            chords.append(Chord(begin, end, velocity, tuple(note.key for note in several), several))
     chords.sort(key=lambda chord: (chord.begin, chord.notes[0].on))
     return chords
 
@@ -76,7 +76,7 @@ class _Ends:
         low, high = 0, len(voices)
         for note in chord.notes:
             for off, voice in self.at.get((note.begin, note.key), ()):
-                place = next(at for at, each in enumerate(voices) if each is voice)
+                place = next(at for at, other in enumerate(voices) if other is voice)
                 if off < note.on:
                     low = max(low, place)
                 else:
@@ -107,7 +107,7 @@ def voices_of(part: Part) -> list[Voice]:
         while upto < len(chords) and chords[upto].begin == chords[at].begin:
             upto += 1
         taken: list[Voice] = []
-        for chord in sorted(chords[at:upto], key=lambda each: -each.keys[-1]):
+        for chord in sorted(chords[at:upto], key=lambda chord: -chord.keys[-1]):
             taken.append(_place(voices, ends, chord, taken))
         at = upto
     _Messages(part, voices).place()
@@ -118,7 +118,7 @@ def _place(voices: list[Voice], ends: _Ends, chord: Chord, taken: list[Voice]) -
     low, high = ends.bounds(chord, voices)
     best, least = None, _NEW_VOICE
     for place, voice in enumerate(voices):
-        if low <= place <= high and not any(voice is each for each in taken):
+        if low <= place <= high and not any(voice is other for other in taken):
             cost = _cost(voice, chord)
             if cost is not None and cost < least:
                 best, least = voice, cost
@@ -165,7 +165,7 @@ class _Messages:
         after = max([place for off, place in self.offs[tick] if off < first], default=0)
         before = min([place for off, place in self.offs[tick] if off > last], default=len(self.voices) + 1)
         strict = max(low, after), min(high, before - 1)
-        is_pedal = any(each.status >> 4 == 0xB and each.data[0] in _PEDALS for each in messages)
+        is_pedal = any(message.status >> 4 == 0xB and message.data[0] in _PEDALS for message in messages)
         for least, most in (strict, *([] if is_pedal else [(low, high)])):
             for place in range(least, min(most, len(self.voices) - 1) + 1):
                 if self.stands(place, tick):

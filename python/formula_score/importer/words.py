@@ -25,9 +25,9 @@ def defaults_of(bars: Sequence[Bar]) -> Defaults:
                 ranges[token.low, token.high] += 1
     sounds = sum(velocities.values())
     velocity, most = velocities.most_common(1)[0] if velocities else (64, 0)
-    percents = [sum(count for (low, high), count in ranges.items() if low <= each <= high) for each in range(401)]
-    percent = min((each for each in range(401) if percents[each] == max(percents)),
-                  key=lambda each: (each != 90, each % 100 != 0, each % 10 != 0, each % 5 != 0, each))
+    percents = [sum(count for (low, high), count in ranges.items() if low <= percent <= high) for percent in range(401)]
+    percent = min((percent for percent in range(401) if percents[percent] == max(percents)),
+                  key=lambda percent: (percent != 90, percent % 100 != 0, percent % 10 != 0, percent % 5 != 0, percent))
     return Defaults(velocity if 3 * most >= sounds else 64, percent if 3 * max(percents) >= sounds else 90)
 
 
@@ -70,4 +70,4 @@ def tempo_parts(piece: Piece) -> list[tuple[int, int]]:
 
 
 def plain(name: str) -> str:
-    return "".join(c if " " <= c <= "~" else "?" for c in name)
+    return "".join(sign if " " <= sign <= "~" else "?" for sign in name)

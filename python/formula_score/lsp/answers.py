@@ -73,8 +73,8 @@ class Text:
     def references(self, position: Value, with_definition: bool) -> list[Value]:
         """All places of the name at a place."""
         use = use_at(self.data, self.byte(position))
-        return [{"uri": self.uri, "range": self.range(each.start, each.end)}
-                for each in (same_name(self.data, use) if use else ()) if with_definition or not each.defines]
+        return [{"uri": self.uri, "range": self.range(place.start, place.end)}
+                for place in (same_name(self.data, use) if use else ()) if with_definition or not place.defines]
 
     def symbols(self) -> list[Value]:
         """The outline."""
@@ -97,7 +97,7 @@ class Text:
         found = renamed(self.data, self.byte(position), name)
         if isinstance(found, str):
             raise ValueError(found)
-        return {"changes": {self.uri: [{"range": self.range(each.start, each.end), "newText": name} for each in found]}}
+        return {"changes": {self.uri: [{"range": self.range(use.start, use.end), "newText": name} for use in found]}}
 
 
 def _kind(text: str) -> int:

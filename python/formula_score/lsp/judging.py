@@ -25,14 +25,14 @@ class Judge:
         self._number = 0
         self._run: Optional["subprocess.Popen[bytes]"] = None
 
-    def judge(self, text: bytes, told: Told) -> None:
+    def judge(self, text: bytes, answer: Told) -> None:
         """Begins to judge a text, and ends what runs for an older one, which then is not told."""
         with self._lock:
             self._number += 1
             number = self._number
             if self._run is not None:
                 self._run.kill()
-        threading.Thread(target=self._judge, args=(text, number, told), daemon=True).start()
+        threading.Thread(target=self._judge, args=(text, number, answer), daemon=True).start()
 
     def stop(self) -> None:
         """Ends what runs; nothing more is told."""
@@ -41,7 +41,7 @@ class Judge:
             if self._run is not None:
                 self._run.kill()
 
-    def _judge(self, text: bytes, number: int, told: Told) -> None:
+    def _judge(self, text: bytes, number: int, answer: Told) -> None:
         with tempfile.TemporaryDirectory() as folder:
             source = os.path.join(folder, "in.score")
             with open(source, "wb") as file:
@@ -61,7 +61,7 @@ class Judge:
         refusal = refused(text, place) if place else None
         with self._lock:
             if number == self._number:
-                told(refusal)
+                answer(refusal)
 
 
 def program_for_judging() -> Optional[str]:

@@ -75,19 +75,19 @@ class Server:
 
     # ---- documents
 
-    def did_open(self, told: Value) -> None:
+    def did_open(self, notice: Value) -> None:
         """A document is open."""
-        document = told["textDocument"]
+        document = notice["textDocument"]
         self._take(Text(document["uri"], document.get("version"), document["text"]))
 
-    def did_change(self, told: Value) -> None:
+    def did_change(self, notice: Value) -> None:
         """A document has another text."""
-        document = told["textDocument"]
-        self._take(Text(document["uri"], document.get("version"), told["contentChanges"][-1]["text"]))
+        document = notice["textDocument"]
+        self._take(Text(document["uri"], document.get("version"), notice["contentChanges"][-1]["text"]))
 
-    def did_close(self, told: Value) -> None:
+    def did_close(self, notice: Value) -> None:
         """A document is closed; nothing is said of it any more."""
-        uri = told["textDocument"]["uri"]
+        uri = notice["textDocument"]["uri"]
         self.texts.pop(uri, None)
         judge = self.judges.pop(uri, None)
         if judge:

@@ -24,7 +24,7 @@ class Example(NamedTuple):
 
 def place() -> Optional[pathlib.Path]:
     """The folder with the examples: of the repository, or where a package has put them."""
-    return next((each for each in _PLACES if (each / "scores").is_dir()), None)
+    return next((place for place in _PLACES if (place / "scores").is_dir()), None)
 
 
 def listed() -> list[Example]:
@@ -46,6 +46,6 @@ def _about(data: bytes) -> str:
 def read(folder: str, name: str) -> Optional[bytes]:
     """The bytes of one of them; None for any other name."""
     home = place()
-    if home is None or not any((each.folder, each.name) == (folder, name) for each in listed()):
+    if home is None or not any((example.folder, example.name) == (folder, name) for example in listed()):
         return None
     return (home / folder / os.path.basename(name)).read_bytes()

@@ -75,12 +75,12 @@ class Folder:
     def _found(self) -> Iterator[str]:
         count = 0
         for place, folders, files, descriptor in os.fwalk(".", dir_fd=self._root, follow_symlinks=False):
-            folders[:] = sorted(each for each in folders if not each.startswith("."))
+            folders[:] = sorted(name for name in folders if not name.startswith("."))
             if place.count("/") >= _DEEPEST:
                 folders.clear()
-            for each in sorted(files):
-                name = os.path.normpath(os.path.join(place, each))
-                if each.endswith(ENDING) and not each.startswith(".") and _is_text(name) and _is_plain(each, descriptor):
+            for file in sorted(files):
+                name = os.path.normpath(os.path.join(place, file))
+                if file.endswith(ENDING) and not file.startswith(".") and _is_text(name) and _is_plain(file, descriptor):
                     count += 1
                     yield name
             if count >= MOST_NAMES:

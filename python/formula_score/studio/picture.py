@@ -56,18 +56,18 @@ class Sent(NamedTuple):
 
 def sent(walk: Played) -> list[Sent]:
     """All events in the order of the file."""
-    made: list[list[tuple[int, bytes]]] = [[] for _ in walk.begun]
+    events: list[list[tuple[int, bytes]]] = [[] for _ in walk.begun]
     for number, happening in enumerate(walk.happenings):
         for tick, message in messages_of(happening):
             tagged = _Tagged(message)
             tagged.happening = number
-            made[happening.process].append((tick, tagged))
+            events[happening.process].append((tick, tagged))
     found: list[Sent] = []
-    for process, own in enumerate(made):
+    for process, own in enumerate(events):
         for number, (tick, message) in enumerate(come_out(own, walk.tick_of_end(process))):
             assert isinstance(message, _Tagged)
             found.append(Sent(tick, process, number, message, message.happening))
-    found.sort(key=lambda each: each[:3])
+    found.sort(key=lambda event: event[:3])
     return found
 
 
@@ -92,7 +92,7 @@ class Picture:
             with open(target, encoding="ascii") as listing:
                 lines = listing.read().split("\n")[1:-1]
         heard = [line for line in lines if " FF " not in line]
-        expected = [f"0 {each.tick} {each.message.hex(' ').upper()}" for each in self.events]
+        expected = [f"0 {event.tick} {event.message.hex(' ').upper()}" for event in self.events]
         end = f"0 {self.walk.tick_of_end(len(self.walk.begun) - 1)} FF 2F 00"
         if heard != expected or lines[-1:] != [end]:
             raise Failed(1, "the companion reads this score otherwise than the program plays it: this is a fault of "
@@ -102,8 +102,8 @@ class Picture:
         """Each process with the ticks of its beginning and its end, what it waits for, and its name."""
         walk = self.walk
         ends = [walk.ended[number] for number in range(len(walk.begun))]
-        spots = [Spot(number, each.levels, each.position) for both in (walk.begun, ends)
-                 for number, each in enumerate(both)]
+        spots = [Spot(number, spot.levels, spot.position) for both in (walk.begun, ends)
+                 for number, spot in enumerate(both)]
         ticks = ticks_of(self.reading, spots)
         return [{"begin": ticks[number], "end": ticks[len(ends) + number], "waits": walk.waits_for[number],
                  "name": process_name(walk, number), "levels": len(walk.begun[number].levels)}
@@ -113,8 +113,8 @@ class Picture:
         """32-bit numbers: of each event the process, then the happening, then the event that ends or begins its note;
         of each happening the line, and then the character in it, both from 0."""
         places = self.places
-        spots = [places.position(each.statement.first.start) for each in self.walk.happenings]
-        columns = ([each.process for each in self.events], [each.happening for each in self.events], self.partners,
+        spots = [places.position(happening.statement.first.start) for happening in self.walk.happenings]
+        columns = ([event.process for event in self.events], [event.happening for event in self.events], self.partners,
                    [spot.line for spot in spots], [spot.character for spot in spots])
         return b"".join(array("i", column).tobytes() for column in columns)
 
@@ -136,7 +136,7 @@ class Picture:
         starts = [meter.start(bar) for bar in numbers]
         spots = spots_of(self.walk, [*starts, *beats])
         known = [at for at, spot in enumerate(spots) if spot is not None]
-        ticks = dict(zip(known, ticks_of(self.reading, [each for each in spots if each is not None])))
+        ticks = dict(zip(known, ticks_of(self.reading, [spot for spot in spots if spot is not None])))
         return {"bars": [[ticks[at], bar] for at, bar in enumerate(numbers) if at in ticks],
                 "beats": [ticks[at] for at in range(len(numbers), len(spots)) if at in ticks],
                 "first": first, "last": behind - 1}
@@ -145,7 +145,7 @@ class Picture:
         """What is known of a note, as names and words."""
         on, off = self.events[event], self.partners[event]
         of = self.walk.happenings[on.happening]
-        number = sum(1 for each in self.events[:event] if each.process == on.process and _is_on(each.message)) + 1
+        number = sum(1 for earlier in self.events[:event] if earlier.process == on.process and _is_on(earlier.message)) + 1
         written = of.begin + (of.end - of.begin) * of.percent // 100
         second = 2 * self.reading.division
         rows = [["Note", f"{names.note(of.channel, on.message[1])}, key {on.message[1]}, velocity {on.message[2]}, "
@@ -179,12 +179,12 @@ class Picture:
     def _nests(self, process: int) -> list[tuple[tuple[Level, ...], int, int]]:
         """Those that no other is further inside of, each from the tick where it is first played to the last."""
         spans: dict[tuple[tuple[int, str], ...], tuple[tuple[Level, ...], int, int]] = {}
-        for each in self.walk.happenings:
-            if each.process == process and each.levels:
-                key = tuple((level.written, level.shape.name.text) for level in each.levels)
-                begin = tick_of(each.levels, each.position)
-                end = tick_of(each.levels, each.position + each.end - each.begin)
-                known = spans.get(key, (each.levels, begin, end))
+        for happening in self.walk.happenings:
+            if happening.process == process and happening.levels:
+                key = tuple((level.written, level.shape.name.text) for level in happening.levels)
+                begin = tick_of(happening.levels, happening.position)
+                end = tick_of(happening.levels, happening.position + happening.end - happening.begin)
+                known = spans.get(key, (happening.levels, begin, end))
                 spans[key] = (known[0], min(begin, known[1]), max(end, known[2]))
         keys = [key for key in spans if not any(other[:len(key)] == key and other != key for other in spans)]
         return [spans[key] for key in keys]
@@ -211,12 +211,12 @@ def _partners(events: Sequence[Sent]) -> list[int]:
     """Of each note-on the note-off of the same note, and the other way round; of others -1."""
     found = [-1] * len(events)
     sounding: dict[tuple[int, int, int], list[int]] = {}
-    for at, each in enumerate(events):
-        kind = each.message[0] >> 4
+    for at, event in enumerate(events):
+        kind = event.message[0] >> 4
         if kind == 9:
-            sounding.setdefault((each.happening, each.process, each.message[1]), []).append(at)
+            sounding.setdefault((event.happening, event.process, event.message[1]), []).append(at)
         elif kind == 8:
-            begun = sounding[each.happening, each.process, each.message[1]].pop(0)
+            begun = sounding[event.happening, event.process, event.message[1]].pop(0)
             found[begun], found[at] = at, begun
     return found
 

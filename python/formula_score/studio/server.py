@@ -82,7 +82,7 @@ class Studio:
         return web.json_response({
             "folder": self.folder.path, "opened": self.settings.opened, "readOnly": self.folder.read_only,
             "files": await _aside(self.folder.names), "only": self.folder.only is not None,
-            "examples": [each._asdict() for each in examples.listed()], "folders": examples.FOLDERS,
+            "examples": [example._asdict() for example in examples.listed()], "folders": examples.FOLDERS,
             "colours": COLOURS, "darker": DARKER, "silent": self.sound.missing,
         })
 
@@ -143,20 +143,20 @@ class Studio:
         options = ["--parts"] if kind == "parts" else []
         if kind == "excerpt":
             options = ["--from", str(int(asked["from"])), "--to", str(int(asked["to"]))]
-        made = await self.program.play(text, *options)
+        ran = await self.program.play(text, *options)
         try:
-            if made.status != 0:
-                why = explanation(made.status, made.said, ["--", "score", "file"])
-                raise Denied(422, why if made.status != 3 else f"the text is refused: {made.said}")
+            if ran.status != 0:
+                why = explanation(ran.status, ran.said, ["--", "score", "file"])
+                raise Denied(422, why if ran.status != 3 else f"the text is refused: {ran.said}")
             if kind == "svg":
-                head = {"do": "svg", "file": made.file, "meter": asked["meter"], "upbeat": asked["upbeat"]}
+                head = {"do": "svg", "file": ran.file, "meter": asked["meter"], "upbeat": asked["upbeat"]}
                 answer = await self.workers.ask(head, text)
                 if "failed" in answer.head:
                     raise Denied(422, answer.head["failed"])
                 return web.Response(body=answer.body, content_type="image/svg+xml")
-            data = pathlib.Path(made.file).read_bytes()
+            data = pathlib.Path(ran.file).read_bytes()
         finally:
-            remove(made.file)
+            remove(ran.file)
         return await self._wave(data) if kind == "wav" else web.Response(body=data, content_type="audio/midi")
 
     async def _wave(self, data: bytes) -> web.StreamResponse:
@@ -172,9 +172,9 @@ class Studio:
         async def guarded(request: web.Request, handler: Handler) -> web.StreamResponse:
             return await self._guarded(request, handler)
 
-        made = web.Application(middlewares=[web.middleware(guarded)], client_max_size=MOST_MESSAGE)
+        served = web.Application(middlewares=[web.middleware(guarded)], client_max_size=MOST_MESSAGE)
         top = f"/{self.guard.token}"
-        made.add_routes([
+        served.add_routes([
             web.get(f"{top}/", self.page), web.get(f"{top}/about", self.about), web.get(f"{top}/socket", self.live),
             web.get(f"{top}/page/{{name}}", self.page), web.get(f"{top}/editor.{{ending:js|css}}", self.editor),
             web.get(f"{top}/files/{{name:.+}}", self.read), web.put(f"{top}/files/{{name:.+}}", self.save),
@@ -182,8 +182,8 @@ class Studio:
             web.post(f"{top}/sound", self.listen),
             web.post(f"{top}/export/{{kind:midi|parts|excerpt|svg|wav}}", self.export),
         ])
-        made.on_response_prepare.append(self._headed)
-        return made
+        served.on_response_prepare.append(self._headed)
+        return served
 
     async def _headed(self, _: web.Request, response: web.StreamResponse) -> None:
         response.headers.update(self.guard.headers)

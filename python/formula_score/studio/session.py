@@ -59,25 +59,25 @@ class Session:
 
     async def _play(self, text: bytes, number: int, message: dict[str, Any]) -> None:
         begun = time.monotonic()
-        made = await self.program.play(text)
-        if made.status != 0:
-            remove(made.file)
-            await self._refuse(made, text, number)
+        ran = await self.program.play(text)
+        if ran.status != 0:
+            remove(ran.file)
+            await self._refuse(ran, text, number)
             return
-        old, self.file = self.file, made.file
+        old, self.file = self.file, ran.file
         if old:
             remove(old)
-        with open(made.file, "rb") as file:
+        with open(ran.file, "rb") as file:
             data = file.read()
         await self.send(packed({"kind": "file", "number": number, "seconds": time.monotonic() - begun}, data))
         await self._answer("picture", {}, text, number)
         await self._answer("bars", message, text, number)
 
-    async def _refuse(self, made: Ran, text: bytes, number: int) -> None:
-        place = place_of(made.said)
+    async def _refuse(self, ran: Ran, text: bytes, number: int) -> None:
+        place = place_of(ran.said)
         if place is None:
-            why = explanation(made.status, made.said, ["--", "score", made.file])
-            await self.send(packed({"kind": "failed", "number": number, "failed": why or made.said}))
+            why = explanation(ran.status, ran.said, ["--", "score", ran.file])
+            await self.send(packed({"kind": "failed", "number": number, "failed": why or ran.said}))
             return
         await self._answer("refusal", {"place": list(place)}, text, number)
 

@@ -123,7 +123,7 @@ class Worker:
         if use is None:
             return Frame({"uses": [], "definition": None}, b"")
         defined = definition(text, use)
-        return Frame({"uses": [places.range(each.start, each.end) for each in same_name(text, use)],
+        return Frame({"uses": [places.range(place.start, place.end) for place in same_name(text, use)],
                       "definition": places.range(defined.start, defined.end) if defined else None}, b"")
 
     def svg(self, head: dict[str, Any], text: bytes) -> Frame:

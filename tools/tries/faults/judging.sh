@@ -60,14 +60,14 @@ ends() {
 # leaves NAME FILE: OUT is the same as this file, or not there without one, and nothing was made beside
 # it. OUT is then taken away.
 leaves() {
-    local wanted=${2:-} made
-    made=$(ls -A "$folder")
+    local wanted=${2:-} names
+    names=$(ls -A "$folder")
     if [ -z "$wanted" ]; then
-        if [ -z "$made" ]; then pass; else fail "$1" "it made $made"; fi
-    elif [ "$made" = "$(basename "$out")" ] && cmp -s "$wanted" "$out"; then
+        if [ -z "$names" ]; then pass; else fail "$1" "it made $names"; fi
+    elif [ "$names" = "$(basename "$out")" ] && cmp -s "$wanted" "$out"; then
         pass
     else
-        fail "$1" "OUT is not as it should be, or there is more: $made"
+        fail "$1" "OUT is not as it should be, or there is more: $names"
     fi
     clear_out
 }
