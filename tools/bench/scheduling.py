@@ -4,9 +4,11 @@ from __future__ import annotations
 
 import contextlib
 import os
+import re
+import shutil
 import subprocess
 import time
-from typing import Iterator, Optional
+from typing import Iterator, Optional, Sequence
 
 import harness
 import texts
@@ -22,6 +24,7 @@ MOST_OF_THE_LEAST = 4
 MOST_ON_TWO = 1.3
 MOST_OF_SIXTEEN = 1.5
 MOST_PROCESSOR_TIME = 1.5
+MOST_INSTRUCTIONS = 1.25
 
 #: Schedules, and the most of the wall time of 0 workers with the same room and lead.
 SCHEDULES: tuple[tuple[str, list[str], Optional[float]], ...] = (
@@ -67,6 +70,7 @@ def schedules(bench: Bench) -> None:
         row("  by default, two processors", figures.wall, figures.cpu, ratio, busy, alone.wall)
         bench.aim(f"{name}, two processors, wall time to 0 workers", [ratio], MOST_ON_TWO)
         processor_time_of_workers(bench, text)
+        instructions_by_default(bench, name, short)
         quanta(bench, short)
 
 
@@ -121,6 +125,27 @@ def processor_time_of_workers(bench: Bench, text: bytes) -> None:
     own = last.get(run.pid, 0)
     if whole:
         row("  processor time of workers, %", 100 * (whole - own) / whole)
+
+
+def instructions_by_default(bench: Bench, name: str, text: bytes) -> None:
+    """How many instructions the program takes by default, and how many on one thread. Unlike processor time they do not
+    depend on what else keeps the processors and their memory busy. Without valgrind they are not counted."""
+    if shutil.which("valgrind") is None:
+        return
+    words = [bench.put("in.score", text), os.devnull]
+    by_default, alone = counted(bench, words), counted(bench, [*words, "--workers", "0"])
+    row("  instructions, millions", by_default / 1e6, alone / 1e6, by_default / alone)
+    bench.aim(f"{name}, by default, instructions to 0 workers", [by_default / alone], MOST_INSTRUCTIONS)
+
+
+def counted(bench: Bench, words: Sequence[str]) -> float:
+    """How many instructions a run of the program takes, in all of its threads."""
+    command = ["valgrind", "--tool=callgrind", "--fair-sched=yes", f"--callgrind-out-file={os.devnull}", bench.program, *words]
+    said = subprocess.run(command, stdout=subprocess.DEVNULL, stderr=subprocess.PIPE, check=True).stderr
+    found = re.search(rb"refs: +([0-9,]+)", said)
+    if found is None:
+        wrong("valgrind counts no instructions")
+    return float(found[1].replace(b",", b""))
 
 
 def quanta(bench: Bench, text: bytes) -> None:
