@@ -62,13 +62,13 @@ class _Process:
 
 class _Player:
     def __init__(self) -> None:
-        self.made: list[list[Made]] = []
+        self.events: list[list[Made]] = []
         self.ends: dict[int, int] = {}
         self.messages: dict[tuple[int, ...], bytes] = {}  # each once, however often it is played
 
     def start(self, position: int, like: Optional[_Process]) -> _Process:
-        number = len(self.made)
-        self.made.append([])
+        number = len(self.events)
+        self.events.append([])
         if like is None:
             return _Process(0, position, 0, (), ())
         return _Process(number, position, like.channel, like.lists, like.levels)
@@ -78,7 +78,7 @@ class _Player:
         message = self.messages.get(key)
         if message is None:
             message = self.messages[key] = bytes(key)
-        self.made[now.number].append((tick, message))
+        self.events[now.number].append((tick, message))
 
     def end(self, now: _Process) -> int:
         """Ends the process where it is, and gives its position."""
@@ -198,5 +198,5 @@ def events_of(items: tuple[Music, ...]) -> list[Event]:
     player = _Player()
     player.end(player.play(items, player.start(0, None)))
     # those of a process stand in the order of their ticks, and what falls on one tick goes by the processes
-    return sorted((Event(tick, process, number, message) for process, sent in enumerate(player.made)
+    return sorted((Event(tick, process, number, message) for process, sent in enumerate(player.events)
                    for number, (tick, message) in enumerate(come_out(sent, player.ends[process]))), key=_by_tick)

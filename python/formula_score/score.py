@@ -165,9 +165,9 @@ class _Counts:
         self._known: dict[int, _Totals] = {}
 
     def all(self, items: tuple[Music, ...]) -> _Totals:
-        return _Totals(*map(sum, zip(_Totals(), *map(self.one, items))))
+        return _Totals(*map(sum, zip(_Totals(), *map(self.of_item, items))))
 
-    def one(self, item: Music) -> _Totals:
+    def of_item(self, item: Music) -> _Totals:
         if isinstance(item, Note):
             return _of_notes(len(item.pitches))
         if isinstance(item, Rest):

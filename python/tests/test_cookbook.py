@@ -21,7 +21,7 @@ GENERATORS = re.findall(r"^```python\n(.*?)^```", PAGE, re.M | re.S)
 PICTURES = ((0, "cookbook_canon.svg"), (2, "cookbook_phases.svg"))
 
 
-def made(generator: str) -> Score:
+def score_of(generator: str) -> Score:
     """The score of a generator, which may write files where it stands."""
     names: dict[str, object] = {}
     exec(generator, names)
@@ -42,7 +42,7 @@ class Cookbook(unittest.TestCase):
         with tempfile.TemporaryDirectory() as folder, unittest.mock.patch.dict(os.environ, FORMULA=PROGRAM or ""):
             os.chdir(folder)
             try:
-                scores = [made(generator) for generator in GENERATORS]
+                scores = [score_of(generator) for generator in GENERATORS]
                 variations = sorted(path.name for path in pathlib.Path(folder).iterdir())
                 first = pathlib.Path(folder, "variation_0.mid").read_bytes()
             finally:
@@ -57,15 +57,15 @@ class Cookbook(unittest.TestCase):
             for number, name in PICTURES:
                 self.assertIn(f"(../docs/pictures/{name})", PAGE)
                 file, picture = pathlib.Path(folder, "a.mid"), pathlib.Path(folder, "a.svg")
-                file.write_bytes(made(GENERATORS[number]).render(PROGRAM, workers=0))
+                file.write_bytes(score_of(GENERATORS[number]).render(PROGRAM, workers=0))
                 subprocess.run([TOP / "scripts" / "score", "roll", file, picture], check=True)
                 self.assertEqual(picture.read_text(), (TOP / "docs" / "pictures" / name).read_text(), name)
 
     def test_voices_meet_where_the_page_says(self) -> None:
-        (voices,) = made(GENERATORS[0]).body
+        (voices,) = score_of(GENERATORS[0]).body
         assert isinstance(voices, Par)
         self.assertEqual({sum(item.ticks for item in branch) for branch in voices.branches}, {4800})
-        still, ahead = ([event.tick for event in made(GENERATORS[2]).events() if event.message[0] == status]
+        still, ahead = ([event.tick for event in score_of(GENERATORS[2]).events() if event.message[0] == status]
                         for status in (0x90, 0x91))
         # behind each move the one is a note further: after 48 of the other's it has played 49
         self.assertEqual((still[47:49], len(still), len(ahead)), ([still[47], ahead[49]], 96, 98))

@@ -95,7 +95,7 @@ class Compilers(unittest.TestCase):
                 programs.append(str(path))
             both = compilers.Both(programs, folder)
             for word in ("same", "unlike", "slow"):
-                both.same("words", word, ["in", both.out, word], b"")
+                both.compare("words", word, ["in", both.out, word], b"")
             self.assertEqual(both.counts["words"], 3)
             self.assertEqual(len(both.differ), 3)
             self.assertRegex(both.differ[0], r"^words: unlike unlike: status 0, b'unlike\\n'.* in place of status 0, b'like\\n'")

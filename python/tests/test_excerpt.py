@@ -21,7 +21,7 @@ class Excerpts(unittest.TestCase):
         self.folder = pathlib.Path(folder.name)
         self.out, self.other = self.folder / "out.mid", self.folder / "other.mid"
 
-    def made(self, *words):
+    def excerpt(self, *words):
         answer = score("excerpt", words[0], self.out, *words[1:])
         self.assertEqual((answer.status, answer.complaint), (0, ""), words)
         return answer.said
@@ -35,23 +35,23 @@ class Excerpts(unittest.TestCase):
                 ("16", "bar 16: ticks 36480 to 42120", ["--from", "36480"]),
                 ("15-", "bars 15 to 16: ticks 33600 to 42120", ["--from", "33600"]))
         for bars, said, options in rows:
-            self.assertEqual(self.made(SCORE, "--bars", bars), said + "\n")
+            self.assertEqual(self.excerpt(SCORE, "--bars", bars), said + "\n")
             self.assertEqual(self.out.read_bytes(), self.of_the_program(SCORE, *options).read_bytes(), bars)
 
     def test_without_bars_it_is_the_whole_and_parts_are_the_programs(self):
         for option in ([], ["--parts"]):
-            self.assertEqual(self.made(SCORE, *option), "")
+            self.assertEqual(self.excerpt(SCORE, *option), "")
             self.assertEqual(self.out.read_bytes(), self.of_the_program(SCORE, *option).read_bytes())
 
     def test_parts_of_all_bars_have_what_the_programs_parts_have(self):
-        self.assertIn("outside the proof", self.made(SCORE, "--bars", "1-16", "--parts"))
+        self.assertIn("outside the proof", self.excerpt(SCORE, "--bars", "1-16", "--parts"))
         own, theirs = listing_of_file(str(self.out)), listing_of_file(str(self.of_the_program(SCORE, "--parts")))
         self.assertEqual(own.events[0].message[3:], MADE_BY)
         self.assertEqual((own.format, own.tracks, own.division, own.events[1:]),
                          (1, 3, theirs.division, theirs.events))
 
     def test_one_channel_alone(self):
-        self.assertIn("outside the proof", self.made(SCORE, "--bars", "16", "--channel", "1"))
+        self.assertIn("outside the proof", self.excerpt(SCORE, "--bars", "16", "--channel", "1"))
         events = [(event.tick, event.message.hex(" ")) for event in listing_of_file(str(self.out)).events[2:]]
         # the cello, the two half notes of the last bar, the second of which is held
         self.assertEqual(events, [(0, "c1 2a"), (0, "91 2b 52"), (1800, "81 2b 40"), (1800, "91 30 52"),
@@ -63,10 +63,10 @@ class Excerpts(unittest.TestCase):
         source = self.folder / "two.score"
         source.write_text("formula 1;\nshape half = flat 2/1 by 2000;\npar {\n  branch { note c4 1/1; note d4 1/1; }\n"
                           "  branch { warp half { note c5 1/1; note d5 1/1; } }\n}\n")
-        self.assertEqual(self.made(source, "--bars", "2"), "bar 2 begins at tick 1920 in process 1 (branch 1, line 4)\n"
+        self.assertEqual(self.excerpt(source, "--bars", "2"), "bar 2 begins at tick 1920 in process 1 (branch 1, line 4)\n"
                          "bar 2 begins at tick 3840 in process 2 (branch 2, line 5)\nbar 2: ticks 1920 to 7680\n")
         self.assertEqual(self.out.read_bytes(), self.of_the_program(source, "--from", "1920").read_bytes())
-        self.assertEqual(self.made(source, "--bars", "1", "--process", "2"), "bar 1: ticks 0 to 3840\n")
+        self.assertEqual(self.excerpt(source, "--bars", "1", "--process", "2"), "bar 1: ticks 0 to 3840\n")
         self.assertEqual(self.out.read_bytes(), self.of_the_program(source, "--to", "3840").read_bytes())
 
     def test_what_cannot_be_cut(self):

@@ -23,7 +23,7 @@ DIES, ENDS, SLEEPS = "dies", "ends", "sleeps"
 
 
 def begin(added: int) -> Callable[[Any], Any]:
-    def one(task: Any) -> Any:
+    def work(task: Any) -> Any:
         if task == DIES:
             os.kill(os.getpid(), signal.SIGKILL)
         if task == ENDS:
@@ -31,7 +31,7 @@ def begin(added: int) -> Callable[[Any], Any]:
         if task == SLEEPS:
             time.sleep(60)
         return task + added
-    return one
+    return work
 
 
 def begins_with_death(added: int) -> Callable[[Any], Any]:

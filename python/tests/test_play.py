@@ -52,14 +52,14 @@ class Play(unittest.TestCase):
         self.out = self.folder / "out.mid"
         self.note, self.other = self.put("note", NOTE), self.put("other", OTHER)
         self.refused = self.put("refused", REFUSED)
-        self.file = self.made(self.note)
+        self.file = self.file_of(self.note)
 
     def put(self, name: str, content: bytes) -> str:
         path = self.top / name
         path.write_bytes(content)
         return str(path)
 
-    def made(self, *words: str) -> bytes:
+    def file_of(self, *words: str) -> bytes:
         """What the program itself makes of these words."""
         path = self.top / "made"
         assert PROGRAM
@@ -102,10 +102,10 @@ class Play(unittest.TestCase):
         os.umask(mask)
         self.assertEqual(stat.S_IMODE(self.out.stat().st_mode), 0o666 & ~mask)
         self.ends(self.play("--workers", "0", self.other, "--parts", "--", self.out), 0, b"", "^$")
-        self.holds(self.made(self.other, "--parts"))
+        self.holds(self.file_of(self.other, "--parts"))
         said = b"processes 18 events 32000 last 121800 bytes 128033\n"
         self.ends(self.play("none", self.out, "--generate", "0"), 0, said, "^$")
-        self.holds(self.made("none", "--generate", "0"))
+        self.holds(self.file_of("none", "--generate", "0"))
 
     def test_mode_and_links_stay(self) -> None:
         self.out.write_bytes(b"old")
@@ -156,7 +156,7 @@ class Play(unittest.TestCase):
                 self.out.write_bytes(b"o" * 4096)
                 self.ends(self.play(self.other, self.out, "--from", "0", before=before), 0, b"")
                 self.ends(self.play("none", self.out, "--generate", "0", before=before), 4, WRITE, "No space left")
-                self.holds(self.made(self.other, "--from", "0"))
+                self.holds(self.file_of(self.other, "--from", "0"))
         finally:
             subprocess.run(["umount", self.folder], check=True)
 
@@ -232,12 +232,12 @@ class Play(unittest.TestCase):
     # ---- descriptors, pipes and devices
 
     def test_standard_output_takes_every_task(self) -> None:
-        record = self.put("record", self.made(self.note, "--record", "--workers", "0"))
+        record = self.put("record", self.file_of(self.note, "--record", "--workers", "0"))
         midi = self.put("midi", self.file)
         os.symlink("/dev/stdout", self.top / "link")
         for words in (["note"], ["other", "--parts"], ["other", "--from", "480"], ["none", "--generate", "0"],
                       [midi, "--list"], [record, "--audit"]):
-            wanted = self.made(*words)
+            wanted = self.file_of(*words)
             cases = [("-", way) for way in (WAYS if words == ["note"] else WAYS[1:3])]
             cases += [(name, WAYS[0]) for name in NAMES if words == ["note"]]
             for name, (way, before) in cases:
@@ -255,7 +255,7 @@ class Play(unittest.TestCase):
         self.ends(self.shell(f"PLAY - /dev/fd/3 <note 3>{self.out}"), 0, b"", "^$")
         self.holds(self.file)
         self.ends(self.shell(f"PLAY /dev/fd/4 {self.out} --parts 4<other"), 0, b"", "^$")
-        self.holds(self.made(self.other, "--parts"))
+        self.holds(self.file_of(self.other, "--parts"))
         self.ends(self.shell("cat note | PLAY /dev/stdin -"), 0, self.file, "^$")
         self.ends(self.shell("PLAY note /dev/fd/9"), 4, WRITE, "Bad file descriptor")
         self.ends(self.shell("PLAY note - | :; exit ${PIPESTATUS[0]}"), 4, b"", "standard output cannot be written")
@@ -268,11 +268,11 @@ class Play(unittest.TestCase):
         self.ends(self.shell("PLAY note /dev/full"), 4, WRITE, "No space|no plain file|a write failed")
         self.ends(self.shell("PLAY note - >/dev/full"), 4, b"", "No space left")
         self.ends(self.shell(f"PLAY none {self.out} --generate 0 >/dev/full"), 5, b"", "processes")
-        self.holds(self.made("none", "--generate", "0"))
+        self.holds(self.file_of("none", "--generate", "0"))
 
     def test_a_pipe_is_written_straight(self) -> None:
         os.mkfifo(self.top / "pipe")
-        self.ends(self.shell("cat pipe & PLAY other pipe --parts; wait"), 0, self.made(self.other, "--parts"), "^$")
+        self.ends(self.shell("cat pipe & PLAY other pipe --parts; wait"), 0, self.file_of(self.other, "--parts"), "^$")
         self.assertTrue(stat.S_ISFIFO((self.top / "pipe").stat().st_mode))
         # one that seeks has its length at the end, which a pipe cannot take
         self.assertEqual(self.shell("cat pipe >read & PLAY note pipe; a=$?; wait; exit $a").status, 4)

@@ -95,7 +95,7 @@ class Maker:
         return Score(*(self.music(4) for _ in range(self.random.randrange(1, 4))), seed=self.random.randrange(10**9))
 
 
-def made(seed: int) -> Score:
+def score_of(seed: int) -> Score:
     """The random score of a seed; where it is out of a range, as a transposed drum may be, that of the next part."""
     maker = Maker(seed)
     while True:
@@ -124,7 +124,7 @@ def file_of(events: Sequence[Event], end: int) -> bytes:
 class RandomScores(unittest.TestCase):
     def test_the_ticks_are_those_of_a_player_that_reads_the_text(self) -> None:
         for seed in range(SCORES):
-            score = made(seed)
+            score = score_of(seed)
             events, end = score_model.played(score.text.encode())
             self.assertEqual([tuple(event) for event in score.events()],
                              [(*event[:3], bytes(event[3])) for event in events], seed)
@@ -133,7 +133,7 @@ class RandomScores(unittest.TestCase):
     @needs_program
     def test_the_built_program_plays_them_as_foretold(self) -> None:
         for seed in range(SCORES):
-            score = made(seed)
+            score = score_of(seed)
             status, said, file = run(score.text)
             self.assertEqual((status, said), (0, ""), f"{seed}: {score.text}")
             self.assertEqual(file, file_of(score.events(), score.end), seed)

@@ -202,7 +202,7 @@ class Maker:
 
     def __init__(self, seed: int):
         self.random = random.Random(seed)
-        self.made: list[Music] = [QUARTER, rest("1/8"), control(7, 100)]
+        self.music: list[Music] = [QUARTER, rest("1/8"), control(7, 100)]
         self.names = 0
 
     def odd(self) -> Any:
@@ -219,7 +219,7 @@ class Maker:
         if draw.random() < 0.08:
             return self.odd()
         if kind == "music":
-            return draw.choice(self.made)
+            return draw.choice(self.music)
         if kind == "name":
             self.names += 1
             return f"{draw.choice(['verse', 'shape', 'a'])}_{self.names}"
@@ -307,7 +307,7 @@ class RandomCalls(unittest.TestCase):
                 counts["no score"] += 1
                 continue
             if score.step_count < 500:
-                maker.made = [*maker.made[-40:], music]
+                maker.music = [*maker.music[-40:], music]
             if score.step_count > MOST_STEPS:
                 counts["too long to play"] += 1
                 continue

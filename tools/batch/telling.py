@@ -15,7 +15,7 @@ MOST_SHOWN = 20
 Row = tuple[str, str, str]
 
 
-def told(batch: Batch, name: str, status: str, said: str) -> str:
+def explained(batch: Batch, name: str, status: str, said: str) -> str:
     """What is printed of a score that was not played."""
     path = batch.score(name)
     place = place_of(said) if status == "3" else None
@@ -37,7 +37,7 @@ def report(batch: Batch, rows: Sequence[Row], anew: int, gone: Sequence[str]) ->
         print(f"{status:<6}  {count}")
     missing = [row for row in rows if row[1] != "0"]
     for row in missing[:MOST_SHOWN]:
-        print(told(batch, *row))
+        print(explained(batch, *row))
     if len(missing) > MOST_SHOWN:
         print(f"and {len(missing) - MOST_SHOWN} more: see batch.results in OUT")
     if gone:

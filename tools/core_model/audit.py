@@ -100,22 +100,22 @@ def audit(data):
 
 def run(setting, state):
     """Steps of seat 0 alone, from the opening to the end: sweep, publish, visit each process, release."""
-    def made(*step):
+    def take(*step):
         core.EFFECTS[step[0]](setting, state, *step[1:])
         return step
 
     processes = range(len(state.tag))
     while not core.is_finished(setting, state):
         for process in processes:
-            yield made("Look", 0, process)
-        yield made("Publish")
-        yield made("Pace", 0)
+            yield take("Look", 0, process)
+        yield take("Publish")
+        yield take("Pace", 0)
         for process in processes:
-            yield made("Look", 0, process)
+            yield take("Look", 0, process)
             if core.reason(setting, state, ("Start", 0, process)) is None:
-                yield made("Start", 0, process)
+                yield take("Start", 0, process)
             elif core.reason(setting, state, ("Claim", 0, process)) is None:
-                yield made("Claim", 0, process)
+                yield take("Claim", 0, process)
             else:
                 continue
             times, before = setting.lines[process].times, state.computed[process]
@@ -124,9 +124,9 @@ def run(setting, state):
                    and core.under_lead(setting, state.floor, times[end]) and state.tag[process] == core.OUT):
                 end += 1
             if end == len(times) and state.tag[process] == core.OUT:
-                yield made("Record", 0, process)
-            yield made("Give", 0, process, taken, end - before, core.upper(setting, process, end), end == len(times))
-        yield made("Release", len(state.gather))
+                yield take("Record", 0, process)
+            yield take("Give", 0, process, taken, end - before, core.upper(setting, process, end), end == len(times))
+        yield take("Release", len(state.gather))
 
 
 def recorded(text, seats, room, lead):

@@ -75,7 +75,7 @@ class Changes:
         self.file, self.item = translator.found(target)
 
     def of(self, term: Term) -> Iterator[tuple[str, Term]]:
-        yield from self.here(term)
+        yield from self.itself(term)
         yield from self.inside(term)
 
     def inside(self, term: Term) -> Iterator[tuple[str, Term]]:
@@ -92,7 +92,7 @@ class Changes:
             for change, mutant in self.of(part):
                 yield change, rebuilt(mutant)
 
-    def here(self, term: Term) -> Iterator[tuple[str, Term]]:
+    def itself(self, term: Term) -> Iterator[tuple[str, Term]]:
         """Changes of the term itself."""
         parts: Any = term.parts
         word = term.word

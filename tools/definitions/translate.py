@@ -30,7 +30,7 @@ PLAIN = {"zero": "0", "true": "True", "false": "False", "[]": "NIL", "tt": "()",
 class Translator:
     def __init__(self, repository: Repository):
         self.repository = repository
-        self.made: dict[Target, str] = {}
+        self.functions: dict[Target, str] = {}
         self.arities: dict[Target, int] = {}
         self.refused: dict[Target, NotRead] = {}
         # the constructors without parts
@@ -90,17 +90,17 @@ class Translator:
 
     def make(self, target: Target) -> bool:
         """Makes one definition, and tells whether it computes."""
-        if target not in self.made:
+        if target not in self.functions:
             file, item = self.found(target)
-            self.made[target] = ""
+            self.functions[target] = ""
             if item.kind != "definition" or is_row(item) or says_only(item) and target not in self.wanted:
                 return False
             try:
-                self.made[target] = Body(self, file, item, target).text()
+                self.functions[target] = Body(self, file, item, target).text()
             except NotRead as problem:
                 self.refused[target] = problem
                 raise
-        return bool(self.made[target])
+        return bool(self.functions[target])
 
     def plain(self, name: str) -> str:
         """A constructor without parts: one value, made once."""
@@ -113,7 +113,7 @@ class Translator:
                 "from running import *  # noqa: F403\n\n"
                 + "".join(f"L_{safe(name)} = LIBRARY[{name!r}][1]\n" for name in LIBRARY)
                 + "".join(f"C_{safe(name)} = Made({name!r})\n" for name in sorted(self.plains)) + "\n\n")
-        return head + "\n\n\n".join(text for text in self.made.values() if text) + "\n"
+        return head + "\n\n\n".join(text for text in self.functions.values() if text) + "\n"
 
 
 class Body(Patterns):
@@ -323,7 +323,7 @@ class Body(Patterns):
             raise self.refuse(word, "a type where a value is wanted")
         if says_only(item) and target not in self.translator.wanted:
             self.translator.wanted.add(target)
-            self.translator.made.pop(target, None)
+            self.translator.functions.pop(target, None)
             self.translator.definition(target)
         if file is self.file:
             shared = [name for block in item.blocks if block in self.item.blocks for name in block_parameters(block)]

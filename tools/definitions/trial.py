@@ -142,7 +142,7 @@ class Trial:
 
     def is_none(self, mutant: Mutant) -> bool:
         """Whether the Python stays as it is, as where only a proof was changed."""
-        return self.python_of(mutant) == self.translator.made[mutant.target]
+        return self.python_of(mutant) == self.translator.functions[mutant.target]
 
     def found_by(self, mutant: Mutant) -> Row | None:
         """The first row that finds the change, one that names the definition before others."""

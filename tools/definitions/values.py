@@ -108,30 +108,30 @@ def listed(items: Iterable[Any], tail: Any = NIL) -> Any:
 class Joined(Pair):
     """Two lists one behind the other. They are gone through once somebody looks, so that `xs ++ ys` costs nothing."""
 
-    __slots__ = ("parts", "made")
+    __slots__ = ("parts", "whole")
 
     def __init__(self, left: Any, right: Any):
         self.parts: tuple[Any, ...] = (left, right)
-        self.made: Any = None
+        self.whole: Any = None
 
     def force(self) -> Any:
-        if self.made is None:
+        if self.whole is None:
             # the lists that it is made of, in turn; the last one is shared, and not copied
             leaves: list[Any] = []
             waiting: list[Any] = [self]
             while waiting:
                 at = waiting.pop()
                 if isinstance(at, Joined):
-                    if at.made is None:
+                    if at.whole is None:
                         waiting += (at.parts[1], at.parts[0])
                         continue
-                    at = at.made
+                    at = at.whole
                 leaves.append(at)
             whole = leaves.pop()
             while leaves:
                 whole = listed(leaves.pop(), whole)
-            self.made, self.parts = whole, ()
-        return self.made
+            self.whole, self.parts = whole, ()
+        return self.whole
 
     head = property(lambda self: self.force().head)
     tail = property(lambda self: self.force().tail)

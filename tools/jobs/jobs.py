@@ -156,7 +156,7 @@ class Told:
         self.name, self.total, self.between = name, total, between
         self.count, self.last = 0, time.monotonic()
 
-    def one(self, differ: int) -> None:
+    def count_one(self, differ: int) -> None:
         self.count += 1
         now = time.monotonic()
         if now - self.last >= self.between:

@@ -76,19 +76,19 @@ class Both:
         self.seconds[side] += after.ru_utime + after.ru_stime - before.ru_utime - before.ru_stime
         return end
 
-    def same(self, what: str, name: str, words: Sequence[str], data: Optional[bytes] = None) -> End:
+    def compare(self, what: str, name: str, words: Sequence[str], data: Optional[bytes] = None) -> End:
         """Both end in the same way on these words; IN holds the data."""
         if data is not None:
             put(self.given, data)
         ends = [self.ends(side, words) for side in (0, 1)]
         self.counts[what] += 1
         if ends[0] != ends[1]:
-            self.differ.append(f"{what}: {name} {' '.join(words[2:])}: {told(ends[0])} in place of {told(ends[1])}")
+            self.differ.append(f"{what}: {name} {' '.join(words[2:])}: {described(ends[0])} in place of {described(ends[1])}")
         return ends[0]
 
     def text(self, number: int, text: bytes, draw: random.Random) -> None:
         """Both play a text, as it is and with words at random."""
-        self.same("texts", f"text {number}", [self.given, self.out, *draw.choice(WAYS)], text)
+        self.compare("texts", f"text {number}", [self.given, self.out, *draw.choice(WAYS)], text)
         words = [self.given, self.out]
         for _ in range(draw.randrange(1, 4)):
             option = draw.choice(OPTIONS)
@@ -96,7 +96,7 @@ class Both:
             words += [f"{option}={value}"] if draw.randrange(3) == 0 else [option]
             if option not in ("--rounds", "--list", "--parts", "--audit") and draw.randrange(3):
                 words.append(value)
-        self.same("texts with words at random", f"text {number}", words, text)
+        self.compare("texts with words at random", f"text {number}", words, text)
 
     def recorded(self, score: str, way: int) -> None:
         """Both record a run, and each audits both records."""
@@ -106,9 +106,9 @@ class Both:
         self.counts["records"] += 1
         # which thread comes first decides what is recorded
         if ends[0][:3] != ends[1][:3]:
-            self.differ.append(f"records: {name}: {told(ends[0])} in place of {told(ends[1])}")
+            self.differ.append(f"records: {name}: {described(ends[0])} in place of {described(ends[1])}")
         for _, _, _, record in ends:
-            audit = self.same("audits", name, [self.given, self.out, "--audit"], record or b"")
+            audit = self.compare("audits", name, [self.given, self.out, "--audit"], record or b"")
             if audit[0] != 0:
                 self.differ.append(f"audits: {name}: status {audit[0]}")
 
@@ -117,7 +117,7 @@ OPTIONS = ("--workers", "--lead", "--room", "--rounds", "--list", "--parts", "--
            "--to", "--rooms", "--", "-", "")
 
 
-def told(end: End) -> str:
+def described(end: End) -> str:
     """How a run ended, in words."""
     status, said, complaint, out = end
     file = "no OUT" if out is None else f"OUT of {len(out)} bytes, {hashlib.sha256(out).hexdigest()[:8]}"
@@ -141,11 +141,11 @@ def begin(programs: Sequence[str], folder: str) -> Callable[[Task], Answer]:
             both.text(words[0], text, draw)
         elif kind == "score":
             for way in WAYS:
-                both.same("examples", os.path.relpath(words[0], TOP), [words[0], both.out, *way])
+                both.compare("examples", os.path.relpath(words[0], TOP), [words[0], both.out, *way])
         elif kind == "record":
             both.recorded(*words)
         else:
-            end = both.same("large scores", f"number {words[0]}", ["none", both.out, "--generate", str(words[0])])
+            end = both.compare("large scores", f"number {words[0]}", ["none", both.out, "--generate", str(words[0])])
             if end[0] != 0:
                 both.differ.append(f"large scores: number {words[0]}: status {end[0]}")
         return both.counts, both.differ, both.seconds
@@ -245,7 +245,7 @@ def run(program: str, asked: argparse.Namespace) -> harness.Count:
                 (large if task[0] == "large" else seconds)[side] += spent[side]
             for line in wrong:
                 count.judge(*line.split(": ", 1))
-            progress.one(count.failed)
+            progress.count_one(count.failed)
         if not asked.no_options and not jobs.interrupted:
             print("compilers: the runs of options", file=sys.stderr, flush=True)
             for line in options(programs, folder, counts):

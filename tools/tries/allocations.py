@@ -7,7 +7,7 @@ import subprocess
 from typing import Callable, Optional, Sequence
 
 from harness import TOP, Ran, content, held
-from room import LONGEST, WAYS, Room, is_out_of_memory, told
+from room import LONGEST, WAYS, Room, described, is_out_of_memory
 
 NOTES = b"par { branch { note c4 1/2; } branch { note e4 1/4; } branch { } } note g4 1/4;"
 PHRASE = b"phrase p { gate 50 { par { branch { note c4 1/4; } branch { warp s { note e4 1/8; } } } } } repeat 3 { do p; }"
@@ -21,16 +21,16 @@ class Refusing:
     """The program with one of its allocations refused, and how many there are."""
 
     def __init__(self, room: Room):
-        self.room, self.shim, self.made = room, room.path("refuse.so"), room.put("made_so_far", bytes(8))
+        self.room, self.shim, self.counter = room, room.path("refuse.so"), room.put("made_so_far", bytes(8))
         source = TOP / "tools" / "tries" / "refuse.c"
         compiled = subprocess.run(["cc", "-O2", "-shared", "-fPIC", "-o", self.shim, source], check=False)
         self.is_there = compiled.returncode == 0
 
     def run(self, words: Sequence[str], number: int) -> tuple[Ran, int]:
         """Runs with the allocation of this number refused, none for 0, and returns that and how many were made."""
-        env = {"LD_PRELOAD": self.shim, "COUNT": self.made, "REFUSE": str(number)}
+        env = {"LD_PRELOAD": self.shim, "COUNT": self.counter, "REFUSE": str(number)}
         ran = self.room.run(words, timeout=LONGEST, env=env)
-        return ran, int.from_bytes(content(self.made)[:8], "little")
+        return ran, int.from_bytes(content(self.counter)[:8], "little")
 
 
 def refuse_each(refusing: Refusing, name: str, words: Sequence[str], is_well: Callable[[Ran, Ran], bool]) -> None:
@@ -42,7 +42,7 @@ def refuse_each(refusing: Refusing, name: str, words: Sequence[str], is_well: Ca
     room.clear()
     for number in range(1, most + MORE):
         ran = refusing.run(words, number)[0]
-        room.judge(f"allocation {number} refused, {name}", is_out_of_memory(ran) or is_well(ran, whole), told(ran))
+        room.judge(f"allocation {number} refused, {name}", is_out_of_memory(ran) or is_well(ran, whole), described(ran))
         statuses.add(ran.status)
         room.clear()
     room.judge(f"allocations refused, {name}", 6 in statuses, f"only the statuses {statuses} were seen")
@@ -65,7 +65,7 @@ def try_each_allocation(room: Room) -> None:
     broken = room.put("broken", b"formula 1; }")
     record = room.path("record")
     subprocess.run([room.program, notes, record, "--record", "--workers", "1"], check=True)
-    midi = room.put("midi", room.made([phrase]))
+    midi = room.put("midi", room.file_of([phrase]))
     cases = [(f"{what}, {way}", [text], words) for what, text in (("branches", notes), ("a fork in a phrase", phrase))
              for way, words in WAYS.items()]
     cases += [

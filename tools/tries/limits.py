@@ -26,7 +26,7 @@ sys.path.insert(0, str(TOP / "tools"))
 import allocations  # noqa: E402
 import harness  # noqa: E402
 from harness import held  # noqa: E402
-from room import LONGEST, READ, WAYS, WRITE, Before, Room, is_out_of_memory, told  # noqa: E402
+from room import LONGEST, READ, WAYS, WRITE, Before, Room, described, is_out_of_memory  # noqa: E402
 
 NOBODY = 65534
 
@@ -72,7 +72,7 @@ def try_full_disks(room: Room) -> None:
                 written = held(out) or b""
                 os.remove(out)
                 is_well = (ran.status, ran.said) == (4, WRITE) and written != b"" and room.begun.startswith(written)
-                room.judge(f"a disk of {pages} pages, {way}", is_well, f"{told(ran)}, {len(written)} bytes")
+                room.judge(f"a disk of {pages} pages, {way}", is_well, f"{described(ran)}, {len(written)} bytes")
         finally:
             subprocess.run(["umount", disk], check=True)
 
@@ -95,7 +95,7 @@ def try_reader_that_goes(room: Room) -> None:
         ran = room.play([*words, "--generate", "0"], source="none", out=pipe)
         reader.join(LONGEST)
         is_well = (ran.status, ran.said) == (4, WRITE) and [data[:4] for data in begun] == [b"MThd"]
-        room.judge(f"a reader that goes away, {words}", is_well, f"{told(ran)}, {begun}")
+        room.judge(f"a reader that goes away, {words}", is_well, f"{described(ran)}, {begun}")
 
 
 def try_text_that_shrinks(room: Room) -> None:
@@ -115,7 +115,7 @@ def try_text_that_shrinks(room: Room) -> None:
         cutter.join()
         refused = ran.status == 3 and ran.said.startswith(b"formula: score refused: ") and ran.out is None
         played = ran.status == 0 and ran.said == b"" and (ran.out or b"")[:4] == b"MThd"
-        room.judge("a text that shrinks", refused or played, told(ran))
+        room.judge("a text that shrinks", refused or played, described(ran))
         room.clear()
 
 
@@ -140,7 +140,7 @@ def try_descriptors(room: Room) -> None:
         for most in range(3, 12):
             ran = room.play(words, with_limit(resource.RLIMIT_NOFILE, most))
             found = next((place for place, end in enumerate(ends) if end == (ran.status, ran.said, ran.out)), -1)
-            room.judge(f"{most} descriptors at most, {way}", found >= max(seen), told(ran))
+            room.judge(f"{most} descriptors at most, {way}", found >= max(seen), described(ran))
             seen.append(found)
             room.clear()
         room.judge(f"few descriptors, {way}", {1, 2, 3} <= {*seen}, f"only these ends were seen: {seen[1:]}")
@@ -168,8 +168,8 @@ def try_address_space(room: Room) -> None:
     blanks = room.put("blanks", b"formula 1; note c4 1/4;" + b" " * 1_000_000)
     cases: dict[str, tuple[str, list[str], bytes, int]] = {
         "a score": (room.long, [], room.file, 1),
-        "a text of a megabyte": (blanks, [], room.made([blanks]), 12),
-        "a large score": ("none", ["--generate", "0"], room.made(["none"], ["--generate", "0"]), 1),
+        "a text of a megabyte": (blanks, [], room.file_of([blanks]), 12),
+        "a large score": ("none", ["--generate", "0"], room.file_of(["none"], ["--generate", "0"]), 1),
     }
     for way, words in WAYS.items():
         for what, (source, more, wanted, wide) in cases.items():
@@ -178,7 +178,7 @@ def try_address_space(room: Room) -> None:
                 space = (least + step * wide) << 14
                 ran = room.play([*words, *more], with_limit(resource.RLIMIT_AS, space), source=source)
                 is_well = is_out_of_memory(ran) or (ran.status, ran.out) == (0, wanted)
-                room.judge(f"{space} bytes of address space, {what}, {way}", is_well, told(ran))
+                room.judge(f"{space} bytes of address space, {what}, {way}", is_well, described(ran))
                 seen.add(ran.status)
                 room.clear()
             room.judge(f"little address space, {what}, {way}", seen == {0, 6}, f"only the statuses {seen} were seen")
@@ -186,7 +186,7 @@ def try_address_space(room: Room) -> None:
 
 def try_signals(room: Room) -> None:
     """A signal in mid-run."""
-    large = room.made(["none"], ["--generate", "24"])
+    large = room.file_of(["none"], ["--generate", "24"])
     begun = large[:18] + bytes(4) + large[22:]
     for way, words in WAYS.items():
         for number in (signal.SIGTERM, signal.SIGINT):

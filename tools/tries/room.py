@@ -30,7 +30,7 @@ class Room(Runs):
         os.chmod(self.program, 0o755)
         self.clear()
         self.long = self.put("long", LONG)
-        self.file = self.made([self.long])
+        self.file = self.file_of([self.long])
         self.begun = self.file[:18] + bytes(4) + self.file[22:]
 
     def clear(self) -> None:
@@ -39,7 +39,7 @@ class Room(Runs):
         os.mkdir(self.path("out"))
         os.chmod(self.path("out"), 0o777)
 
-    def made(self, words: Sequence[str], more: Sequence[str] = ()) -> bytes:
+    def file_of(self, words: Sequence[str], more: Sequence[str] = ()) -> bytes:
         """The file that the program makes with these words, without any trouble."""
         path = self.path("made")
         words = [self.program, words[0], path, *words[1:], "--workers", "0", *more]
@@ -61,7 +61,7 @@ class Room(Runs):
         self.count.judge(name, "" if is_well else problem)
 
 
-def told(ran: Ran) -> str:
+def described(ran: Ran) -> str:
     """How a run ended, in words."""
     return f"status {ran.status}, {ran.said!r}, {ran.complained[:200]!r}"
 

@@ -13,7 +13,7 @@ from ..exporter.tracks import Staff, staves
 from . import meter as meters
 from .meter import Meter
 from .midi_file import Timed, file_of, save, text
-from .playing import Failed, judge, listing_of, listing_of_file, many, must_differ
+from .playing import Failed, counted, judge, listing_of, listing_of_file, must_differ
 from .ticks import agreed
 from .walk import Played
 
@@ -44,21 +44,21 @@ def run(options: argparse.Namespace) -> int:
     grid = grid_of(walk, meter)
     tracks = staves(walk, [event for _, event in grid.events])
     save(options.out, _file(grid, tracks, meter))
-    print(f"{options.out}: {many(len(tracks), 'track')} ({'; '.join(staff.name for staff in tracks)}), meter {meter}, "
-          f"{many(len(grid.tempos), 'tempo')}; made by the companion, outside the proof")
+    print(f"{options.out}: {counted(len(tracks), 'track')} ({'; '.join(staff.name for staff in tracks)}), meter {meter}, "
+          f"{counted(len(grid.tempos), 'tempo')}; made by the companion, outside the proof")
     if grid.lead:
         print("it begins with a bar of rest, since the score begins with a pause")
     for line in _drifts(walk):
         print(line)
     if grid.beside:
-        print(f"{many(grid.beside, 'event')} off the written grid: other voices make the tempo there, or none is slow "
+        print(f"{counted(grid.beside, 'event')} off the written grid: other voices make the tempo there, or none is slow "
               "enough, or a breath begins")
     found = checked(listing_of(written), listing_of_file(options.out))
     if found.off:
-        print(f"{many(found.notes, 'note')}: {found.off:,} beginnings and ends lie more than 1 ms off; first "
+        print(f"{counted(found.notes, 'note')}: {found.off:,} beginnings and ends lie more than 1 ms off; first "
               f"{found.first}")
         return 1
-    print(f"{many(found.notes, 'note')}: each begins and ends within {float(found.most):.2f} ms of the program's file")
+    print(f"{counted(found.notes, 'note')}: each begins and ends within {float(found.most):.2f} ms of the program's file")
     return 0
 
 

@@ -11,7 +11,7 @@ from ..importer.parts import Piece, piece_of
 from ..importer.scaling import scaled
 from ..importer.score import fitting_text
 from .midi_file import save
-from .playing import Listing, listing_of_file, many, must_differ, needs, run as play
+from .playing import Listing, counted, listing_of_file, must_differ, needs, run as play
 
 MOST_BYTES = 1_048_576
 _TOO_DEEP = "fault 12"
@@ -54,16 +54,16 @@ def run(options: argparse.Namespace) -> int:
     answer = compared(fit.listing, piece, played)
     per_event = len(text) / max(1, answer.events)
     phrases = sum(line.startswith("phrase ") for line in text.splitlines())
-    print(f"{options.score}: {many(voices, 'branch')}, {many(phrases, 'phrase')}, {len(text):,} bytes, {per_event:.1f} an "
+    print(f"{options.score}: {counted(voices, 'branch')}, {counted(phrases, 'phrase')}, {len(text):,} bytes, {per_event:.1f} an "
           "event")
     if answer.differing:
         print(f"played and compared: {answer.differing:,} of {answer.events:,} events differ; first {answer.first}")
         return 1
     print(f"played and compared: all {answer.events:,} events are at their ticks")
     if answer.early:
-        print(f"{many(answer.early, 'note-off')} on another side of a message of the same tick than in the file")
+        print(f"{counted(answer.early, 'note-off')} on another side of a message of the same tick than in the file")
     if answer.reordered:
-        print(f"{many(answer.reordered, 'other event')} in another order at one tick and channel than in the file")
+        print(f"{counted(answer.reordered, 'other event')} in another order at one tick and channel than in the file")
     return 0
 
 
@@ -84,8 +84,8 @@ def _written(piece: Piece, name: str) -> tuple[str, int, Listing]:
 def _tell(path: str, listing: Listing, piece: Piece) -> None:
     notes = sum(len(part.notes) for part in piece.parts)
     messages = sum(len(part.messages) for part in piece.parts)
-    print(f"{path}: format {listing.format}, {many(listing.tracks, 'track')}, {listing.division} ticks a quarter note; "
-          f"{many(notes, 'note')}, {messages:,} control changes, programs and bends")
+    print(f"{path}: format {listing.format}, {counted(listing.tracks, 'track')}, {listing.division} ticks a quarter note; "
+          f"{counted(notes, 'note')}, {messages:,} control changes, programs and bends")
     left = [f"{count:,} {what}" for what, count in sorted(piece.left_out.items()) if count]
     if piece.tempos:
         left.append(f"{len(piece.tempos):,} tempo, as a shape that is not used")

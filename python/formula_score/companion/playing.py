@@ -15,7 +15,7 @@ from ..explain import explanation
 from ..slips.kinds import BY_VERBS
 
 __all__ = ["Event", "Failed", "Listing", "Run", "judge", "listed", "listing_of", "listing_of_file", "located",
-           "many", "must_differ", "needs", "program", "run", "text_of"]
+           "counted", "must_differ", "needs", "program", "run", "text_of"]
 
 _TOP = pathlib.Path(__file__).resolve().parents[3]
 
@@ -118,9 +118,9 @@ def located(text: bytes, tick: int, process: int) -> Optional[tuple[int, ...]]:
         raise Failed(error.status, error.why, error.said) from error
 
 
-def many(number: int, what: str) -> str:
+def counted(number: int, thing: str) -> str:
     """So many of something, as `1 note` or `2 notes`."""
-    return f"{number:,} {what}{'' if number == 1 else 'es' if what.endswith('ch') else 's'}"
+    return f"{number:,} {thing}{'' if number == 1 else 'es' if thing.endswith('ch') else 's'}"
 
 
 def must_differ(source: str, target: str) -> None:

@@ -58,24 +58,24 @@ class _Reader:
         self.phrases: dict[str, Phrase] = {}
 
     @property
-    def here(self) -> Token:
+    def token(self) -> Token:
         return self.tokens[self.at]
 
     def step(self) -> Token:
-        token = self.here
+        token = self.token
         if not token.text:
             raise Unread("the text ends too early")
         self.at += 1
         return token
 
     def expect(self, text: str) -> Token:
-        if self.here.text != text:
-            raise Unread(f"{self.here.line}:{self.here.column}: {text!r} is missing")
+        if self.token.text != text:
+            raise Unread(f"{self.token.line}:{self.token.column}: {text!r} is missing")
         return self.step()
 
     def has(self, *texts: str) -> bool:
         """Whether one of these comes; it is passed over then."""
-        if self.here.text in texts:
+        if self.token.text in texts:
             self.at += 1
             return True
         return False
@@ -112,16 +112,16 @@ class _Reader:
         return 4 * self.division * above // self.whole_number()
 
     def duration(self) -> Length:
-        if self.here.text == "ticks" and self.tokens[self.at + 1].text == "(":
+        if self.token.text == "ticks" and self.tokens[self.at + 1].text == "(":
             self.step()
             return Computed(self.in_parentheses(), self.limit())
         return self.ticks()
 
     def count(self) -> Length:
-        return Computed(self.in_parentheses(), self.limit()) if self.here.text == "(" else self.whole_number()
+        return Computed(self.in_parentheses(), self.limit()) if self.token.text == "(" else self.whole_number()
 
     def amount(self) -> Amount:
-        if self.here.text == "(":
+        if self.token.text == "(":
             return self.in_parentheses()
         return -self.whole_number() if self.has("-") else self.whole_number()
 
@@ -137,13 +137,13 @@ class _Reader:
 
     def expression(self, least: int = 1) -> Expression:
         left = self.operand()
-        while _TIGHTER.get(self.here.text, 0) >= least:
+        while _TIGHTER.get(self.token.text, 0) >= least:
             sign = self.step().text
             left = Expression(sign, 0, (left, self.expression(_TIGHTER[sign] + 1)))
         return left
 
     def operand(self) -> Expression:
-        if self.here.text == "(":
+        if self.token.text == "(":
             return self.in_parentheses()
         name = self.step().text
         if name == "-":
@@ -162,14 +162,14 @@ class _Reader:
     def block(self, head: Optional[Token] = None) -> Block:
         opened = self.expect("{")
         statements = []
-        while self.here.text != "}":
+        while self.token.text != "}":
             statements.append(self.statement())
         return Block(head or opened, opened, self.step(), tuple(statements))
 
     def branches(self) -> tuple[Block, ...]:
         self.expect("{")
         found = []
-        while self.here.text == "branch":
+        while self.token.text == "branch":
             found.append(self.block(self.step()))
         self.at += 1
         return tuple(found)
@@ -268,13 +268,13 @@ class _Reader:
             self.division = self.ended(self.whole_number())
         if self.has("seed"):
             seed = self.ended(self.whole_number())
-        while self.here.text:
+        while self.token.text:
             if self.has("shape"):
                 name = self.step()
                 self.expect("=")
                 self.shapes[name.text] = Shape(name, self.several(self.part))
                 self.expect(";")
-            elif self.here.text == "phrase":
+            elif self.token.text == "phrase":
                 head, name = self.step(), self.step()
                 self.phrases[name.text] = Phrase(name, self.block(head))
             else:

@@ -186,13 +186,13 @@ class _Lengths:
     def of(self, statements: tuple[Statement, ...]) -> Optional[int]:
         total = 0
         for statement in statements:
-            ticks = self.one(statement)
+            ticks = self.of_statement(statement)
             if ticks is None:
                 return None
             total += ticks
         return total
 
-    def one(self, statement: Statement) -> Optional[int]:
+    def of_statement(self, statement: Statement) -> Optional[int]:
         says, inner = statement.word, [block.statements for block in statement.blocks]
         if says in ("note", "rest"):
             return statement.length if isinstance(statement.length, int) else None

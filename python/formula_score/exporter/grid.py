@@ -40,7 +40,7 @@ def grid_of(walk: Played, meter: Meter) -> Grid:
             axis = Axis(walk, meter.start(2) - meter.start(1), left_out)
         making = _Making(walk, axis, [*events, last])
         if making.tempos.missed is None or not axis.sections:
-            return making.made()
+            return making.grid()
         # what is too slow for a tempo stays in the places of the notes
         left_out |= {axis.near(making.tempos.missed).level}
 
@@ -74,7 +74,7 @@ class _Making:
             found.append(latest)
         return found
 
-    def made(self) -> Grid:
+    def grid(self) -> Grid:
         """The whole."""
         found = self.tempos
         beside = [event for event, place in zip(self.events, self.direct) if place is None]
