@@ -2,21 +2,14 @@
 
 import unittest
 
-from formula_score.explain import Place, place_of, position, refusal
+from formula_score.explain import place_of, refusal
 from formula_score.slips import told
 from formula_score.slips.checking import stands
 from formula_score.slips.cures import Known
-from formula_score.slips.judging import first_fault
 from formula_score.slips.spot import Spot
 
-from .hundreds import MEANT, NAMES, hundred
+from .hundreds import MEANT, NAMES, hundred, place_by_judge
 from .program import needs_program, run
-
-
-def place_by_judge(text):
-    """Where the first fault stands by the library's own reading; None for none that it knows."""
-    fault = first_fault(text.encode().decode("latin-1"))
-    return Place(*position(text.encode(), fault.place), fault.number) if fault else None
 
 
 class Hundreds(unittest.TestCase):
