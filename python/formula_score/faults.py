@@ -40,7 +40,7 @@ FAULTS = {fault.number: fault for fault in (
           "let b divide the ticks of a whole note, 1,920 or four times the division, times a, as in `1/6`, `1/64` "
           "or `1/5`, or write `ticks N`"),
     Fault(9, "a `par` inside an `if` or a loop of a computed count", "the `par`; in a phrase the `do`",
-          "write the count as a number; put the `if` into the branches"),
+          "of a loop write the count as a number, and put an `if` into the branches"),
     Fault(10, "a `play` or `skip` outside every `rhythm`", "the word; in a phrase the `do`",
           "put a `rhythm` round it, or write `note` or `rest`"),
     Fault(11, "`n0` to `n15` where not so many loops are open",
@@ -108,7 +108,8 @@ RECORD_FAULTS = {fault.number: fault for fault in (
           "copy the record again, or make it anew: it was cut or damaged at this step or before it"),
     Fault(44, "this step is not allowed there: the steps are not those of a run over this score",
           "the number of the step, counted from 0",
-          "make the record anew; `scripts/score show` prints its steps, and docs/SCHEDULER.md says where each is allowed"),
+          "make the record anew; `scripts/score show` prints its steps, and docs/SCHEDULER.md says where each is "
+          "allowed"),
     Fault(45, "the steps end before every event is out and every process at its end", "how many steps there are",
           "copy the record again, or make it anew: its end is missing"),
     Fault(46, "more than 67,108,864 bytes came, which is tested before all else", "0",

@@ -1,15 +1,53 @@
 """What is told of each slip of the hundreds, and that who follows it is helped."""
 
+import re
 import unittest
 
 from formula_score.explain import place_of, refusal
 from formula_score.slips import told
 from formula_score.slips.checking import stands
 from formula_score.slips.cures import Known
+from formula_score.slips.following import followed
 from formula_score.slips.spot import Spot
+from formula_score.slips.sureness import has_condition
+from formula_score.slips.trying import changed, mends
 
 from .hundreds import MEANT, NAMES, hundred, place_by_judge
 from .program import needs_program, run
+from .test_typing import words
+
+#: How many faults of one slip are followed, and how many cures that are asserted may lead elsewhere.
+FAULTS, ELSEWHERE = 8, 4
+
+
+def spot_of(text, place):
+    """Where a place of a text is, and what stands round it."""
+    lines = text.encode().split(b"\n")[:place.line - 1]
+    return Spot(text.encode(), sum(len(each) + 1 for each in lines) + place.column - 1)
+
+
+def leads_to(text, scores):
+    """Whether one who follows what is told of each fault in turn comes to one of these scores; None for nothing to do.
+
+    Of the first fault only what is asserted counts.
+    """
+    for count in range(FAULTS):
+        place = place_by_judge(text)
+        if place is None:
+            return False if count else None
+        found = told(text.encode(), *place)
+        spot = spot_of(text, place)
+        says = found and not isinstance(found.cure, Known) and re.search(r"\b(?:write|take|did you mean)\b", found.cure)
+        ways = followed(spot, found.cure) if says else []
+        if not ways or not count and has_condition(found.cure):
+            return None
+        texts = [changed(spot, each, 0, len(spot.source)).encode("latin-1").decode() for each in ways if mends(spot, each)]
+        if any(words(one) == words(other) for one in texts for other in scores):
+            return True
+        if not texts:
+            return None
+        text = texts[0]
+    return False
 
 
 class Hundreds(unittest.TestCase):
@@ -39,10 +77,15 @@ class Hundreds(unittest.TestCase):
                 place = place_by_judge(slip.text)
                 if place and place.number == 3:
                     found = told(slip.text.encode(), *place)
-                    lines = slip.text.encode().split(b"\n")[:place.line - 1]
-                    spot = Spot(slip.text.encode(), sum(len(each) + 1 for each in lines) + place.column - 1)
+                    spot = spot_of(slip.text, place)
                     if not isinstance(found.cure, Known) and "is written so" not in found.cure:
                         self.assertTrue(stands(spot, found.cure), f"{name} {slip.number}: {found.cure}")
+
+    def test_what_is_asserted_was_meant(self):
+        led = {f"{name} {slip.number}": leads_to(slip.text, slip.scores()) for name in MEANT for slip in hundred(name)}
+        self.assertGreaterEqual(sum(each is True for each in led.values()), 120)
+        astray = [each for each, led_there in led.items() if led_there is False]
+        self.assertLessEqual(len(astray), ELSEWHERE, astray)
 
     @needs_program
     def test_the_program_refuses_them_at_the_same_place(self):

@@ -11,6 +11,7 @@ from formula_score.slips.cures import Known
 from formula_score.slips.following import followed
 from formula_score.slips.judging import first_fault
 from formula_score.slips.spot import Spot
+from formula_score.slips.sureness import has_condition
 from formula_score.slips.tokens import NAME, tokens
 from formula_score.slips.trying import changed
 
@@ -27,8 +28,8 @@ TEXTS = (
 )
 #: The keys of a board, row by row.
 ROWS = ("1234567890-=", "qwertyuiop[]", "asdfghjkl;", "zxcvbnm,./")
-#: How many errors are made, and how large a part of those that are refused may be told wrongly, at most.
-ERRORS, MOST_WRONG = 600, 0.03
+#: How many errors are made; how large a part of those that are refused may be told wrongly, and without a condition.
+ERRORS, MOST_WRONG, MOST_ASSERTED = 600, 0.03, 0.003
 
 
 def neighbour(key: str, side: int) -> str:
@@ -54,7 +55,10 @@ def words(text: str) -> list[str]:
 
 
 def judged(text: str, wrong: str) -> str:
-    """`right` where a way to follow what is told gives the text back, `wrong` where none does, `general` without one."""
+    """`right` where a way to follow what is told gives the text back, `general` without a way.
+
+    Where none does it is `wrong`, or `asserted` if the cure names no condition.
+    """
     fault = first_fault(wrong)
     if fault is None:
         return "accepted"
@@ -63,20 +67,23 @@ def judged(text: str, wrong: str) -> str:
     ways = followed(spot, found.cure) if found and not isinstance(found.cure, Known) else []
     if not ways:
         return "general"
-    return "right" if any(words(changed(spot, way, 0, len(wrong))) == words(text) for way in ways) else "wrong"
+    if found is None or any(words(changed(spot, way, 0, len(wrong))) == words(text) for way in ways):
+        return "right"
+    return "wrong" if has_condition(found.cure) else "asserted"
 
 
 class Typing(unittest.TestCase):
     def test_few_cures_lead_astray(self) -> None:
         draw = random.Random(55)
-        count = {"right": 0, "general": 0, "wrong": 0, "accepted": 0}
+        count = {"right": 0, "general": 0, "wrong": 0, "asserted": 0, "accepted": 0}
         for _ in range(ERRORS):
             text = draw.choice(TEXTS)
             wrong = mistyped(draw, text)
             if words(wrong) != words(text):
                 count[judged(text, wrong)] += 1
-        refused = count["right"] + count["general"] + count["wrong"]
-        self.assertLessEqual(count["wrong"], MOST_WRONG * refused, count)
+        refused = sum(count.values()) - count["accepted"]
+        self.assertLessEqual(count["wrong"] + count["asserted"], MOST_WRONG * refused, count)
+        self.assertLessEqual(count["asserted"], MOST_ASSERTED * refused, count)
         self.assertGreaterEqual(count["right"], 0.78 * refused, count)
 
 

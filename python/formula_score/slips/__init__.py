@@ -11,13 +11,14 @@ from .bytes import at_byte, at_number
 from .calls import called
 from .checking import says_a_change, stands
 from .cures import Computed, Known
-from .forms import FORMS
+from .forms import FORMS, GRAMMAR
 from .places import AT
 from .ranges import known_name, no_ticks, out_of_range, unknown_name
 from .smallest import meant, rearranged, smallest
 from .spot import Spot
 from .stray import or_away, outside, quoted_away
 from .statement import at_statement
+from .sureness import conditional
 from .trying import Change, mends
 from .tokens import END, INDEX, NAME, NUMBER, PITCH, REGISTER, kind_of
 from .wording import without_rhythm, worded
@@ -45,13 +46,13 @@ def told(data: bytes, line: int, column: int, number: int) -> Optional[Told]:
         found = _BY_NUMBER[number](spot)
         return Told(found[0], worded(spot, found[1]), place) if found else None
     if number == 1:
-        cure = _checked(spot, quoted_away, _word_in_parts, at_byte)
-        return Told(_heading_of_byte(spot), cure or _form(spot) or _ANY_BYTE, place)
+        cure = conditional(spot, _checked(spot, quoted_away, _word_in_parts, at_byte))
+        return Told(_heading_of_byte(spot), cure or _stated(spot, at_byte) or _ANY_BYTE, place)
     if number == 2:
-        return Told(_heading_of_number(spot), _checked(spot, at_number), place)
+        return Told(_heading_of_number(spot), conditional(spot, _checked(spot, at_number)), place)
     rule = at_statement if spot.where == "statement" else AT[spot.where]
-    cure = _checked(spot, quoted_away, _commented, _doubled, _word_in_parts, called, rule, _unopened)
-    return Told(_heading(spot), cure or _form(spot), spot.last.end if spot.is_over_line else place)
+    cure = conditional(spot, _checked(spot, quoted_away, _commented, _doubled, _word_in_parts, called, rule, _unopened))
+    return Told(_heading(spot), cure or _stated(spot, rule), spot.last.end if spot.is_over_line else place)
 
 
 def _checked(spot: Spot, *rules: Rule) -> str:
@@ -67,16 +68,20 @@ def _checked(spot: Spot, *rules: Rule) -> str:
     return outside(spot) or smallest(spot) or ""
 
 
+_FACT = re.compile(r"(?!if |did )((?:[^:`]|`[^`]*`)+): (?:write|take) ")
+#: Letters of other alphabets that look like those of this one.
+_ALIKE = str.maketrans("асеорхуіѕјΑΒΕαο", "aceopxyisjABEao")
 #: What is told of a place, by what stands there.
 Rule = Callable[[Spot], Optional[str]]
-_ANY_BYTE = "take it away, or put it and what follows behind `#`"
+_ANY_BYTE = "no token begins with this byte; what is no music stands behind `#`"
 _BY_NUMBER = {5: known_name, 6: unknown_name, 7: out_of_range, 8: no_ticks}
 
 
 def _commented(spot: Spot) -> Optional[str]:
     """What to do where a `#` before a number makes a comment of it."""
     found = re.match(r" ?#[0-9][^\n]*\n", spot.source[spot.last.end:spot.place])
-    return Known("a `#` begins a comment, which goes to the end of its line: take the `#` away") if found else None
+    return Known("a `#` begins a comment, which goes to the end of its line: if the number is meant, take the `#` "
+                 "away") if found else None
 
 
 def _doubled(spot: Spot) -> Optional[str]:
@@ -91,8 +96,10 @@ def _doubled(spot: Spot) -> Optional[str]:
         notes = re.match(rf"note {word} {word} ([0-9]+/[0-9]+|ticks [0-9]+)\s*;", _statement_on(spot))
         if here.kind == NUMBER:
             return f"one `{here.text}` is enough: take this one away, or write what is missing before it"
-        more = f", or one after another `{' '.join([f'note {here.text} {notes[1]};'] * 2)}`" if notes else ""
-        return f"one `{here.text}` is enough: take this one away{more}"
+        more = f"; if it is played twice, `{' '.join([f'note {here.text} {notes[1]};'] * 2)}`" if notes else ""
+        if more:
+            return f"one `{here.text}` is enough: if it stands there twice by mistake, take this one away{more}"
+        return f"one `{here.text}` is enough: take this one away"
     return None
 
 
@@ -110,7 +117,8 @@ def _unopened(spot: Spot) -> Optional[str]:
         return None
     if opens in texts:
         return f"one `{spot.here.text}` is too many, or a `{opens}` is missing before it"
-    return f"there is no open `{opens}` for this `{spot.here.text}`: take it away"
+    return (f"there is no open `{opens}` for this `{spot.here.text}`: if it is one too many, take it away, else write "
+            f"the `{opens}`")
 
 
 def _word_in_parts(spot: Spot) -> Optional[str]:
@@ -143,7 +151,7 @@ def _with_accents(spot: Spot, begun: int) -> Optional[str]:
     text = spot.data[begun:begun + 80].decode("utf-8", "replace")
     found = re.match(r"[^\W\d_]\w*", text)
     word = found[0] if found else ""
-    plain = unicodedata.normalize("NFKD", word).encode("ascii", "ignore").decode().lower()
+    plain = unicodedata.normalize("NFKD", word.translate(_ALIKE)).encode("ascii", "ignore").decode().lower()
     if word.isascii() or not plain:
         return None
     is_name = spot.head in ("phrase", "shape", "do", "warp") and kind_of(plain) == NAME
@@ -208,9 +216,18 @@ def _heading_of_number(spot: Spot) -> str:
     return f"`{text if len(text) <= 24 else text[:24] + '…'}` is no number"
 
 
+def _stated(spot: Spot, rule: Rule) -> str:
+    """The form of the statement, behind what the rule of the place says of the language where its cure does not "
+      "mend."""
+    fact = _FACT.match(rule(spot) or "")
+    form = _form(spot)
+    return f"{fact[1]}; {form}" if fact and form else fact[1] if fact else form
+
+
 def _form(spot: Spot) -> str:
     """What a statement begins with, or the form of the present one."""
     if spot.where == "statement":
         return "a statement begins with a word as `note`, `rest`, `repeat` or `do`, and other text stands behind `#`"
     form = FORMS.get(spot.head)
-    return f"`{spot.head}` is written so: `{form}`" if form else ""
+    grammar = GRAMMAR.get(spot.head)
+    return f"`{spot.head}` is written so: `{grammar}`, as in `{form}`" if form and grammar else ""

@@ -10,7 +10,7 @@ from .common import FUNCTIONS, computed, open_block
 from .cures import Computed
 from .foreign import length_at, sum_at
 from .forms import FORMS
-from .indexed import by_index
+from .indexed import meaning
 from .near import near
 from .reading import STATEMENTS
 from .spot import Spot, is_statement
@@ -42,7 +42,7 @@ def at_block(spot: Spot) -> Optional[str]:
     if re.match(r"\.[0-9]|,[0-9]+\s*\{", spot.rest):
         return _whole(spot)
     if re.match(r"\.\.+ ?[0-9]|-[0-9]|->", spot.rest) and head == "volume":
-        return by_index("crescendo")
+        return meaning("crescendo")
     if head == "volume" and here.kind == "%" and spot.last.kind == NUMBER:
         return _share(spot)
     if head in ("gate", "volume") and here.kind == "%":
@@ -62,10 +62,10 @@ def at_block(spot: Spot) -> Optional[str]:
         return f"the block stands between `{{` and `}}`: write `{shown} {{ .. }}`"
     if head in ("volume", "gate", "channel") and spot.last.kind == NUMBER and here.kind in ("+", "*", "/", "-", "("):
         if head == "volume" and here.kind == "-":
-            return by_index("crescendo")
+            return meaning("crescendo")
         return f"the number of `{head}` is written, and never computed, as in `{FORMS[head]}`"
     if head == "volume" and here.kind == "to":
-        return by_index("crescendo")
+        return meaning("crescendo")
     if head == "warp" and here.kind == "," and spot.next().kind == NAME:
         return "one shape at a time: write `warp a { warp b { .. } }`"
     if here.text in ("(", "[", "<"):
@@ -106,8 +106,8 @@ def _whole(spot: Spot) -> str:
 def _share(spot: Spot) -> str:
     """A velocity in percent."""
     share = max(1, round(127 * min(100, int(spot.last.text)) / 100))
-    return Computed(f"a velocity goes from 1 to 127: write `{share}` in place of `{spot.last.text}%`, or take the "
-                    "`%` away")
+    return Computed(f"a velocity goes from 1 to 127: if a hundred percent is 127, write `{share}` in place of "
+                    f"`{spot.last.text}%`; else take the `%` away")
 
 
 def _phrase_block(spot: Spot, shown: str) -> Optional[str]:
@@ -135,6 +135,8 @@ def _phrase_block(spot: Spot, shown: str) -> Optional[str]:
 
 def _count(spot: Spot, start: int) -> str:
     """A computed count without its parentheses."""
+    if re.match(r"[0-9]+ ?- ?[0-9]+(?![0-9])", spot.source[start:start + 20]):
+        return "a count is one number, and a computed one stands in parentheses, with its `max`"
     expression = computed(spot.source[start:start + 200]) or "n0"
     most = re.match(r"\s*max\s+([0-9]+)", spot.source[start + len(expression):])
     return ("a computed count stands in parentheses, with its `max`: write "
@@ -190,7 +192,7 @@ def at_name(spot: Spot) -> Optional[str]:
         found = re.match(r"[\"']([a-z][a-z0-9_]*)[\"']", spot.rest)
         return f"a name has no quotes: write `{head} {found[1]}{';' if head == 'do' else ' { .. }'}`" if found else None
     if here.kind == PITCH and head == "do":
-        return f"`do` plays a phrase, and `{here.text}` is a pitch: write `note {here.text} 1/4;`"
+        return f"`do` plays a phrase, and `{here.text}` is a pitch: if a note is meant, write `note {here.text} 1/4;`"
     if here.kind in (PITCH, REGISTER, INDEX):
         return (f"a name is no keyword, pitch, register or index, and `{here.text}` is one: give the "
                 f"{'phrase' if head == 'do' else 'shape'} another name")
@@ -198,7 +200,7 @@ def at_name(spot: Spot) -> Optional[str]:
         return f"the name alone stands behind `{head}`: take `{here.text}` away"
     if here.kind in STATEMENTS and head == "do":
         why = f"`do` plays a phrase by its name, and `{here.text}` stands by itself"
-        return f"{why}: write the name behind `do`, as in `{form}`, or take `do` away"
+        return f"{why}: if a phrase is meant, write its name behind `do`, as in `{form}`, else take `do` away"
     if here.kind in STATEMENTS and spot.is_over_line:
         return f"a name is missing behind `{head}`, as in `{form}`"
     if here.is_word:
@@ -211,9 +213,9 @@ def _stretched(spot: Spot) -> str:
     why, number = "a `warp` has the name of a shape", int(spot.here.text[:7])
     if spot.next().text != "{" or not 20 <= number <= 100_000:
         return f"{why}, as in `shape slow = flat 500/1 by 2000; warp slow {{ .. }}`"
-    cure = (f"{why}, and `{number}` as its stretch is in thousandths: write `shape all = flat 500/1 by {number}; "
+    cure = (f"{why}: if `{number}` is a stretch in thousandths, write `shape all = flat 500/1 by {number}; "
             "warp all { .. }`")
-    tempo = f", or `by {round(120_000 / number)}` where it is the tempo" if number <= 400 else ""
+    tempo = f"; if it is the tempo, `by {round(120_000 / number)}`" if number <= 400 else ""
     return Computed(f"{cure}{tempo}")
 
 
@@ -241,7 +243,7 @@ def at_branch(spot: Spot) -> Optional[str]:
     """In a `par`, where a branch is expected."""
     here = spot.here
     if here.kind == END:
-        return f"write the `}}` of {open_block(spot)}"
+        return f"write the `}}` of {open_block(spot)}, or of one in it"
     if here.kind in ("]", ")"):
         return f"a block ends with `}}`: write `}}` in place of the `{here.text}`"
     if here.kind in (";", ","):
@@ -279,7 +281,8 @@ def at_setting(spot: Spot) -> Optional[str]:
         number = 50 if here.text.startswith("stac") else 100
         return f"a gate is in percent of the length, and {number} is {here.text}: write `gate {number} {{ .. }}`"
     if here.kind in ("(", REGISTER, INDEX, *FUNCTIONS):
-        more = "; for a velocity from note to note, a `loud` list" if head == "volume" else ""
+        more = {"volume": "; for a velocity from note to note, a `loud` list",
+                "gate": "; for another one from note to note, an `artic` list"}.get(head, "")
         return f"the number of `{head}` is written, and never computed, as in `{FORMS[head]}`{more}"
     if here.kind == "-":
         return f"{_RANGE_OF[head]}, as in `{FORMS[head]}`"

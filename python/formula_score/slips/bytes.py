@@ -10,15 +10,15 @@ from ..index import musical
 from ..midi import DYNAMICS
 from ..nodes import KEYWORDS
 from .common import FUNCTIONS
-from .cures import Computed, Known
+from .cures import Computed, Known, Sure
 from .foreign import length_at, pitch_at, sum_at
-from .indexed import by_index, by_mark
+from .indexed import by_index, by_mark, meaning
 from .near import near
 from .pitches import is_chord_name
 from .places import AT
 from .reading import STATEMENTS
 from .spot import Spot
-from .statement import at_statement, letters
+from .statement import LILYPOND, at_statement, letters
 from .symbols import block_comment
 from .tokens import INDEX, NUMBER, PITCH, REGISTER, kind_of
 from .trying import Change, mends, passes
@@ -30,13 +30,15 @@ _SIGNS = {"♩": "1/4", "♪": "1/8", "𝅝": "1/1", "𝅗𝅥": "1/2"}
 _FIELDS = "XTCMLQKVRNOAW"
 #: A letter and a colon before a statement in its line.
 _STATED = re.compile(r"[A-Z]:[^;{}\n]*?\b(?:note|rest|repeat|do|play|par|volume|channel)\b")
-_COMMANDS = ("relative", "absolute", "fixed", "score", "version", "language", "header", "paper", "layout", "new",
-             "book")
 #: What to do about text that is no music.
-TEXT = Known("text is not in the file, and a `#` makes what follows it in its line a comment: take it away, or put it "
-             "behind a `#` at the end of the line")
+TEXT = Known("text is not in the file, and a `#` makes what follows it in its line a comment: if this is a remark, put "
+             "it behind a `#` at the end of the line")
 #: What to do about the head of another language before the statements of a score.
-HEAD = Known("a score begins with its head, `formula 1;`: write it in place of the lines of another language")
+HEAD = Known("a score begins with its head, `formula 1;`, and lines of another language are no part of it")
+#: The same where a head follows.
+BEFORE_HEAD = Known("`formula` begins a score, and lines of another language before it are no part of it: if they are "
+                    "remarks, write `#` before each, else take them away")
+_HEAD = re.compile(r"(?:^|[\s;])formula\s*[12]\s*;")
 #: Places that know what is meant by a text in quotes.
 _QUOTED = ("pitch", "length", "amount", "controller", "name", "new name", "slash", "end", "key", "setting", "entry",
            "count", "stretch", "most", "ticks", "register", "version", "formula", "value", "seed", "division")
@@ -64,7 +66,8 @@ def at_byte(spot: Spot) -> Optional[str]:
     if first in "\u00a0\u2003\u2002\u2009\u202f\u3000\u2028":
         return "this is a blank of another kind, or none that is seen: write a plain blank in its place"
     if text.startswith(('"""', "'''")) and spot.where in ("statement", "formula"):
-        return Known(f"text is not in the file: take `{text[:3]}` away, and write `#` before each line of it")
+        return Known(f"if this is a remark, take `{text[:3]}` away, and write `#` before each line of it: text is not "
+                     "in the file")
     if spot.where == "statement" and first in "<>|\"“”„'‘’«»:~&@!^*_.":
         found = _mark_of_statement(spot, first)
         if found:
@@ -79,7 +82,7 @@ def at_byte(spot: Spot) -> Optional[str]:
     if first in "♯♭♮𝄪𝄫":
         return "a sharp is `s`, as in `fs4`, a flat `b`, as in `bb4`, and a natural nothing: write `fs4`"
     if not first.isascii() and first.isalpha():
-        return Known(f"words have the letters a to z alone: write others for the `{first}`, or put what is no music "
+        return Known(f"words have the letters a to z alone, and `{first}` is none of them; what is no music stands "
                      "behind `#`")
     return None
 
@@ -106,13 +109,13 @@ def _capital(spot: Spot) -> Optional[str]:
     if spot.where == "statement" and re.match(r"[TOLV][0-9]+[TOLVA-G]", spot.rest):
         return "each note is a statement of its own, with its octave and its length: write `note c4 1/4;`"
     if re.match(r"D\. ?[CS]\.", spot.rest):
-        return by_index("coda")
+        return meaning("coda")
     if spot.where == "statement" and re.match(r"[A-Z]:", spot.rest):
         return _field(word[0], spot.rest)
     if spot.where == "formula" and not near(lower, ["formula"]) and "formula" in spot.rest:
         return "the head stands first, and other text behind `#`: write `#` before it"
     if spot.where == "formula" and re.match(rf"[{_FIELDS}]:", spot.rest):
-        return HEAD
+        return BEFORE_HEAD if _HEAD.search(spot.rest) else HEAD
     meant = pitch_at(spot.text) if pitches or spot.where == "value" else None
     if meant and meant.write and not (lower in KEYWORDS):
         if spot.where == "statement":
@@ -121,8 +124,8 @@ def _capital(spot: Spot) -> Optional[str]:
             return spot.write("a note begins with `note`, and pitches have small letters", spot.place,
                               spot.place + len(meant.wrote.encode()), f"note {meant.write}", spot.place)
         if spot.where in ("length", "end") and spot.head in ("note", "play"):
-            return ("words have small letters alone, and commas stand between the pitches of a chord: write `, "
-                    f"{meant.write}`")
+            return ("words have small letters alone, and commas stand between the pitches of a chord: if it is one, "
+                    f"write `, {meant.write}`")
         write = meant.write
         return spot.write(meant.why, spot.place, spot.place + len(meant.wrote.encode()), write)
     if (lower in KEYWORDS or kind_of(lower) == PITCH or lower in spot.names) and passes(
@@ -133,7 +136,7 @@ def _capital(spot: Spot) -> Optional[str]:
     if line:
         return line
     if spot.where == "pitch" and is_chord_name(spot.rest):
-        return Known("a chord is written by its pitches, as in `note c4, e4, g4 1/4;`")
+        return Known("if this is a chord, it is written by its pitches, as in `note c4, e4, g4 1/4;`")
     if spot.where == "statement" and letters(spot):
         return letters(spot)
     nearest = near(lower, [*STATEMENTS, "shape", "phrase", *spot.names]) if spot.where == "statement" else []
@@ -142,7 +145,7 @@ def _capital(spot: Spot) -> Optional[str]:
     if spot.where == "statement":
         return ("a statement begins with a word in small letters, as `note`, `rest`, `repeat` or `do`, and other text "
                 "stands behind `#`")
-    return f"words have small letters alone: write `{lower}`, or put what is no music behind `#`"
+    return f"words have small letters alone: if `{lower}` is meant, write it so, and put what is no music behind `#`"
 
 
 def _bars_of_rest(text: str) -> str:
@@ -159,15 +162,15 @@ def _field(letter: str, rest: str) -> Optional[str]:
     """A field of ABC, or a label."""
     line = re.match(r"[A-Z]:[^;{}\n]*(?=\n|\Z)", rest)
     found = _field_by_letter(letter, rest)
-    why = f"a field of ABC is none here: write `#` before it, or take it away; {found}"
+    why = f"a field of ABC is no part of a score: if it is a remark, write `#` before it; {found}"
     return Known(why) if line and found and letter in "MKL" else found
 
 
 def _field_by_letter(letter: str, rest: str) -> Optional[str]:
     number = re.search(r"([0-9]+)\s*$", rest.split("\n")[0])
-    return {"M": by_index("meter"), "K": by_index("key_signature"), "Q": by_index("tempo", number[1] if number else ""),
-            "L": "each note has its own length: write `note c4 1/8;`, or `rhythm [1/8] { play c4; play d4; }`",
-            "V": by_index("voice")}.get(letter, None if _STATED.match(rest) else TEXT)
+    return {"M": meaning("meter"), "K": meaning("key_signature"), "Q": by_index("tempo", number[1] if number else ""),
+            "L": "each note has its own length, as in `note c4 1/8;` or `rhythm [1/8] { play c4; play d4; }`",
+            "V": meaning("voice")}.get(letter, None if _STATED.match(rest) else TEXT)
 
 
 def _backslash(spot: Spot) -> Optional[str]:
@@ -176,26 +179,26 @@ def _backslash(spot: Spot) -> Optional[str]:
     if spot.where == "slash":
         return AT["slash"](spot)
     if word in ("<", ">", "!"):
-        return by_index("crescendo")
+        return by_mark(f"\\{word}", "crescendo")
     if word == "\\":
-        return by_index("voice")
+        return by_mark("\\\\", "voice")
     lower = word.lower()
     if lower in DYNAMICS:
         return by_index(lower)
     if lower == "tempo":
         number = re.search(r"=\s*([0-9]+)", spot.rest.split("\n")[0])
         return by_index("tempo", number[1] if number else "")
-    if lower in _COMMANDS:
+    if lower in LILYPOND:
         if lower == "header":
-            return by_index("title")
+            return meaning("title")
         if spot.where == "formula":
-            return HEAD
+            return BEFORE_HEAD if _HEAD.search(spot.rest) else HEAD
         return _command(spot, word)
     if lower == "repeat":
         count = re.match(r"\\repeat(?: [a-z]+)? ([0-9]+)", spot.rest)
         return f"a `\\` begins no word: write `repeat {count[1] if count else 2} {{ .. }}`"
     if lower == "key":
-        return by_index("key_signature")
+        return meaning("key_signature")
     if lower in KEYWORDS:
         return f"a `\\` begins no word: write `{lower}`"
     if lower in spot.phrases:
@@ -210,16 +213,17 @@ def _command(spot: Spot, word: str) -> str:
     found = re.match(r"\\[a-zA-Z]+(?: [A-Z][A-Za-z]*| [a-z]'*(?=\s*\{))?(\s*\{)?", spot.rest)
     why, shown = "commands of LilyPond are none here", found[0].rstrip("{ ") if found else f"\\{word}"
     if word in ("midi", "layout", "paper", "header", "lyricmode", "addlyrics", "lyrics", "lyricsto", "with"):
-        return Known(f"{why}: take `{shown}` away, with all of its block")
+        return Known(f"{why}: `{shown}` with all of its block is no part of a score")
     if found and found[1]:
-        return Known(f"{why}, and each note is a statement of its own, as `note c4 1/4;`: take `{shown}` and the "
-                     "braces of its block away")
+        return Known(f"{why}: what stands in the braces of `{shown}` is written without them, each note as a statement "
+                     "of its own, as in `note c4 1/4;`")
     return f"{why}: take `{shown}` away"
 
 
 def _mark_of_statement(spot: Spot, first: str) -> Optional[str]:
     if first == "&":
-        return Known("what sounds together is a chord, `note c4, e4 1/2;`, or the branches of a `par`")
+        return Known("if `&` joins what sounds together, write a chord, as in `note c4, e4 1/2;`, or the branches of a "
+                     "`par`")
     if spot.rest.startswith("<!--"):
         return block_comment(spot)
     decoration = re.match(r"!([a-z]+)!", spot.rest)
@@ -235,14 +239,14 @@ def _mark_of_statement(spot: Spot, first: str) -> Optional[str]:
     if first == "<":
         meant = pitch_at(spot.text[1:].lstrip())
         if meant:
-            return "a chord has no brackets, and begins with `note`: write `note c4, e4, g4 1/4;`"
+            return "if this is a chord, it has no brackets, and begins with `note`, as in `note c4, e4, g4 1/4;`"
     if re.match(r"[<>]\s*[a-z]", spot.rest):
-        return Known(f"`{first}` has no meaning here: an accent is `volume 100 {{ .. }}` round its note, another "
-                     "octave the digit of the pitch, and a chord has commas, as in `note c4, e4, g4 1/4;`")
+        return Known(f"if `{first}` is an accent, write `volume 100 {{ .. }}` round its note; if it is a chord, write "
+                     "its pitches, as in `note c4, e4, g4 1/4;`; if another octave, the digit of the pitch")
     if first in "\"“”„'‘’«»":
         return TEXT
     if first == ":" and spot.rest.startswith(":|"):
-        return by_index("volta")
+        return by_mark(":|", "volta")
     if first == "." and spot.last.kind == NUMBER:
         return None
     return None
@@ -253,22 +257,23 @@ def _mark(spot: Spot, first: str) -> Optional[str]:
     rest = spot.rest
     if first == "|":
         if re.match(r"\|+:|:\|", rest):
-            return by_index("volta")
+            return by_mark("|:", "volta")
         if spot.where in ("operator", "slash") or spot.head in ("if", "set"):
             return None
         if spot.where == "length" and pitch_at(spot.text[1:].lstrip()):
             return None
-        if re.match(r"\|+ ?[12](?![0-9/])", rest):
-            return by_index("volta")
+        ending = re.match(r"\|+ ?[12](?![0-9/])", rest)
+        if ending:
+            return by_mark(ending[0], "volta")
         bars = re.match(r"\|[]|:]?", rest)
         line = musical("bar")
         note = line.note.replace("*", "") if line else ""
         if spot.where == "end":
-            return (f"a statement ends with `;`: write `;` in place of the `{bars[0] if bars else '|'}`; a bar line is "
-                    f"{note}")
-        return f"take the `{bars[0] if bars else '|'}` away: a bar line is {note}"
+            return (f"a statement ends with `;`: if this is a bar line, write `;` in place of the "
+                    f"`{bars[0] if bars else '|'}`; a bar line is {note}")
+        return f"if this is a bar line, take the `{bars[0] if bars else '|'}` away: it is {note}"
     if rest.startswith(":|"):
-        return by_index("volta")
+        return by_mark(":|", "volta")
     if first == "~" and not is_music(spot):
         return None
     if first == "~":
@@ -305,9 +310,9 @@ def at_number(spot: Spot) -> Optional[str]:
     """What to do about a number that a letter follows, or one of ten digits and more."""
     found = re.match(r"([0-9]+)([a-z_][a-z0-9_]*)?", spot.rest)
     digits, word = (found[1], found[2] or "") if found else ("", "")
-    hexadecimal = re.match(r"0x([0-9a-f]{1,6})(?![a-z0-9_])", spot.rest)
+    hexadecimal = re.match(r"0x([0-9a-fA-F]{1,6})(?![A-Za-z0-9_])", spot.rest)
     if hexadecimal:
-        return Computed(f"numbers are decimal: write `{int(hexadecimal[1], 16)}` in place of `{hexadecimal[0]}`")
+        return Sure(f"numbers are decimal: write `{int(hexadecimal[1], 16)}` in place of `{hexadecimal[0]}`")
     long = re.match(r"([1-9][0-9]{0,5})e([0-6])(?![a-z0-9_])", spot.rest)
     plain = str(int(long[1]) * 10 ** int(long[2])) if long else re.sub("_", "", digits + word)
     if word.strip("_") == "" and word and mends(spot, (Change(spot.place + len(digits), spot.place + len(
@@ -316,11 +321,13 @@ def at_number(spot: Spot) -> Optional[str]:
     alike = (digits + word).translate(str.maketrans("oil", "011"))
     if re.fullmatch(r"[0-9]{1,9}", plain) and word and spot.where not in ("length", "denominator", "statement"):
         wrote = long[0] if long else digits + word
-        return Computed(f"a number has digits alone: write `{plain}` in place of `{wrote}`")
+        is_sure = long or re.fullmatch(r"[0-9]{1,3}(?:_[0-9]{3})+", wrote)
+        cure = f"a number has digits alone: write `{plain}` in place of `{wrote}`"
+        return Sure(cure) if is_sure else Computed(cure)
     if re.fullmatch(r"[0-9]{1,9}", alike) and word and spot.where != "statement":
         return f"did you mean `{alike}`?"
     if not word:
-        return f"a number has at most nine digits, and this one {len(digits)}: write a smaller one"
+        return f"a number has at most nine digits, and this one {len(digits)}"
     if spot.where in ("length", "denominator"):
         start = spot.place if spot.where == "length" else spot.statement[-2].start
         meant = sum_at(spot.source[start:]) or length_at(spot.source[start:])
@@ -333,9 +340,9 @@ def at_number(spot: Spot) -> Optional[str]:
     if spot.where == "count" and word in ("x", "times"):
         return f"the count is a number alone: write `repeat {digits} {{ .. }}`"
     if word in ("va", "vb", "ma", "mb") and digits in ("8", "15"):
-        return by_index("octave")
+        return meaning("octave")
     if spot.where == "statement":
-        return at_statement(spot) or f"no word begins with a digit: write a letter before `{digits}`"
+        return at_statement(spot) or "no word begins with a digit, and no statement with a number"
     if spot.where in ("new name", "name"):
         return f"a name begins with a letter: choose another name, as `part_{digits}{word}`"
     turned = re.match(r"([0-9])([a-g][sb]?)(?![a-z0-9_])", spot.rest)

@@ -39,7 +39,8 @@ def keeps(spot: Spot, cure: str) -> bool:
     wrote = _values(spot.source[begun:spot.end_of_statement(spot.place)])
     if "` in place of " in cure:
         return True
-    codes = [each for each in _CODE.findall(cure.split(" write ", 1)[-1]) if each.endswith((";", "}"))]
+    codes = [each for each in _CODE.findall(cure.split(" write ", 1)[-1])
+             if each.endswith((";", "}")) and not each.startswith("formula ")]
     written = [_values(each) for each in codes]
     return not written or any(not (wrote - each and each - wrote) for each in written)
 

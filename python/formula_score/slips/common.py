@@ -61,14 +61,16 @@ def lacks_brace(spot: Spot) -> bool:
     return each.count("{") > each.count("}")
 
 
-def goes_on(spot: Spot) -> bool:
-    """Whether a statement of its own begins here: it reads to its end, or lacks its `;` as well."""
-    if spot.here.text in ("seed", "division"):
+def goes_on(spot: Spot, skipped: int = 0) -> bool:
+    """Whether a statement of its own begins here, or so many tokens behind: it reads to its end, or lacks its `;` "
+      "too."""
+    after = spot.after[skipped:]
+    if spot.next(skipped).text in ("seed", "division"):
         return True
-    reading = Reading(spot.after)
+    reading = Reading(after)
     try:
         reading.entry()
     except There:
         pass
-    read = spot.after[:reading.read]
+    read = after[:reading.read]
     return reading.where == "end" or any(each.text in (";", "{") for each in read)

@@ -9,3 +9,7 @@ class Known(str):
 
 class Computed(str):
     """A change that was computed from what stands there, as a length from a decimal number."""
+
+
+class Sure(Computed):
+    """A change that says the same by the rules of both languages, as `less(a, b)` for `a < b`."""

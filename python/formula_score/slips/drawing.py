@@ -32,4 +32,4 @@ def drawn_at(text: str) -> Optional[Foreign]:
         return None
     write = f"pick({int(high) - low + 1})"
     write = f"{low} + {write}" if low else write
-    return Foreign(found[0], write, f"`{write}` draws a number from {low} to {high}")
+    return Foreign(found[0], write, f"`{write}` draws a number from {low} to {high}, which may come, too")

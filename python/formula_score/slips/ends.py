@@ -12,12 +12,12 @@ from .common import ended, goes_on, open_block, parenthesized, statement_text, t
 from .cures import Computed, Known
 from .foreign import length_at, pitch_at, sum_at
 from .forms import FORMS
-from .indexed import by_index, by_mark
+from .indexed import by_index, by_mark, meaning
 from .marks import angle, mark_behind
 from .near import near
 from .pitches import chord_plus
 from .reading import STATEMENTS
-from .several import in_a_row, tied
+from .several import in_a_row, lengths_in_a_row, tied
 from .shapes import end_of_shape
 from .spot import Spot, is_statement
 from .tokens import END, NAME, NUMBER, PITCH, Token
@@ -33,11 +33,12 @@ def at_end(spot: Spot) -> Optional[str]:
     comment = re.match(r"(//|--|%(?!\{))(?=\s*[A-Za-z])[^;\n]*(?:\n|\Z)", spot.rest)
     if comment and not spot.is_over_line and mends(
             spot, (Change(spot.place, spot.place + len(comment[1]), "; #"),), once=True):
-        return Known(f"a comment begins with `#`: write `#` in place of the `{comment[1]}`, and `;` before it")
+        return Known(f"if this is a comment, it begins with `#`: write `#` in place of the `{comment[1]}`, and `;` "
+                     "before it")
     if spot.rest.startswith("/*"):
-        return Known("a comment begins with `#`, and ends with its line: take it away, or put it behind a `#` at the "
+        return Known("a comment begins with `#`, and ends with its line: if this is one, put it behind a `#` at the "
                      "end of the line")
-    one = tied(spot) if head == "note" else None
+    one = tied(spot) or lengths_in_a_row(spot) if head == "note" else None
     if one:
         return one
     between = _before_statement(spot)
@@ -55,7 +56,9 @@ def at_end(spot: Spot) -> Optional[str]:
     if here.text == "{":
         return f"`{head}` has no block: write `;`, and take the `{{` and its `}}` away"
     if here.text in (")", "]"):
-        return f"there is no open `{'(' if here.text == ')' else '['}` for this `{here.text}`: take it away"
+        opens = "(" if here.text == ")" else "["
+        return (f"there is no open `{opens}` for this `{here.text}`: if it is one too many, take it away, else write "
+                f"the `{opens}`")
     if here.kind == PITCH or here.kind == NAME and pitch_at(spot.text) and head in ("note", "play"):
         row = in_a_row(spot)
         if row:
@@ -85,7 +88,10 @@ def _before_statement(spot: Spot) -> Optional[str]:
     if any(pitch_at(each.text) or each.text in spot.names or near(each.text, STATEMENTS) for each in parts):
         return None
     wrote = spot.source[spot.place:parts[-1].end]
-    return f"each statement ends with `;`: write `;` in place of `{wrote}`"
+    why = "each statement ends with `;`"
+    if all(each.text in (",", ")", "]") for each in parts):
+        return f"{why}: write `;` in place of `{wrote}`"
+    return f"{why}: if the second follows the first, write `;` in place of `{wrote}`"
 
 
 def _says_nothing(word: str) -> bool:
@@ -125,20 +131,22 @@ def _end_of_sound(spot: Spot) -> Optional[str]:
         for meant in (sum_at(text), length_at(text)):
             if meant and begun + len(meant.wrote) > spot.place:
                 cure = spot.write(meant.why, begun, begun + len(meant.wrote), meant.write)
-                return Computed(f"{cure} for one note, or `repeat {times[1]} {{ {statement_text(spot)} }}` for "
-                                f"{times[1]} of them") if cure and times and head == "note" else cure
+                one = cure.replace(": write", ": if one note is meant, write")
+                more = f"; if {times[1]} of them, write `repeat {times[1]} {{ {statement_text(spot)} }}`" if times else ""
+                return Computed(f"{one}{more}") if cure and more and head == "note" else cure
     if here.kind in (*_ROUND, "warp") and not spot.is_over_line and _block_round(spot):
         return _block_round(spot)
     if spot.is_over_line:
         return None
     if here.kind in ("loud", "volume") and spot.next().kind in (";", "}", END):
-        return by_index("dynamics")
+        return meaning("dynamics")
     if here.text in ("<", ">"):
         return angle(here.text)
     if here.text in ("+", "&", "and", "then", "|", "-") and is_statement(spot.next()):
         return f"each statement ends with `;`: {ended(spot)}, and take the `{here.text}` away"
     if here.kind in ("note", "rest", "play") and spot.next().kind in (";", "}"):
-        return f"nothing stands behind the length: take `{here.text}` away, or write what is missing behind it"
+        return (f"nothing stands behind the length: if a statement is meant, write `;` before `{here.text}` and what "
+                f"is missing behind it, else take `{here.text}` away")
     if re.match(r"x ?[0-9]+(?![a-z0-9_])|(?:twice|times)\b", spot.rest):
         count = re.match(r"x ?([0-9]+)", spot.rest)
         return f"a loop plays it more than once: write `repeat {count[1] if count else 2} {{ {statement_text(spot)} }}`"
@@ -161,7 +169,7 @@ def _end_of_sound(spot: Spot) -> Optional[str]:
         after = spot.next()
         if after.kind == NAME and not pitch_at(spot.source[after.start:]):
             if after.text in _LOUDNESS:
-                return f"the velocity is that of a block, as in `volume 80 {{ {statement_text(spot)} }}`"
+                return f"a velocity is that of a block, as in `volume 80 {{ {statement_text(spot)} }}`"
             return f"a {head} has one length, and nothing behind it but `;`"
         if after.kind in (PITCH, NAME) and head == "note":
             row = in_a_row(spot)
@@ -175,7 +183,8 @@ def _end_of_sound(spot: Spot) -> Optional[str]:
             if not apart:
                 return f"{why}, with its length, as in `note {pitch} 1/4;`"
             chord = re.match(r"note ([^;]*?) ([0-9]+/[0-9]+|ticks [0-9]+);", statement_text(spot))
-            return Computed(f"{apart}, or `note {chord[1]}, {pitch} {chord[2]};` for a chord") if chord else apart
+            return Computed(f"{apart.replace(': write', ': if they follow one another, write')}; if a chord is meant, write "
+                            f"`note {chord[1]}, {pitch} {chord[2]};`") if chord else apart
         if after.kind == "rest" or after.kind == "note":
             return "each statement ends with `;`: write `;` in place of the `,`"
         if after.kind == NUMBER and head == "note" and spot.next(2).kind != "/" and 20 <= int(after.text) <= 127:
@@ -198,12 +207,15 @@ def _two_lengths(spot: Spot, second: Token) -> str:
     slash = token_before(spot, "/")
     found = re.match(r"([0-9]+) ?/ ?([0-9]+)", spot.source[second.start:])
     if slash is None or found is None or spot.statement[-2].start != slash or spot.statement[-3].kind != NUMBER:
-        return f"{why}: take the second one away"
+        return f"a {spot.head} has one length, and nothing behind it but `;`"
     first = spot.statement[-3]
     both = sum_at(f"{first.text}/{spot.last.text}+{found[1]}/{found[2]}")
     text = spot.mended(first.start, second.start + len(found[0]), both.write) if both else None
-    return Computed(f"{why}: write `{text}` for both together, or take the second one away") if text else (
-        f"{why}: take the second one away")
+    if text is None:
+        return f"a {spot.head} has one length, and nothing behind it but `;`"
+    head = spot.source[spot.statement[0].start:first.start].strip()
+    twice = f"; if it comes twice, write `{statement_text(spot)} {head} {found[0]};`" if spot.head == "note" else ""
+    return Computed(f"{why}: if both together are meant, write `{text}`{twice}; else take one of the two away")
 
 
 def _end_of_play(spot: Spot) -> Optional[str]:
@@ -213,7 +225,8 @@ def _end_of_play(spot: Spot) -> Optional[str]:
     if here.kind in (NUMBER, "ticks") or length_at(spot.rest) and here.kind == NAME:
         cure = spot.write("`play` takes its length from the `rhythm` round it, and `note` has its own",
                           spot.statement[0].start, spot.statement[0].end, "note")
-        return Computed(f"{cure}, or `{statement_text(spot)}` for the next length of the rhythm") if cure and (
+        own = cure.replace(": write", ": if a length of its own is meant, write")
+        return Computed(f"{own}; for the next length of the rhythm write `{statement_text(spot)}`") if cure and (
             spot.is_inside("rhythm")) else cure
     if here.kind == PITCH or here.kind == NAME and pitch_at(spot.text):
         meant = pitch_at(spot.text)
@@ -252,7 +265,7 @@ def _end_of_do(spot: Spot) -> Optional[str]:
         if name not in spot.phrases and here.text in spot.phrases:
             return f"no phrase has the name `{name}`, and `do` plays one as it stands: write `do {here.text};`"
         if here.text == "+" and spot.next().kind == NUMBER:
-            return by_index("transpose")
+            return meaning("transpose")
         if other == name:
             return Computed(f"one phrase at a time: write `do {name}; do {name};`, or take one `{name}` away")
         if other in spot.phrases or spot.next().kind == NAME:
@@ -284,8 +297,8 @@ def _end_of_message(spot: Spot) -> Optional[str]:
         return f"a `{head}` has a whole number: write `{FORMS[head]}`"
     if here.kind == "%" and spot.next().kind == ";" and spot.last.kind == NUMBER and int(spot.last.text) <= 100:
         share = round(127 * int(spot.last.text) / 100)
-        return Computed(f"a value is a number from 0 to 127: write `{share}` in place of `{spot.last.text}%`, or take "
-                        "the `%` away") if head != "bend" else None
+        return Computed(f"a value is a number from 0 to 127: if a hundred percent is 127, write `{share}` in place of "
+                        f"`{spot.last.text}%`; else take the `%` away") if head != "bend" else None
     if here.kind in ("+", "-", "*", "/", "%"):
         if spot.last.text == ")":
             return "what is computed stands in parentheses, all of it: move the `)` behind it"
@@ -297,9 +310,9 @@ def _end_of_message(spot: Spot) -> Optional[str]:
         if head == "control":
             return ("a `control` has a controller and a value: write one `control` for each, as `control 7 100; "
                     "control 10 64;`")
-        return f"a `{head}` has one number: take the second one away, or write a statement for each"
+        return f"a `{head}` has one number, and for each of two there is a statement of its own"
     if here.kind == NAME and head == "program":
-        return "a program is its number alone: take the word away"
+        return "a program is its number alone, and no word stands behind it"
     return None
 
 
@@ -320,7 +333,8 @@ def _end_of_skip(spot: Spot) -> Optional[str]:
     if not spot.is_over_line and spot.here.kind in (NUMBER, "ticks"):
         cure = spot.write("`skip` takes its length from the `rhythm` round it, and `rest` has its own",
                           spot.statement[0].start, spot.statement[0].end, "rest")
-        return Computed(f"{cure}, or `skip;` for the next length of the rhythm") if cure and (
+        own = cure.replace(": write", ": if a length of its own is meant, write")
+        return Computed(f"{own}; for the next length of the rhythm write `skip;`") if cure and (
             spot.is_inside("rhythm")) else cure
     return None
 

@@ -2,8 +2,6 @@
 
 from __future__ import annotations
 
-
-
 #: What each word's statement looks like.
 FORMS = {
     "note": "note c4, e4, g4 1/4;", "play": "play c4;", "rest": "rest 1/4;", "skip": "skip;",
@@ -14,4 +12,17 @@ FORMS = {
     "gate": "gate 50 { .. }", "rhythm": "rhythm [1/4, 1/8] { .. }", "artic": "artic [100, 50] { .. }",
     "loud": "loud [100, 64] { .. }", "shape": "shape rit = slope 1/1 by 1000 to 1500;", "phrase": "phrase verse { .. }",
     "seed": "seed 42;", "formula": "formula 1;", "division": "division 96;", "else": "if r0 { .. } else { .. }",
+}
+
+#: The same by the grammar, where words in capitals are what differs.
+GRAMMAR = {
+    "note": "note PITCH, .. LENGTH;", "play": "play PITCH, ..;", "rest": "rest LENGTH;", "skip": "skip;",
+    "control": "control CONTROLLER VALUE;", "program": "program NUMBER;", "bend": "bend NUMBER;",
+    "set": "set REGISTER = VALUE;", "if": "if VALUE { .. }", "repeat": "repeat COUNT { .. }", "do": "do NAME;",
+    "warp": "warp NAME { .. }", "par": "par { branch { .. } .. }", "channel": "channel NUMBER { .. }",
+    "volume": "volume NUMBER { .. }", "gate": "gate NUMBER { .. }", "rhythm": "rhythm [LENGTH, ..] { .. }",
+    "artic": "artic [NUMBER, ..] { .. }", "loud": "loud [NUMBER, ..] { .. }", "shape": "shape NAME = PART, ..;",
+    "phrase": "phrase NAME { .. }", "seed": "seed NUMBER;", "formula": "formula NUMBER;", "division": "division "
+                                                                                                      "NUMBER;",
+    "else": "else { .. }",
 }

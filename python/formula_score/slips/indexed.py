@@ -5,43 +5,46 @@ from __future__ import annotations
 import re
 from typing import Optional
 
-from ..index import musical
+from ..index import Word, musical
 from ..midi import DYNAMICS, INSTRUMENTS
 from .cures import Computed, Known
 from .near import near
 
 
 
-#: Words that are written for other things, too.
-UNSURE = ("first", "second", "alternative", "hold", "ring", "text", "author", "turn", "comma", "part", "layer", "fine",
-          "dot", "dc", "ds", "ten", "mix", "balance", "expression", "slide", "fade", "kit", "partial")
-
-
 def by_index(word: str, number: str = "") -> Optional[str]:
-    """What the index of musical words says; of a tempo by its number."""
+    """What the index of musical words says of a word that stands there; of a tempo by its number."""
     if word in DYNAMICS:
-        return Known(f"`{word}` is a velocity of {DYNAMICS[word]}, and holds for a block: write `volume "
-                       f"{DYNAMICS[word]} {{ .. }}`")
+        return Known(f"if `{word}` is a loudness, it is a velocity of {DYNAMICS[word]}, and holds for a block: write "
+                     f"`volume {DYNAMICS[word]} {{ .. }}`")
     line = musical(word)
     if line is None:
         return None
     if line.words == "tempo" and number and word != "speed" and 20 <= int(number[:6]) <= 400:
         stretch = round(120_000 / int(number))
-        return Known("a tempo is a `warp` round the piece, by 120,000 divided by the tempo: write `shape "
-                       f"tempo_{number} = flat 500/1 by {stretch}; warp tempo_{number} {{ .. }}`")
-    note = line.note.replace("*", "")
-    if word in UNSURE:
-        return by_mark(word, word)
-    return Known(f"{line.words}, as in `{line.write}`" + (f" ({note})" if note else ""))
+        return Known(f"if {number} is the quarter notes a minute, a `warp` goes round the piece, by 120,000 divided by "
+                     f"{number}: write `shape tempo_{number} = flat 500/1 by {stretch}; warp tempo_{number} {{ .. }}`")
+    return by_mark(word, word)
 
 
 def by_mark(mark: str, word: str) -> Optional[str]:
-    """What the index says of a mark that may mean this word, and something else."""
+    """What the index says of a mark or a word that may mean this word, and something else."""
     line = musical(word)
     if line is None:
         return None
+    means = "is the word of music" if mark in line.words.split(", ") else f"stands for {line.words}"
+    return Known(f"if `{mark}` {means}, write it as in {_example(line)}")
+
+
+def meaning(word: str) -> str:
+    """What the index says of what may be meant, where no word of it stands there."""
+    line = musical(word)
+    return Known(f"if {line.words} is meant, write it as in {_example(line)}") if line else ""
+
+
+def _example(line: Word) -> str:
     note = line.note.replace("*", "")
-    return Known(f"if `{mark}` stands for {line.words}, write it as in `{line.write}`" + (f" ({note})" if note else ""))
+    return f"`{line.write}`" + (f" ({note})" if note else "")
 
 
 def instrument(name: str) -> Optional[str]:
@@ -52,5 +55,5 @@ def instrument(name: str) -> Optional[str]:
     if not found:
         return None
     number = INSTRUMENTS.index(found[0])
-    return Computed(f"an instrument is its number in General MIDI, counted from 0, and {number} is the {found[0]}: "
-                    f"write `program {number};`")
+    return Computed("an instrument is its number in General MIDI, counted from 0: if the "
+                    f"{found[0]} is meant, write `program {number};`")

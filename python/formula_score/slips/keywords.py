@@ -5,7 +5,8 @@ from __future__ import annotations
 from typing import Optional
 
 from .common import lacks_brace, open_block
-from .indexed import by_index
+from .cures import Sure
+from .indexed import meaning
 from .reading import OUTSIDE
 from .spot import Spot
 from .tokens import NAME, PITCH
@@ -14,7 +15,7 @@ from .tokens import NAME, PITCH
 
 def head_word(word: str, spot: Spot) -> str:
     if word == "formula":
-        return "the head stands once, at the beginning of the text: take this one away"
+        return Sure("the head stands once, at the beginning of the text: take this one away")
     if spot.reading.version == 2:
         return "`division` stands directly behind `formula 2;`: move it there"
     return "a division belongs to version 2: write `formula 2;` in place of `formula 1;`"
@@ -30,7 +31,8 @@ def at_keyword(spot: Spot) -> Optional[str]:
         return f"a `{word}` stands outside all blocks: move it before `{spot.reading.blocks[0].word}`"
     if word == "seed":
         if spot.reading.blocks or spot.reading.read:
-            return "`seed` stands once, directly behind the head of the score or its division: move it there"
+            return ("`seed` stands once, directly behind the head of the score or its division: if the score has another "
+                    "one, take one of the two away, else move it there")
     if word == "branch":
         if spot.is_inside("par"):
             if spot.reading.blocks[-1].word == "branch" or lacks_brace(spot):
@@ -54,14 +56,14 @@ def at_keyword(spot: Spot) -> Optional[str]:
             return "the parts of a shape stand between commas: write `,` in place of the `;` before `{word}`".format(
                 word=word)
         if word == "pause":
-            return f"silence is `rest 1/4;`, and a `pause` stands in a shape; {by_index('fermata')}"
+            return f"if silence is meant, write `rest 1/4;`, and a `pause` stands in a shape; {meaning('fermata')}"
         if word == "breath":
-            return by_index("breath mark")
+            return meaning("breath mark")
         return (f"parts stand in a shape, and a `warp` plays through it: write `shape rit = {word} ..; warp rit {{ .. "
                 f"}}`")
     if word == "key":
         if spot.next().kind in (PITCH, NAME) or spot.next().text in ("=", ":"):
-            return by_index("key signature")
+            return meaning("key signature")
         return spot.write("a note begins with `note`", spot.place, spot.place, "note ", spot.place)
     if word == "ticks":
         return "a length stands in a statement, as in `rest ticks 480;`, or `note c4 ticks 480;`"

@@ -21,11 +21,13 @@ def unclosed(spot: Spot) -> str:
     found = missing(spot)
     if found is None:
         itself = _plays_itself(spot)
-        return open_block(spot) + (f", before `{itself}`" if itself else "")
+        begun = spot.reading.blocks[0].token.start
+        inner = ", or of one in it" if any(each.text == "{" and each.start > begun for each in spot.before) else ""
+        return open_block(spot) + (f", before `{itself}`" if itself else inner)
     line, column = spot.position(found.token.start)
     before = spot.source.split("\n")[line - 1][:column - 1].strip()
     behind = f", behind `{before}`" if before and len(before) < 40 and "`" not in before and before.isascii() else ""
-    return f"the `{{` at {line}:{column}{behind}, before line {found.line}"
+    return f"the `{{` at {line}:{column}{behind}, before line {found.line}, as the lines are set in"
 
 
 def missing(spot: Spot) -> Optional[Missing]:

@@ -48,7 +48,7 @@ def at_length(spot: Spot) -> Optional[str]:
     if head == "shape":
         return _length_of_part(spot)
     if here.kind in (REGISTER, INDEX, *FUNCTIONS):
-        return "a computed length is written as ticks: write `ticks (E) max N`"
+        return "a computed length is in ticks, as `ticks (E) max N`, and N is the most that it may be"
     if here.kind == "(":
         return length_in_parentheses(spot)
     if here.kind == "/" and spot.next().kind == NUMBER:
@@ -62,7 +62,7 @@ def _without_number(spot: Spot) -> str:
     split = re.fullmatch(r"([1-9])(1|2|4|8|16|32|64)", digits)
     if split and digits not in ("12", "24", "32", "48", "64"):
         return spot.write(why, spot.place, spot.next().end, f"{split[1]}/{split[2]}")
-    cure = str(spot.write(why, spot.place, spot.place, "1"))
+    cure = str(spot.write(why, spot.place, spot.place, " 1"))
     other = spot.mended(spot.place, spot.next().end, f"{split[1]}/{split[2]}") if split else None
     return Computed(f"{cure}, or `{other}`") if other else cure
 
@@ -83,7 +83,7 @@ def length_in_parentheses(spot: Spot) -> str:
     close = spot.rest.find(")")
     if added and close > 0 and len(added.wrote) <= close:
         return spot.write(f"{added.why}, without parentheses", spot.place, spot.place + close + 1, added.write)
-    return "a computed length is written as ticks: write `ticks (E) max N`"
+    return "a computed length is in ticks, as `ticks (E) max N`, and N is the most that it may be"
 
 
 def _behind_pitch(spot: Spot) -> Optional[str]:
@@ -99,17 +99,18 @@ def _behind_pitch(spot: Spot) -> Optional[str]:
         if spot.is_inside("rhythm"):
             cure = spot.write("a `note` has its own length, and `play` takes it from the `rhythm`",
                               spot.statement[0].start, spot.statement[0].end, "play")
-            return Computed(f"{cure}, or `{statement_text(spot)[:-1]} 1/4;` with the length that is meant") if (
+            return Computed(f"{cure.replace(': write', ': if the next length of the rhythm is meant, write')}, else "
+                            f"`{statement_text(spot)[:-1]} 1/4;` with the length that is meant") if (
                 cure and here.kind == ";") else cure
         missing = str(insert(spot, f"the length is missing behind `{pitch}`", " 1/4")) if here.kind == ";" else ""
         if missing and spot.next().kind in (PITCH, "key") and mends(spot, (Change(here.start, here.end, ","),)):
-            return Computed("write `,` in place of the `;` for a chord, or the length that is missing behind "
-                            f"`{pitch}`")
+            return Computed("if a chord is meant, write `,` in place of the `;`, else the length that is missing "
+                            f"behind `{pitch}`")
         return missing if here.kind == ";" else (
             f"the length and a `;` are missing behind `{pitch}`: write `{statement_text(spot)[:-1]} 1/4;`")
     if here.text in DYNAMICS:
-        return (f"the velocity is that of a block: write `volume {DYNAMICS[here.text]} {{ {sounding(spot)} }}`, "
-                "or a comma before a pitch with its octave")
+        return (f"if `{here.text}` is a loudness, write `volume {DYNAMICS[here.text]} {{ {sounding(spot)} }}`; if it "
+                "is a pitch, a comma before it, and its octave")
     if re.match(r"(?:and|plus|with)\s+[a-h]", spot.rest):
         return spot.write("commas stand between the pitches of a chord", spot.last.end, here.end, ",")
     if re.match(r"t[0-9]+(?![a-z0-9_])", spot.rest):
@@ -158,7 +159,8 @@ def _behind_pitch(spot: Spot) -> Optional[str]:
         if here.kind == "-" and spot.next().kind == NUMBER:
             return "a computed pitch is `key` and parentheses: write `note key (60 - 2) 1/4;`"
     if here.text == "'" or here.text == "’":
-        return f"the octave is the digit, and `c4` is middle C: take the `{here.text}` away, or write another digit"
+        return (f"the octave is the digit, and `c4` is middle C: if `{here.text}` is another octave, write its digit, "
+                f"else take the `{here.text}` away")
     if here.text == "." and re.match(r"\. +[0-9]", spot.rest):
         return (f"a pitch has no dot: staccato is `gate 50 {{ {sounding(spot)} }}`, and a dotted quarter has the "
                 "length `3/8`")
@@ -202,7 +204,7 @@ def _length_of_rest(spot: Spot) -> Optional[str]:
     if here.kind == "(":
         return length_in_parentheses(spot)
     if here.kind in (INDEX, *FUNCTIONS):
-        return "a computed length is written as ticks: write `rest ticks (E) max N;`"
+        return "a computed length is in ticks, as `rest ticks (E) max N;`, and N is the most that it may be"
     if here.kind == "/" and spot.next().kind == NUMBER:
         return _without_number(spot)
     if here.kind in ("-", "+") and spot.next().kind == NUMBER:
@@ -256,7 +258,7 @@ def at_denominator(spot: Spot) -> Optional[str]:
             return f"a number is missing behind the `/`, as in `{write}`"
         return write_length(spot, start, spot.source[start:spot.last.end], write, "a number is missing behind the `/`")
     if here.kind in ("(", REGISTER, INDEX, *FUNCTIONS):
-        return "a computed length is written as ticks: write `ticks (E) max N`"
+        return "a computed length is in ticks, as `ticks (E) max N`, and N is the most that it may be"
     return "a number stands behind the `/` of a length: write `1/4`"
 
 
@@ -264,9 +266,9 @@ def at_ticks(spot: Spot) -> Optional[str]:
     """Behind `ticks`."""
     here = spot.here
     if here.kind in (REGISTER, INDEX, *FUNCTIONS, "-") and spot.head in ("note", "rest"):
-        return "a computed length stands in parentheses, with its `max`: write `ticks (E) max N`"
+        return "a computed length stands in parentheses, as `ticks (E) max N`, and N is the most that it may be"
     if here.kind == "(":
-        return "this length is written, and never computed: write `ticks 480`"
+        return "this length is written, and never computed, as in `ticks 480`"
     if here.kind == "=" or here.text == ":":
         return spot.write("a number stands directly behind `ticks`", spot.place, spot.place + 1, " ")
     return "a number stands behind `ticks`: write `ticks 480`"

@@ -8,7 +8,7 @@ from typing import Optional
 from ..midi import DYNAMICS
 from .common import statement_text
 from .cures import Known
-from .indexed import by_index, by_mark
+from .indexed import by_index, by_mark, meaning
 from .spot import Spot
 from .tokens import NUMBER
 
@@ -33,8 +33,8 @@ def sounding(spot: Spot) -> str:
 
 def angle(mark: str) -> Known:
     """What to do about a `<` or `>`, which others have for three things."""
-    return Known(f"`{mark}` has no meaning here: an accent or a crescendo is a list, `loud [100, 64] {{ .. }}`, a "
-                 "dotted rhythm its lengths, `note c4 3/8; note d4 1/8;`, and any other mark is taken away")
+    return Known(f"if `{mark}` is an accent or a crescendo, write a list, as in `loud [100, 64] {{ .. }}`; if a dotted "
+                 "rhythm, its lengths, as in `note c4 3/8; note d4 1/8;`")
 
 
 def mark_behind(spot: Spot) -> Optional[str]:
@@ -44,12 +44,13 @@ def mark_behind(spot: Spot) -> Optional[str]:
         return f"the velocity is that of a block: write `volume {int(found[1])} {{ {sounding(spot)} }}`"
     word = re.match(r"[a-z_]+(?![a-z0-9_])", spot.rest)
     if word and word[0] in DYNAMICS:
-        return f"the velocity is that of a block: write `volume {DYNAMICS[word[0]]} {{ {sounding(spot)} }}`"
+        return (f"if `{word[0]}` is a loudness, it is that of a block: write `volume {DYNAMICS[word[0]]} "
+                f"{{ {sounding(spot)} }}`")
     if word and word[0] in ("second", "seconds", "sec", "s", "ms", "beat", "beats"):
-        return Known("a length is a part of a whole note, and no time: at 120 a minute a quarter, `1/4`, is half a "
-                     "second")
+        return Known(f"if `{word[0]}` is a time, a length is none, but a part of a whole note: at 120 a minute a "
+                     "quarter, `1/4`, is half a second")
     if word and word[0] in ("t", "d"):
-        return by_index("triplet")
+        return meaning("triplet")
     if word:
         return by_index(word[0])
     for pattern, line in _MARKS:
@@ -62,5 +63,5 @@ def mark_behind(spot: Spot) -> Optional[str]:
     if inside:
         return by_index(inside[1])
     if spot.here.text in ("[", "]"):
-        return f"beams are not in the file: take the `{spot.here.text}` away"
+        return f"if `{spot.here.text}` is a beam, take the `{spot.here.text}` away: beams are not in the file"
     return None

@@ -12,7 +12,7 @@ from .cures import Computed, Known
 from .drawing import drawn_at
 from .foreign import length_at, pitch_at
 from .forms import FORMS
-from .indexed import by_index, instrument
+from .indexed import by_index, instrument, meaning
 from .near import near
 from .reading import STATEMENTS, reads
 from .several import with_words
@@ -123,7 +123,8 @@ def _number_for_pitch(spot: Spot, commas: bool) -> str:
         if pitch and pitch.write and head == "note":
             return f"the pitch stands before the length: write `note {pitch.write} {length};`"
         if head == "note" and spot.next(3).kind in (";", END, "}"):
-            return f"a note has its pitch before the length: write `note c4 {length};`, or `rest {length};` for silence"
+            return (f"a note has its pitch before the length, as in `note c4 {length};`; if silence is meant, write "
+                    f"`rest {length};`")
     before = spot.statement[-2].kind if commas and len(spot.statement) > 2 else ""
     if before == PITCH and 20 <= int(here.text[:6]) <= 127 and spot.next().kind in (",", NUMBER, "ticks"):
         return ("a pitch stands behind a `,`, and a velocity is that of a block: write "
@@ -171,7 +172,7 @@ def _no_pitch(spot: Spot) -> Optional[str]:
                             f"`{head} {', '.join(pitches)}{many[3] or ''};` for a chord")
         return f"a pitch has no quotes: write {form}"
     if head == "note" and re.match(r"[-_.xX*~=0]\s+(?:[0-9]+ ?/ ?[0-9]+|ticks [0-9]+)\s*;", spot.rest):
-        return Known("a note has a pitch, as in `note c4 1/4;`, and silence is a `rest`, as in `rest 1/4;`")
+        return Known("a note has a pitch, as in `note c4 1/4;`; if silence is meant, write a `rest`, as in `rest 1/4;`")
     if here.kind == ",":
         return "a pitch is missing before this `,`: write it, or take the `,` away"
     if here.kind in ("+", "-", "*", "/", "%", "=") and spot.next().kind == PITCH:
@@ -196,7 +197,7 @@ def is_chord_name(text: str) -> bool:
 
 def _chord_name(spot: Spot) -> Optional[str]:
     if is_chord_name(spot.rest) and len(spot.here.text) > 1:
-        return Known("a chord is written by its pitches, as in `note c4, e4, g4 1/4;`")
+        return Known("if this is a chord, it is written by its pitches, as in `note c4, e4, g4 1/4;`")
     return None
 
 
@@ -278,7 +279,7 @@ def at_key(spot: Spot) -> Optional[str]:
     """Behind `key`."""
     here = spot.here
     if here.kind == NAME and re.match(r"[a-g][a-z]* (major|minor|dur|moll)", spot.rest):
-        return by_index("key signature")
+        return meaning("key signature")
     found = pitch_at(spot.text)
     if here.kind == PITCH or here.kind == NAME and found and found.write:
         key = token_before(spot, "key")
@@ -334,7 +335,8 @@ def _named_number(spot: Spot, found: Optional[re.Match[str]]) -> Optional[str]:
         return f"a pitch by its name has no `key`, and no quotes: write `note {quoted.write} 1/4;`"
     name = found[1].lower().replace("_", " ").strip()
     if head == "program" and re.match("drum|percussion|kit", name):
-        return Known("the drums are on channel 9, and need no program, as in `channel 9 { note c2 1/4; }`")
+        return Known("if the drums are meant, they are on channel 9, and need no program, as in `channel 9 { note c2 "
+                     "1/4; }`")
     if head == "program":
         return instrument(name) or "an instrument is its number in General MIDI, counted from 0, as in `program 73;`"
     if head == "control":

@@ -44,6 +44,9 @@ def at_head(spot: Spot) -> Optional[str]:
         if version is None and here.kind == NAME:
             return "the version is a number, 1 or 2, as in `formula 1;`"
         return f"the version stands behind `formula`: write `formula {version[1] if version else 1};`"
+    if here.kind == END and "\r" in spot.source and "\n" not in spot.source:
+        return ("the lines end with carriage returns alone, and so a `#` makes a comment of all that follows: save "
+                "the text with line feeds")
     if here.kind == END:
         return "the text holds nothing, and a score begins with its head: write `formula 1;`"
     found = re.match(r"[A-Za-z]+\s*[:=]?\s*[vV]?([12])\b(?:\.[0-9]+)*\s*;?", spot.rest)

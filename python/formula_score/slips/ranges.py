@@ -12,7 +12,7 @@ from .spot import Spot
 from .tokens import NUMBER, PITCH
 
 _TOO_MANY_PITCHES = ("this is the 17th pitch of a note",
-                     "a note has at most 16 pitches: write a second voice for the others")
+                     "a note has at most 16 pitches, and a second voice has the others")
 
 
 def whole_note(spot: Spot) -> int:
@@ -28,7 +28,7 @@ def out_of_range(spot: Spot) -> Optional[tuple[str, str]]:
         if sum(each.text == "," for each in spot.statement) >= 16:
             return _TOO_MANY_PITCHES
         return (f"`{here.text}` is out of its range", "named pitches go from `cb0`, key 11, to `g9`, key 127, the "
-                "greatest: write one of them")
+                "greatest")
     if spot.where in ("key", "amount") and spot.last.kind == PITCH:
         return None
     sign = "-" if here.text == "-" else ""
@@ -46,8 +46,10 @@ def out_of_range(spot: Spot) -> Optional[tuple[str, str]]:
     if found.low <= value <= found.high:
         return _count(spot)
     what = found.what if whole_note(spot) == 1920 else found.what.replace("1,920", f"{whole_note(spot):,}")
+    if value == 0 and spot.head in ("volume", "loud"):
+        what += "; if silence is meant, write a `rest`"
     return (f"`{sign}{number.text}` is out of its range",
-            f"write a number from {_digits(found.low)} to {_digits(found.high)}: {what}")
+            f"a number from {_digits(found.low)} to {_digits(found.high)} stands there: {what}")
 
 
 def _digits(number: int) -> str:
@@ -59,9 +61,10 @@ def _count(spot: Spot) -> Optional[tuple[str, str]]:
     if spot.where == "key" and spot.head in ("note", "play") and commas >= 16:
         return _TOO_MANY_PITCHES
     if commas >= 256 and spot.head in ("rhythm", "artic", "loud"):
-        return ("this is the 257th entry of a list", "a list has at most 256 entries: write a second block behind it")
+        return ("this is the 257th entry of a list", "a list has at most 256 entries, and a second block behind it "
+                                                     "the others")
     if commas >= 256 and spot.head == "shape":
-        return ("this is the 257th part of a shape", "a shape has at most 256 parts: write a second shape")
+        return ("this is the 257th part of a shape", "a shape has at most 256 parts, and a second shape the others")
     return None
 
 
@@ -73,14 +76,14 @@ def _length(spot: Spot, over: str) -> Optional[tuple[str, str]]:
         return None
     under = spot.next(2).text
     if int(under) == 0:
-        return f"`{over}/{under}` is no length", "the number behind the `/` is not 0: write `1/4`"
+        return f"`{over}/{under}` is no length", "the number behind the `/` is not 0, as in `1/4`"
     whole = whole_note(spot)
     ticks = Fraction(int(over), int(under)) * whole
     if ticks > MILLION:
         return (f"`{over}/{under}` is {int(ticks):,} ticks",
-                f"a length has at most 1,000,000 ticks, which is {MILLION // whole}/1: write `{MILLION // whole}/1`")
+                f"a length has at most 1,000,000 ticks, and the greatest is `{MILLION // whole}/1`")
     return (f"`{over}/{under}` is {ticks} ticks",
-            "a length of `flat` and `slope` is at least 1 tick: write `1/1`, or take the part away")
+            "a length of `flat` and `slope` is at least 1 tick, as in `1/1`")
 
 
 def no_ticks(spot: Spot) -> Optional[tuple[str, str]]:
@@ -92,7 +95,14 @@ def no_ticks(spot: Spot) -> Optional[tuple[str, str]]:
     ticks = Fraction(int(over), int(under)) * whole
     return (f"`{over}/{under}` is {float(ticks):.2f} ticks, and no whole number of them",
             f"a length is a whole number of ticks, of which a whole note has {whole:,}: the nearest are "
-            f"{_nearest(int(over), int(under), whole)} and `ticks {round(ticks)}`{_less(over, under)}")
+            f"{_nearest(int(over), int(under), whole)} and `ticks {round(ticks)}`{_less(over, under)}"
+            f"{_finer(int(over), int(under), whole)}")
+
+
+def _finer(over: int, under: int, whole: int) -> str:
+    """The division, a multiple of the present one, by which a length is a whole number of ticks."""
+    fitting = [each for each in range(whole // 4, 961, whole // 4) if over * 4 * each % under == 0]
+    return f"; with `division {fitting[0]};` it is one" if fitting and whole != 1920 else ""
 
 
 def _nearest(over: int, under: int, whole: int) -> str:
@@ -106,7 +116,7 @@ def _nearest(over: int, under: int, whole: int) -> str:
 def _less(over: str, under: str) -> str:
     """The length without a digit that stands there twice."""
     once = re.sub(r"(.)\1", r"\1", under, count=1)
-    return f", or `{over}/{once}` if a digit stands there twice" if once in ("1", "2", "4", "8", "16", "32") and (
+    return f", and `{over}/{once}` if a digit stands there twice" if once in ("1", "2", "4", "8", "16", "32") and (
         once != under) else ""
 
 
@@ -117,7 +127,8 @@ def known_name(spot: Spot) -> Optional[tuple[str, str]]:
     if first is None:
         return None
     return (f"the name `{name}` is taken, at {spot.spelled(first.start)}",
-            f"each shape and phrase has a name of its own: choose another one, as `{name}_2`")
+            f"each shape and phrase has a name of its own: if this is another one, choose another name, as `{name}_2`; "
+            "if it is the same, take one of the two away")
 
 
 def unknown_name(spot: Spot) -> Optional[tuple[str, str]]:
@@ -128,16 +139,22 @@ def unknown_name(spot: Spot) -> Optional[tuple[str, str]]:
     heading = f"no {kind} above has the name `{name}`"
     inside = next((each for each in spot.reading.blocks if each.word == f"phrase {name}"), None)
     if inside:
-        return heading, f"a phrase cannot play itself: take `do {name};` away, or write a loop round what comes again"
+        return heading, ("a phrase cannot play itself: if it is played behind its block, write the `}}` before `do "
+                         f"{name};`; "
+                         "if it comes again, write a loop round what comes again")
     if name in spot.reading.named:
         other = "warp" if head == "do" else "do"
-        return (heading, f"`{name}` is a {'shape' if head == 'do' else 'phrase'}: write "
+        return (heading, f"`{name}` is a {'shape' if head == 'do' else 'phrase'}: if it is meant, write "
                          f"`{f'warp {name} {{ .. }}' if other == 'warp' else f'do {name};'}`")
     later = spot.names.get(name)
     if later is not None and later.start > spot.place:
         return heading, f"the {kind} stands below, at {spot.spelled(later.start)}: move it before this statement"
-    meant = near(name, above)
+    meant = near(name, above) or [each for each in sorted(above) if len(name) > 2 and (
+        each.startswith(name) or len(each) > 2 and name.startswith(each))]
     if meant:
         return heading, "did you mean " + " or ".join(f"`{each}`" for each in meant) + "?"
-    return heading, (f"write `phrase {name} {{ .. }}` above" if head == "do" else
-                     f"a `warp` has the name of a shape above it, as in `shape {name} = slope 1/1 by 1000 to 1500;`")
+    there = f"; there {'are' if len(above) > 1 else 'is'} {', '.join(f'`{each}`' for each in sorted(above))}" if (
+        0 < len(above) < 9) else ""
+    return heading, (f"if it is a new one, write `phrase {name} {{ .. }}` above{there}" if head == "do" else
+                     f"if it is a new one, its shape stands above, as in `shape {name} = slope 1/1 by 1000 to "
+                     f"1500;`{there}")

@@ -15,6 +15,7 @@ _NOTE = rf"({_PITCHES}) ({_LENGTH})"
 #: Two notes with a mark or a word between them.
 _PAIR = re.compile(rf"note {_NOTE}\s*(-|~|_|\+|&|\^|tied?(?: to)?)\s*(?:note )?{_NOTE}\s*;")
 _LIST = re.compile(rf"note {_NOTE}(?: ?,? ?(?:note )?{_NOTE})+ ?(?:;|(?=\n)|\Z)")
+_LENGTHS = re.compile(rf"(note {_PITCHES}) (?:{_LENGTH})(?:(?: ?,| ) ?(?:{_LENGTH})){{2,}}\s*;")
 _CHORD = re.compile(rf"note ({_PITCHES})((?: ?,? ?note {_PITCHES})+) ({_LENGTH})\s*;")
 
 
@@ -46,6 +47,16 @@ def with_words(spot: Spot) -> Optional[str]:
     return Computed(f"of a chord `note` stands once: write `{chord}`, or one after another `{row}`")
 
 
+def lengths_in_a_row(spot: Spot) -> Optional[str]:
+    """One pitch with several lengths."""
+    found = _LENGTHS.match(_from_its_beginning(spot))
+    if found is None:
+        return None
+    lengths = re.findall(_LENGTH, found[0][len(found[1]):])
+    notes = " ".join(f"{found[1]} {each};" for each in lengths)
+    return Computed(f"a note has one length: if it comes again, write `{notes}`") if len(notes) <= SHOWN else None
+
+
 def in_a_row(spot: Spot) -> Optional[str]:
     """Notes with commas or blanks between them, each with its length."""
     found = _LIST.match(_from_its_beginning(spot))
@@ -57,5 +68,6 @@ def in_a_row(spot: Spot) -> Optional[str]:
     if len(notes) > SHOWN:
         return f"{why}, with `;` and `note` in place of the `,`"
     chord = f"note {', '.join(pitches for pitches, _ in parts)} {parts[0][1]};"
-    more = f", or `{chord}` for a chord" if len({length for _, length in parts}) == 1 else ""
-    return Computed(f"{why}: write `{notes}`{more}")
+    if len({length for _, length in parts}) > 1:
+        return Computed(f"{why}: write `{notes}`")
+    return Computed(f"{why}: if they follow one another, write `{notes}`; if a chord is meant, write `{chord}`")

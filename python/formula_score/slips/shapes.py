@@ -29,7 +29,7 @@ def end_of_shape(spot: Spot) -> Optional[str]:
             return spot.write("a `flat` has one stretch, and a `slope` goes from one to another", begun, begun + 4,
                               "slope")
     if here.kind == "by" and kind in ("pause", "breath"):
-        return f"a `{kind}` has a length alone: take the `by` and its number away"
+        return f"a `{kind}` has a length alone, and no `by`"
     if here.text == "bpm" and spot.last.kind == NUMBER and 2 <= int(spot.last.text[:6]) <= 1000:
         return spot.write("a stretch is 120,000 divided by the tempo", spot.last.start, here.end,
                           str(round(120_000 / int(spot.last.text))))

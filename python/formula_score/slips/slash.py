@@ -26,7 +26,9 @@ def at_slash(spot: Spot) -> Optional[str]:
         if whole == over and cure:
             return Computed(f"{cure}, or take one `{whole}` away")
         times = spot.mended(start, start + len(mixed[0]), f"{whole * over}/{under}")
-        return Computed(f"{cure} for the sum, or `{times}` for the product") if cure and times else cure
+        if not cure or not times:
+            return cure
+        return Computed(f"{cure.replace(': write', ': if the sum is meant, write')}; if the product, write `{times}`")
     parted = re.match(r"([0-9]{1,4})\s*[;,.:]\s*/\s*([0-9]{1,4})(?![0-9/])", spot.source[start:])
     if parted:
         return write_length(spot, start, parted[0], f"{parted[1]}/{parted[2]}", "no mark stands within a length")
@@ -142,5 +144,5 @@ def _beats(spot: Spot) -> Optional[str]:
         return None
     named = {"1": "a whole note", "2": "a half", "4": "a quarter", "8": "an eighth"}[number.text]
     many = "quarter" if number.text == "1" else "quarters"
-    return Computed(f"a length is a part of a whole note, or `ticks N`: write `{part}` for {named}, or `{beats}` for "
-                    f"{number.text} {many}")
+    return Computed(f"a length is a part of a whole note, or `ticks N`: if {named} is meant, write `{part}`; if "
+                    f"{number.text} {many}, write `{beats}`")

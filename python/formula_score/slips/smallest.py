@@ -200,9 +200,10 @@ def _one_number(spot: Spot) -> Iterator[Edit]:
         return
     if spot.before[-2].text != "/" and spot.next().kind != "/" and spot.source[one.end:other.start] == " ":
         word = one.text + other.text
-        between = ", or an operator between them" if spot.where == "operator" else ""
+        between = "; else an operator between them" if spot.where == "operator" else ", or what belongs between them"
         yield Edit("joined", (Change(one.start, other.end, word),),
-                   f"write `{word}` in place of `{one.text} {other.text}`{between}, or take one of the two away")
+                   f"if one number is meant, write `{word}` in place of `{one.text} {other.text}`{between}, or take "
+                   "one of the two away")
 
 
 def _joined(spot: Spot, one: Token, other: Token) -> Iterator[Edit]:
@@ -217,7 +218,8 @@ def _joined(spot: Spot, one: Token, other: Token) -> Iterator[Edit]:
         return
     if one.kind == NUMBER:
         yield Edit("joined", (Change(one.start, other.end, word),),
-                   f"write `{word}` in place of `{one.text}{between}{other.text}`, or take one of the two away")
+                   f"if one number is meant, write `{word}` in place of `{one.text}{between}{other.text}`; else take "
+                   "one of the two away, or write what belongs between them")
     elif kind_of(word) != NAME or word in spot.names:
         yield Edit("joined", (Change(one.start, other.end, word),),
                    f"no blank stands there: write `{word}` in place of `{one.text}{between}{other.text}`")

@@ -11,7 +11,7 @@ from ..midi import DYNAMICS, INSTRUMENTS
 from .cures import Computed, Known
 from .elsewhere import ELSEWHERE, elsewhere
 from .foreign import length_at, pitch_at
-from .indexed import by_index, instrument
+from .indexed import by_index, instrument, meaning
 from .keywords import at_keyword, head_word
 from .layout import unclosed
 from .near import is_begun_alike, near
@@ -22,6 +22,9 @@ from .tokens import END, INDEX, NAME, NUMBER, OTHER, PITCH, REGISTER
 
 
 
+#: Commands of LilyPond, also where their `\\` is missing.
+LILYPOND = ("relative", "absolute", "fixed", "score", "version", "language", "header", "paper", "layout", "new",
+            "book", "midi")
 #: Words of other languages for what a score does not do.
 _SILENT = ("print", "printf", "println", "puts", "echo", "log", "return", "exit", "stop", "quit", "import", "include",
            "require")
@@ -74,14 +77,20 @@ def at_statement(spot: Spot) -> Optional[str]:
         return None
     if word in ("piano", "pianissimo", "forte", "fortissimo") and after.kind in (";", "{", "}", END):
         loudness = DYNAMICS[{"piano": "p", "pianissimo": "pp", "forte": "f", "fortissimo": "ff"}[word]]
-        other = "; the instrument is `program 0;`" if word == "piano" else ""
-        return Known(f"`{word}` is a velocity of {loudness}, and holds for a block: write `volume {loudness} {{ .. }}`"
-                     f"{other}")
+        other = "; if it is the instrument, `program 0;`" if word == "piano" else ""
+        return Known(f"if `{word}` is a loudness, it is a velocity of {loudness}, and holds for a block: write "
+                     f"`volume {loudness} {{ .. }}`{other}")
+    if re.match(r"d\. ?[cs]\.", spot.rest):
+        return meaning("coda")
+    if word in LILYPOND:
+        return Known(f"if `{word}` is a command of LilyPond, there is none here: each pitch has its octave, and each "
+                     "note is a statement of its own, as in `note c4 1/4;`")
     if word in _SILENT:
-        return Known(f"a score plays and prints nothing, and ends at its end: take the statement with `{word}` away")
+        return Known(f"a score prints nothing, reads no other file, and ends at its end: if the statement with "
+                     f"`{word}` is to do no more, take it away")
     synth = re.match(r"(?:use|with)_synth\s*\(?\s*:?([a-z_]+)", spot.rest)
     if synth:
-        return instrument(synth[1].replace("_", " ")) or by_index("instrument")
+        return instrument(synth[1].replace("_", " ")) or meaning("instrument")
     length = length_at(word)
     if length and word.isalpha() and len(word) > 1 and after.kind in (PITCH, "rest"):
         text = f"rest {length.write};" if after.kind == "rest" else f"note {after.text} {length.write};"
@@ -112,12 +121,13 @@ def at_statement(spot: Spot) -> Optional[str]:
         return f"an instrument is a program, counted from 0: write `program {number};`"
     second = re.match(r"[a-z_]+\W*[0-9]+\s*(?:to|-|\.\.|->)\s*([0-9]+)", spot.rest)
     if line and line.words == "tempo" and second:
-        return by_index("accelerando")
+        return meaning("accelerando")
     found = by_index(word, number)
-    if found and found.startswith("a tempo is") and spot.reading.blocks:
+    if found and "the quarter notes a minute" in found and spot.reading.blocks and number:
         shape, warp = re.findall(r"(shape [^;]*;) (warp [a-z0-9_]+)", found)[0]
-        return Known(f"a tempo is a `warp`, by 120,000 divided by the tempo: write `{shape}` before "
-                       f"`{spot.reading.blocks[0].word}`, and `{warp} {{ .. }}` here")
+        return Known(f"if {number} is the quarter notes a minute, write `{shape}` before "
+                     f"`{spot.reading.blocks[0].word}`, and `{warp} {{ .. }}` here: a tempo is a `warp`, by 120,000 "
+                     "divided by them")
     if found:
         return found
     if re.fullmatch("end|endif|endfor|endwhile|endrepeat|endphrase|end_[a-z]+|done|fi|od|next", word) and (
@@ -149,12 +159,13 @@ def letters(spot: Spot) -> Optional[str]:
     """Notes and commands of one letter each, as ABC and MML have them."""
     command = re.match(r"([olvt])([0-9]+)(?![a-z0-9_])", spot.rest)
     if command:
-        return {"o": by_index("octave"), "t": by_index("tempo", command[2]), "v": by_index("velocity"),
-                "l": "each note has its length: write `note c4 1/8;`"}[command[1]]
+        return {"o": meaning("octave"), "t": by_index("tempo", command[2]), "v": meaning("velocity"),
+                "l": "each note has its length, as in `note c4 1/8;`"}[command[1]]
     run = r"(?:[A-Ga-gz][0-9,'/]*){3,}(?=\s*(?:[;|}\n]|\Z|[A-Ga-gz][A-Ga-gz0-9,'/]*[\s;|]))"
     apart = r"[a-g](?:is|es|s)?[',]*[0-9]*\.*\s+[a-g](?:is|es|s)?[',0-9]*[\s;}]"
     if re.match(f"{run}|{apart}", spot.rest):
-        return Known("each note is a statement of its own, with its octave and its length, as in `note e4 1/4;`")
+        return Known("if these are notes, each is a statement of its own, with its octave and its length, as in "
+                     "`note e4 1/4;`")
     return None
 
 
@@ -186,7 +197,7 @@ def _value(spot: Spot) -> Optional[str]:
         return "`n0` to `n15` are the indices of loops, and stand in an expression: `note key (60 + n0) 1/4;`"
     written = re.match(r"r([0-9]+ ?/ ?[0-9]+)", spot.rest)
     if written:
-        return f"a rest is written `rest {written[1]};`"
+        return f"if a rest is meant, write `rest {written[1]};`"
     if re.match(r"r[124]\.*\*[0-9]{1,3}\s*;", spot.rest):
         return _rest(spot, here.text[1:])
     if after.kind in ("=", "+", "-", "*", "/", "%") or after.text == ":":
@@ -209,8 +220,8 @@ def _rest(spot: Spot, digits: str) -> str:
     length = length_at(digits + (more[1] if more else ""))
     if length and length.write and int(digits) in (1, 2, 4, 8, 16, 32, 64):
         whole = Fraction(length.write) * int(more[2] or 1 if more else 1)
-        return Computed(f"a rest is written `rest {whole.numerator}/{whole.denominator};`")
-    return "a rest is written as in `rest 1/4;`"
+        return Computed(f"if a rest is meant, write `rest {whole.numerator}/{whole.denominator};`")
+    return "if a rest is meant, write it as in `rest 1/4;`"
 
 
 def _pitch(spot: Spot) -> Optional[str]:
@@ -228,4 +239,4 @@ def _pitch(spot: Spot) -> Optional[str]:
         return spot.write("a pitch stands behind `play`, which takes its length from the `rhythm`", spot.place, end,
                           f"play {pitch}", spot.place)
     mended = spot.mended(spot.place, end, f"note {pitch}", spot.place)
-    return Computed(f"{why}: write `{mended}`") if mended else f"{why}: write `note {pitch} 1/4;`"
+    return Computed(f"{why}: write `{mended}`") if mended else f"{why}: if one is meant, write it as in `note {pitch} 1/4;`"

@@ -30,6 +30,8 @@ def or_away(spot: Spot, cure: str) -> str:
     """A cure for what a mark may mean, and that it is taken away, where that mends."""
     inside = re.match(r"\([^;{}()\n]{1,30}\)", spot.text)
     run = inside[0] if inside else _run(spot)
+    if not run and spot.where == "statement" and spot.here.is_word:
+        return type(cure)(f"{cure}; a remark stands behind a `#`")
     return f"{cure}; else take the `{run}` away" if run and _is_read_on(spot, run) else cure
 
 
@@ -50,24 +52,27 @@ def _marks_away(spot: Spot) -> Optional[str]:
         return None
     behind = spot.source[spot.place + len(run.encode()):][:1]
     if spot.last.end == spot.place and (spot.last.is_word or spot.last.kind == NUMBER) and behind.isalnum():
-        return Computed(f"a blank stands there: write ` ` in place of `{run}`") if _is_read_on(spot, run) else None
+        return Computed(f"no `{run}` stands there: if a blank is meant, write ` ` in place of `{run}`") if _is_read_on(
+            spot, run) else None
     if not _is_read_on(spot, run):
         return None
     if behind.isdigit() and spot.last.text in ("/", "by", "to", "max", "ticks", "["):
         return Computed(f"no `{run}` stands there: take it away")
     if run in ("…", "...", ".."):
-        return Computed(f"all notes are written out: take the `{run}` away, or write what it stands for")
+        return Computed(f"all notes are written out: write what the `{run}` stands for, or take it away")
     line = musical(_MEANT.get(run, ""))
-    more = f"; for {line.words}, write it as in `{line.write}`" if line and spot.head in ("", "note", "play") else ""
-    return Computed(f"no `{run}` stands there: take it away{more}")
+    if line and spot.head in ("", "note", "play"):
+        return Computed(f"if `{run}` stands for {line.words}, write it as in `{line.write}`; else take the `{run}` "
+                        "away")
+    return Computed(f"no `{run}` stands there: take it away")
 
 
 def _label_away(spot: Spot) -> Optional[str]:
     found = _LABEL.match(spot.text)
     if found is None or not _is_read_on(spot, found[0]):
         return None
-    return Computed(f"`{found[0]}` is no part of a statement: take it away, or put it behind a `#` at the end of the "
-                    "line")
+    return Computed(f"`{found[0]}` is no part of a statement: if it is a label, put it behind a `#` at the end of the "
+                    f"line, or take `{found[0]}` away")
 
 
 def quoted_away(spot: Spot) -> Optional[str]:
@@ -75,4 +80,5 @@ def quoted_away(spot: Spot) -> Optional[str]:
     found = _QUOTED.match(spot.text)
     if found is None or not found[2].strip() or not _is_read_on(spot, found[0]):
         return None
-    return Computed(f"text is not in the file: take `{found[0]}` away, or put it behind a `#` at the end of the line")
+    return Computed("text is not in the file: if this is a remark, put it behind a `#` at the end of the line, or take "
+                    f"`{found[0]}` away")

@@ -23,7 +23,7 @@ def at_symbol(spot: Spot) -> Optional[str]:
         behind = re.match(r";+ *([a-z][a-z0-9_]*)[^;\n]*(?:\n|\Z)", spot.rest)
         is_apart = "\n" in spot.source[spot.last.end:spot.place] or last == ";"
         if is_apart and behind and kind_of(behind[1]) not in (*STATEMENTS, *OUTSIDE) and behind[1] not in spot.names:
-            return Known("a comment begins with `#`: write `#` in place of the `;`")
+            return Known("if this is a comment, it begins with `#`: write `#` in place of the `;`")
         return ("one `;` is enough: take this one away" if last == ";" else
                 "no statement stands before this `;`: take it away")
     if text == "}":
@@ -33,41 +33,45 @@ def at_symbol(spot: Spot) -> Optional[str]:
             return f"one `{{` is enough: take this one{'' if lacks_brace(spot) else ' and its `}`'} away"
         if spot.next().text == "{":
             return by_mark("{ {", "voice")
-        return "a block belongs to a word, as in `repeat 2 { .. }`: write that word, or take this `{` and its `}` away"
+        return Computed("a block belongs to a word, as in `repeat 2 { .. }`: if it is missing, write it, else take this `{` "
+                        "and its `}` away")
     if text in (")", "]") and spot.reading.blocks and lacks_brace(spot):
         block = spot.reading.blocks[-1]
         return f"the `{{` at {spot.spelled(block.token.start)}, behind `{block.word}`, ends with `}}`: write `}}` here"
     if text in (")", "]"):
-        return f"there is no open `{'(' if text == ')' else '['}` for this `{text}`: take it away"
+        opens = "(" if text == ")" else "["
+        return (f"there is no open `{opens}` for this `{text}`: if it is one too many, take it away, else write the "
+                f"`{opens}`")
     if text == "/" and spot.rest[:2] == "//":
-        return Known("a comment begins with `#`, and ends with its line: write `#`")
+        return Known("if this is a comment, it begins with `#`, and ends with its line: write `#`")
     if text == "/" and spot.rest[:2] == "/*":
         return block_comment(spot)
     if text == "-" and spot.rest.startswith("--"):
-        return Known("a comment begins with `#`, and ends with its line: write `#`")
+        return Known("if this is a comment, it begins with `#`, and ends with its line: write `#`")
     if spot.rest.startswith(("%{", "(*", "{-")):
         return block_comment(spot)
     if text == "%":
-        return Known("a comment begins with `#`, and ends with its line: write `#` in place of the `%`")
+        return Known("if this is a comment, it begins with `#`, and ends with its line: write `#` in place of the `%`")
     decoration = re.match(r"([!+])([a-z]+)\1", spot.rest)
     if decoration and by_index(decoration[2]):
         return by_index(decoration[2])
     if text == "(" and spot.next().kind == NUMBER and int(spot.next().text) in (2, 3, 4, 5, 6, 7):
-        return by_index("triplet")
+        return by_mark(f"({spot.next().text}", "triplet")
     words = re.match(r"\(([A-Za-z_ ]+)\)\s*(?:\n|\Z|[a-z]+ )", spot.rest)
     if words and kind_of(words[1].split(" ")[0]) not in STATEMENTS:
         line = by_index(words[1].strip())
-        return Known(f"other text stands behind `#`: {as_comment(spot, spot.place + len(words[1]) + 2)}" + (
+        return Known(f"if this is a remark, {as_comment(spot, spot.place + len(words[1]) + 2)}" + (
             f"; {line}" if line else ""))
     inside = re.match(r"\(\s*([a-z_]+)\s*([0-9]*)", spot.rest)
     if inside and by_index(inside[1]):
         return by_index(inside[1], inside[2])
     if inside and kind_of(inside[1]) in STATEMENTS:
-        return "a statement has no parentheses round it: take the `(` and its `)` away"
+        return Known("a statement has no parentheses round it: if they are a slur, write `gate 100 { .. }`, else take "
+                     "the `(` and its `)` away")
     if text == "(":
         return by_mark("(", "slur") if spot.last.text == ";" and pitch_at(spot.text[1:].lstrip()) is None else None
     if spot.rest.startswith("[:"):
-        return by_index("volta")
+        return by_mark("[:", "volta")
     if text == "[":
         return _brackets(spot)
     if text == ",":
@@ -77,26 +81,26 @@ def at_symbol(spot: Spot) -> Optional[str]:
 
 def closes_nothing(spot: Spot) -> str:
     """What to do about a `}` without a `{`: it is one too many, or one before it is."""
-    why = "there is no open `{` for this `}`: take it away"
+    why = "there is no open `{` for this `}`: if it is one too many, take it away"
     empty = next((each for each, other in zip(reversed(spot.before), reversed(spot.before[:-1]))
                   if each.text == "}" and other.text == "{"), None)
     if empty:
-        return f"{why}, or the `}}` at {spot.spelled(empty.start)}, which closes its block at once"
+        return f"{why}; else the `}}` at {spot.spelled(empty.start)}, which closes its block at once"
     if any(each.text == "}" for each in spot.before) and spot.last.text != "}":
-        return f"{why}, or one before it that closes its block too soon"
+        return f"{why}; else one before it closes its block too soon"
     return why
 
 
 def as_comment(spot: Spot, end: int) -> str:
     """How text that ends before a byte becomes a comment: a `#` before it makes one of the rest of its line, too."""
     behind = re.match(r"[ \t;]*(?:#[^\n]*)?(?:\n|\r|\Z)", spot.source[end:])
-    return "write `#` before it" if behind else "take it away, or put it behind a `#` at the end of the line"
+    return "write `#` before it" if behind else "put it behind a `#` at the end of the line"
 
 
 def block_comment(spot: Spot) -> Known:
     """What to do about a comment of another language with an end of its own."""
     found = re.match(r"/\*.*?\*/|%\{.*?%\}|\(\*.*?\*\)|\{-.*?-\}|<!--.*?-->", spot.source[spot.place:], re.S)
-    why = "a comment begins with `#`, and ends with its line"
+    why = "if this is a comment, it begins with `#`, and ends with its line"
     if found and "\n" in found[0]:
         return Known(f"{why}: take `{found[0][:2]}` and `{found[0][-2:]}` away, and write `#` before each line of it")
     return Known(f"{why}: {as_comment(spot, spot.place + len(found[0])) if found else 'write `#` before it'}")
@@ -113,8 +117,8 @@ def _brackets(spot: Spot) -> Optional[str]:
         return Computed(f"the word stands before its list: write `{turned[2]} {turned[1]} {{ .. }}`")
     chord = re.match(r"\[\s*(?:[=^_]*[A-Ga-g][sb#]?[0-9',]*[\s,]*)+\]", spot.rest)
     if chord or pitch_at(spot.text[1:].lstrip()):
-        return Known("a chord is a `note` with its pitches between commas, as in `note c4, e4, g4 1/2;`, and of notes "
-                     "one after another each is a statement")
+        return Known("if this is a chord, it is a `note` with its pitches between commas, as in `note c4, e4, g4 "
+                     "1/2;`; of notes one after another each is a statement")
     return None
 
 
@@ -135,12 +139,12 @@ def at_number_of_statement(spot: Spot) -> Optional[str]:
     if spot.next().kind in ("repeat", "channel", "volume", "gate", "program", "bend"):
         return f"the number stands behind its word: write `{spot.next().text} {number}`"
     if spot.next().kind in STATEMENTS or spot.next().text in spot.phrases:
-        return Computed(f"a number begins no statement: for a loop write `repeat {number} {{ .. }}`, else take "
+        return Computed(f"a number begins no statement: if it is a loop, write `repeat {number} {{ .. }}`, else take "
                         f"`{number}` away")
     if spot.next().text == "{":
         if int(number[:6]) > 127:
             return f"a loop begins with its word: write `repeat {number} {{ .. }}`"
-        return Computed(f"a word is missing before the number: write `repeat {number} {{ .. }}` for a loop, or "
+        return Computed(f"a word is missing before the number: if it is a loop, write `repeat {number} {{ .. }}`, else "
                         "`volume`, `gate` or `channel` in place of `repeat`")
     if spot.next(1).kind == "/" or 0 <= int(number[:6]) <= 127 and spot.next().kind in (NUMBER, "ticks", ","):
         return f"a key by its number is a note of `key`: write `note key {number} 1/4;`"

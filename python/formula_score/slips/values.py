@@ -7,7 +7,7 @@ from typing import Optional
 
 from ..pitch import Pitch
 from .common import FUNCTIONS, insert
-from .cures import Computed, Known
+from .cures import Computed, Known, Sure
 from .drawing import drawn_at
 from .foreign import pitch_at
 from .forms import FORMS
@@ -19,6 +19,7 @@ from .tokens import END, INDEX, NAME, NUMBER, PITCH, REGISTER, kind_of
 
 _COMPARES = {"<": "less(a, b)", ">": "less(b, a)", "<=": "1 - less(b, a)", ">=": "1 - less(a, b)", "==": "same(a, b)",
              "!=": "1 - same(a, b)", "<>": "1 - same(a, b)", "=": "same(a, b)"}
+_OF_MORE = ("min", "max")
 _DECIMAL = "values are whole numbers, without a decimal point"
 _RANGE = "a value is one number, and `60 + pick(13)` draws one from 60 to 72"
 
@@ -92,10 +93,11 @@ def at_equals(spot: Spot) -> Optional[str]:
     found = re.match(r"(?::=|<-|([-+*/%])=|\+\+|--|to\b|as\b|:)\s*", spot.rest)
     if found and found[1]:
         register = spot.last.text
-        return spot.write("a register gets its value by `=`", spot.place, spot.place + len(found[0]),
-                          f"= {register} {found[1]} ")
+        return Sure(spot.write("a register gets its value by `=`", spot.place, spot.place + len(found[0]),
+                               f"= {register} {found[1]} "))
     if found and found[0].strip() in ("++", "--"):
-        return f"a register gets its value by `=`: write `set {spot.last.text} = {spot.last.text} {found[0][0]} 1;`"
+        return Sure(f"a register gets its value by `=`: write `set {spot.last.text} = {spot.last.text} {found[0][0]} "
+                    "1;`")
     if found:
         return spot.write("a register gets its value by `=`", spot.place, spot.place + len(found[0]), "= ")
     if here.kind in ("+", "-", "*", "/", "%"):
@@ -126,7 +128,8 @@ def _compare(spot: Spot) -> Optional[str]:
     two = len(spot.statement) >= 2 and spot.statement[-2].text in ("if", "(")
     if two and left.kind in (NUMBER, REGISTER, INDEX) and right.kind in (NUMBER, REGISTER, INDEX):
         words = re.sub(r"\b[ab]\b", lambda found: left.text if found[0] == "a" else right.text, _COMPARES[sign])
-        return spot.write(f"`a {sign} b` is `{_COMPARES[sign]}`", left.start, right.end, words)
+        cure = spot.write(f"`a {sign} b` is `{_COMPARES[sign]}`", left.start, right.end, words)
+        return Sure(cure) if cure else f"`a {sign} b` is written `{_COMPARES[sign]}`"
     return f"`a {sign} b` is written `{_COMPARES[sign]}`"
 
 
@@ -161,7 +164,10 @@ def at_operator(spot: Spot) -> Optional[str]:
             low, high = (int(each) for each in span.groups()) if span else (0, 0)
             if opened.word == "pick" and low < high:
                 write = f"{low} + pick({high - low + 1})" if low else f"pick({high + 1})"
-                return Known(f"`pick` takes one value, and draws from 0 up: from {low} to {high} draws `{write}`")
+                less = f"{low} + pick({high - low})" if low else f"pick({high})"
+                return Known(f"`pick` takes one value, and draws from 0 up: if {high} may come, `{write}` draws from "
+                             f"{low} to "
+                             f"{high}; if not, `{less}` to {high - 1}")
             if opened.word == "pick":
                 return "`pick` takes one value: `pick(12)` draws a number from 0 to 11"
             third = re.match(r"\s*,\s*([a-z0-9]+)\s*\)", spot.rest)
@@ -171,7 +177,8 @@ def at_operator(spot: Spot) -> Optional[str]:
                 return spot.write(f"`{opened.word}` takes two values", opened.token.end, spot.place + len(third[0]),
                                   f"{first}, {opened.word}({second}, {third[1]}))")
             if opened.word in ("min", "max", "less", "same"):
-                return f"`{opened.word}` takes two values, and `)` stands behind them: `{opened.word}(a, b)`"
+                return (f"`{opened.word}` takes two values, and `)` stands behind them: `{opened.word}(a, b)`" + (
+                    f"; of three it is `{opened.word}(a, {opened.word}(b, c))`" if opened.word in _OF_MORE else ""))
             return "a `,` stands between the two values of `min`, `max`, `less` and `same` alone: take it away"
         if here.kind in (";", "{", "}", "max", END) or is_statement(here):
             return f"the `(` at {where} lacks its `)`, or is one too many"
@@ -226,7 +233,8 @@ def _logic(word: str, spot: Spot) -> Optional[str]:
         "mod": "the remainder is `%`: write `%` in place of `mod`",
         "div": "a quotient is `/`, rounded down: write `/` in place of `div`",
         "then": "the block stands directly behind the condition: write `{` in place of `then`",
-        "^": "there is no power: write the product, as `2 * 2 * 2`",
+        "^": "there is no power: a product of the same values is written out, as `2 * 2 * 2`, and a loop multiplies a "
+             "register, as by `set r0 = r0 * 2;`",
     }.get(word)
     return said if said is None or "in place of" in said else Known(said)
 
@@ -272,7 +280,7 @@ def at_value(spot: Spot) -> Optional[str]:
         if here.text in ("abs",):
             return "`max(E, -E)` is the value without its sign"
         if here.text in ("i", "j", "k", "index", "count", "n", "counter"):
-            return Computed("the index of the innermost loop is `n0`: write `n0`")
+            return Computed("if the index of the innermost loop is meant, it is `n0`: write `n0`")
         if here.text in ("floor", "int", "round", "trunc", "abs_int"):
             return Known(f"values are whole numbers, and `/` rounds down: no `{here.text}` stands round it")
         if here.text in ("null", "nil", "none", "undefined"):
@@ -293,7 +301,7 @@ def at_value(spot: Spot) -> Optional[str]:
         if last.text == "=" or here.kind == "=":
             return _compare(spot)
         if last.text == "*" and here.text == "*":
-            return Known("there is no power: write the product, as `2 * 2 * 2`")
+            return _logic("^", spot)
         return "one operator stands between two values: take one away"
     if here.kind in ("*", "/", "%") and last.text in ("=", "(", ",", "if"):
         return f"a value is missing before the `{here.text}`"
