@@ -27,7 +27,7 @@ from .program import PROGRAM, run
 
 FOLDER = pathlib.Path(__file__).parent / "fresh"
 NAMES = ("first", "second", "third", "fourth", "fifth", "sixth", "seventh", "eighth", "ninth", "tenth", "eleventh",
-         "twelfth", "thirteenth", "fourteenth", "fifteenth", "sixteenth")
+         "twelfth", "thirteenth", "fourteenth", "fifteenth", "sixteenth", "seventeenth", "eighteenth")
 #: Those of them that have what was meant as scores.
 MEANT = NAMES[5:13]
 

@@ -76,8 +76,8 @@ def pitch_at(text: str, with_comma: bool = False) -> Optional[Foreign]:
         return Foreign(lowest[0], f"key {max(0, key)}", why)
     bare = re.match(r"(es|as)(?![A-Za-z0-9'’])", text)
     if bare:
-        return Foreign(bare[0], f"{bare[0][0]}b4", f"of `{bare[0]}` the flat is `{bare[0][0]}b4`, and the sharp "
-                       f"`{bare[0][0]}s4`", False)
+        return Foreign(bare[0], f"{bare[0][0]}b4", f"if the flat is meant by `{bare[0]}`, it is `{bare[0][0]}b4`; if the "
+                       f"sharp, `{bare[0][0]}s4`", False)
     found = _PITCH.match(text)
     if not found:
         found = re.match(r"([AaEe])(s)([0-9]*)(?![A-Za-z0-9])()", text)

@@ -82,6 +82,8 @@ def at_pitch(spot: Spot) -> Optional[str]:
     if found and here.kind in (NAME, OTHER, "="):
         if not found.write:
             return Known(found.why)
+        if found.wrote in ("as", "es"):
+            return Known(f"{found.why}, each with its octave")
         end = spot.place + len(found.wrote.encode())
         text = spot.mended(spot.place, end, found.write) or all_commas(spot)
         cure = Computed(f"{found.why}: write `{text}`") if text else spot.write(found.why, spot.place, end, found.write)
