@@ -474,7 +474,7 @@ SLIPS = (
          "a pitch has no dot: staccato is `gate 50 { note c4 1/4; }`, and a dotted quarter has the length `3/8`"),
     Slip("note_on 60 64;", "note key 60 1/4;", "1:1", 3,
          "`note_on` begins no statement",
-         "`note_on` is `note` here, with a length, as in `note key 60 1/4;`"),
+         "if `note_on` is meant as `note`, it has its length, as in `note key 60 1/4;`"),
     Slip("pitchbend 2000;", "bend 2000;", "1:1", 3,
          "`pitchbend` begins no statement",
          "`pitchbend` is `bend` here: if that is meant, write `bend 2000;`"),

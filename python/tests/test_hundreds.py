@@ -41,7 +41,8 @@ def leads_to(text, scores):
         ways = followed(spot, found.cure) if says else []
         if not ways or not count and has_condition(found.cure):
             return None
-        texts = [changed(spot, each, 0, len(spot.source)).encode("latin-1").decode() for each in ways if mends(spot, each)]
+        texts = [changed(spot, each, 0, len(spot.source)).encode("latin-1").decode()
+                 for each in ways if mends(spot, each)]
         if any(words(one) == words(other) for one in texts for other in scores):
             return True
         if not texts:

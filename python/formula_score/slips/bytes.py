@@ -153,7 +153,7 @@ def _bars_of_rest(text: str) -> str:
     found = re.match(r"R([0-9]+\.*)(?:\s*\*\s*([0-9]{1,3})(?![0-9/]))?(?=\s|;|\Z)", text)
     one = length_at(found[1]) if found else None
     if found is None or one is None or int(found[1].strip(".")) > 64:
-        return "silence is a `rest` with its length, as in `rest 1/1;`"
+        return "if silence is meant, write a `rest` with its length, as in `rest 1/1;`"
     whole = Fraction(one.write) * int(found[2] or 1)
     return Computed(f"silence is a `rest`: write `rest {whole.numerator}/{whole.denominator};`")
 

@@ -59,7 +59,7 @@ def elsewhere(spot: Spot, word: str) -> Optional[str]:
         length = re.match(r"[0-9]+ ?/ ?[0-9]+|ticks [0-9]+", behind)
         write = length[0] if length else found.write if found else ""
         return Computed(f"silence is a `rest`: write `rest {write};`") if write else (
-            "silence is a `rest`, as in `rest 1/4;`")
+            "if silence is meant, write a `rest`, as in `rest 1/4;`")
     if word == "phrase":
         own = written if spot.next().kind in ("=", "{") and written not in _DEFINE else "verse"
         quoted = re.match(r"[a-z_]+\s*[:\"']+([a-z][a-z0-9_]*)", spot.rest)
@@ -85,8 +85,9 @@ def elsewhere(spot: Spot, word: str) -> Optional[str]:
         return Computed(f"`if` asks for the contrary: write `if same({asked[1]}, 0) {{ .. }}`") if asked else (
             "`if` asks for the contrary, as in `if same(r0, 0) { .. }`")
     if word == "note" and spot.next().kind == NUMBER and spot.next(2).kind == NUMBER:
-        return f"`{written}` is `note` here, with a length, as in `note key 60 1/4;`"
+        return f"if `{written}` is meant as `note`, it has its length, as in `note key 60 1/4;`"
     if word == "note" and spot.next().kind == NUMBER and 0 <= int(spot.next().text[:6]) <= 127:
         return Computed(f"`{written}` is `note` here, with a length: write `note key {spot.next().text} 1/4;`")
     text = spot.mended(spot.place, spot.here.end, word, spot.place)
-    return f"`{written}` is `{word}` here: write `{text or FORMS[word]}`"
+    return f"`{written}` is `{word}` here: write `{text}`" if text else (
+        f"if `{written}` is meant as `{word}`, write it as in `{FORMS[word]}`")

@@ -132,8 +132,9 @@ def _end_of_sound(spot: Spot) -> Optional[str]:
             if meant and begun + len(meant.wrote) > spot.place:
                 cure = spot.write(meant.why, begun, begun + len(meant.wrote), meant.write)
                 one = cure.replace(": write", ": if one note is meant, write")
-                more = f"; if {times[1]} of them, write `repeat {times[1]} {{ {statement_text(spot)} }}`" if times else ""
-                return Computed(f"{one}{more}") if cure and more and head == "note" else cure
+                if not cure or not times or head != "note":
+                    return cure
+                return Computed(f"{one}; if {times[1]} of them, write `repeat {times[1]} {{ {statement_text(spot)} }}`")
     if here.kind in (*_ROUND, "warp") and not spot.is_over_line and _block_round(spot):
         return _block_round(spot)
     if spot.is_over_line:
@@ -183,8 +184,10 @@ def _end_of_sound(spot: Spot) -> Optional[str]:
             if not apart:
                 return f"{why}, with its length, as in `note {pitch} 1/4;`"
             chord = re.match(r"note ([^;]*?) ([0-9]+/[0-9]+|ticks [0-9]+);", statement_text(spot))
-            return Computed(f"{apart.replace(': write', ': if they follow one another, write')}; if a chord is meant, write "
-                            f"`note {chord[1]}, {pitch} {chord[2]};`") if chord else apart
+            if chord is None:
+                return apart
+            return Computed(f"{apart.replace(': write', ': if they follow one another, write')}; if a chord is meant, "
+                            f"write `note {chord[1]}, {pitch} {chord[2]};`")
         if after.kind == "rest" or after.kind == "note":
             return "each statement ends with `;`: write `;` in place of the `,`"
         if after.kind == NUMBER and head == "note" and spot.next(2).kind != "/" and 20 <= int(after.text) <= 127:
@@ -249,7 +252,8 @@ def _end_of_do(spot: Spot) -> Optional[str]:
     if here.kind in _ROUND and _block_round(spot):
         return _block_round(spot)
     if here.text == name:
-        return Computed(f"one phrase at a time: write `do {name}; do {name};`, or take one `{name}` away")
+        return Computed(f"one phrase at a time: if it comes twice, write `do {name}; do {name};`, else take one "
+                        f"`{name}` away")
     if here.kind == NUMBER or here.text in ("*",) or here.text == "x":
         number = here.text if here.kind == NUMBER else spot.next().text
         count = number if number.isdigit() else "4"
@@ -267,7 +271,8 @@ def _end_of_do(spot: Spot) -> Optional[str]:
         if here.text == "+" and spot.next().kind == NUMBER:
             return meaning("transpose")
         if other == name:
-            return Computed(f"one phrase at a time: write `do {name}; do {name};`, or take one `{name}` away")
+            return Computed(f"one phrase at a time: if it comes twice, write `do {name}; do {name};`, else take one "
+                            f"`{name}` away")
         if other in spot.phrases or spot.next().kind == NAME:
             return f"one phrase at a time: write `do {name}; do {other};`"
         return "one phrase at a time, and `;` behind it"

@@ -15,7 +15,8 @@ _ACCIDENTALS = {
     "eses": -2, "bb": -2, "ff": -2, "♭♭": -2, "𝄫": -2,
     "dièse": 1, "bemol": -1, "♯♯": 2, "sharpsharp": 2, "flatflat": -2,
 }
-_SYLLABLES = {"do": "c", "re": "d", "mi": "e", "fa": "f", "sol": "g", "la": "a", "si": "b", "ti": "b"}
+#: The names of notes in other languages.
+SYLLABLES = {"do": "c", "re": "d", "mi": "e", "fa": "f", "sol": "g", "la": "a", "si": "b", "ti": "b"}
 _MARKS = "|".join(sorted((re.escape(each) for each in _ACCIDENTALS if each), key=len, reverse=True))
 _PITCH = re.compile(rf"([A-Ha-h])(?:[-_]?({_MARKS}))?[-_]?(?:([0-9]+)|('+|,+|’+)|)(?![A-Za-z0-9'’])")
 
@@ -39,7 +40,7 @@ def pitch_at(text: str, with_comma: bool = False) -> Optional[Foreign]:
         return Foreign(named[0], "c4", "middle C is `c4`")
     if named:
         mark = "s" if named[2] == "#" else named[2]
-        write = f"{_SYLLABLES[named[1]]}{mark}{named[3] or 4}"
+        write = f"{SYLLABLES[named[1]]}{mark}{named[3] or 4}"
         return Foreign(named[0], write, "pitches have the letters a to g" + ("" if named[3] else ", and an octave"),
                        bool(named[3]))
     behind = re.match(rf"([A-Ha-h])([0-9])({_MARKS})(?![A-Za-z0-9'’])", text)
@@ -76,8 +77,8 @@ def pitch_at(text: str, with_comma: bool = False) -> Optional[Foreign]:
         return Foreign(lowest[0], f"key {max(0, key)}", why)
     bare = re.match(r"(es|as)(?![A-Za-z0-9'’])", text)
     if bare:
-        return Foreign(bare[0], f"{bare[0][0]}b4", f"if the flat is meant by `{bare[0]}`, it is `{bare[0][0]}b4`; if the "
-                       f"sharp, `{bare[0][0]}s4`", False)
+        return Foreign(bare[0], f"{bare[0][0]}b4", f"if the flat is meant by `{bare[0]}`, it is `{bare[0][0]}b4`; "
+                       f"if the sharp, `{bare[0][0]}s4`", False)
     found = _PITCH.match(text)
     if not found:
         found = re.match(r"([AaEe])(s)([0-9]*)(?![A-Za-z0-9])()", text)

@@ -31,8 +31,8 @@ def at_keyword(spot: Spot) -> Optional[str]:
         return f"a `{word}` stands outside all blocks: move it before `{spot.reading.blocks[0].word}`"
     if word == "seed":
         if spot.reading.blocks or spot.reading.read:
-            return ("`seed` stands once, directly behind the head of the score or its division: if the score has another "
-                    "one, take one of the two away, else move it there")
+            return ("`seed` stands once, directly behind the head of the score or its division: if the score has "
+                    "another one, take one of the two away, else move it there")
     if word == "branch":
         if spot.is_inside("par"):
             if spot.reading.blocks[-1].word == "branch" or lacks_brace(spot):

@@ -109,7 +109,8 @@ def _rest_for_note(spot: Spot) -> str:
     why = "silence is a statement of its own"
     if spot.head == "play" and not length:
         return Computed(f"{why}: write `skip;`")
-    return Computed(f"{why}: write `rest {length};`") if length else f"{why}, as in `rest 1/4;`"
+    return Computed(f"{why}: write `rest {length};`") if length else (
+        "if silence is meant, it is a statement of its own, as in `rest 1/4;`")
 
 
 def _number_for_pitch(spot: Spot, commas: bool) -> str:

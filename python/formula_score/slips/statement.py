@@ -108,7 +108,7 @@ def at_statement(spot: Spot) -> Optional[str]:
     silent = re.match(r"[zx][0-9]*(?: +([0-9]+/[0-9]+|ticks [0-9]+))?\s*;", spot.rest)
     if silent:
         return Computed(f"silence is a `rest` with its length: write `rest {silent[1]};`") if silent[1] else (
-            "silence is a `rest` with its length, as in `rest 1/4;`")
+            "if silence is meant, write a `rest` with its length, as in `rest 1/4;`")
     number = _number_of(spot)
     pair = by_index(f"{word}_{after.text}") or by_index(f"{word} {after.text}") if after.is_word else None
     if pair:
@@ -239,4 +239,6 @@ def _pitch(spot: Spot) -> Optional[str]:
         return spot.write("a pitch stands behind `play`, which takes its length from the `rhythm`", spot.place, end,
                           f"play {pitch}", spot.place)
     mended = spot.mended(spot.place, end, f"note {pitch}", spot.place)
-    return Computed(f"{why}: write `{mended}`") if mended else f"{why}: if one is meant, write it as in `note {pitch} 1/4;`"
+    if mended is None:
+        return f"{why}: if one is meant, write it as in `note {pitch} 1/4;`"
+    return Computed(f"{why}: write `{mended}`")

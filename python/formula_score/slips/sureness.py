@@ -11,7 +11,7 @@ from ..nodes import KEYWORDS
 from .common import goes_on, statement_text
 from .cures import Sure
 from .following import followed
-from .foreign import pitch_at
+from .foreign import SYLLABLES, pitch_at
 from .spot import Spot
 from .tokens import PITCH, kind_of
 from .trying import Changes, changed, mends
@@ -61,7 +61,7 @@ def conditional(spot: Spot, cure: str) -> str:
     says = _SAYS.search(cure)
     if says is None or isinstance(cure, Sure) or has_condition(cure):
         return cure
-    if spot.where == "end" and f"write `{statement_text(spot)}`" in cure:
+    if "ends with `;`" in cure and f"write `{statement_text(spot)}`" in cure:
         return cure     # the statement as it was read, with its `;`
     found = [_difference(spot, each) for each in followed(spot, cure) if mends(spot, each)]
     least = min(found, key=lambda each: each.size, default=None)
@@ -131,7 +131,8 @@ def _is_same_pitch(old: str, new: Sequence[str]) -> bool:
     """Whether a pitch is spelled by other signs, of the same letter and octave."""
     found = pitch_at(old)
     return (len(new) == 1 and kind_of(new[0]) == PITCH and found is not None and found.wrote == old and found.is_sure
-            and found.write == new[0] and old[0].lower() == new[0][0] and new[0][-1] in old)
+            and found.write == new[0] and old[0].lower() == new[0][0] and new[0][-1] in old
+            and old.lower()[:2] not in SYLLABLES)
 
 
 def _condition(spot: Spot, difference: Difference, cure: str) -> str:

@@ -33,8 +33,8 @@ def at_symbol(spot: Spot) -> Optional[str]:
             return f"one `{{` is enough: take this one{'' if lacks_brace(spot) else ' and its `}`'} away"
         if spot.next().text == "{":
             return by_mark("{ {", "voice")
-        return Computed("a block belongs to a word, as in `repeat 2 { .. }`: if it is missing, write it, else take this `{` "
-                        "and its `}` away")
+        return Computed("a block belongs to a word, as in `repeat 2 { .. }`: if it is missing, write it, else take "
+                        "this `{` and its `}` away")
     if text in (")", "]") and spot.reading.blocks and lacks_brace(spot):
         block = spot.reading.blocks[-1]
         return f"the `{{` at {spot.spelled(block.token.start)}, behind `{block.word}`, ends with `}}`: write `}}` here"

@@ -6,7 +6,7 @@ import re
 from typing import Optional
 
 from ..pitch import Pitch
-from .common import FUNCTIONS, insert
+from .common import FUNCTIONS, goes_on, insert
 from .cures import Computed, Known, Sure
 from .drawing import drawn_at
 from .foreign import pitch_at
@@ -180,7 +180,7 @@ def at_operator(spot: Spot) -> Optional[str]:
                 return (f"`{opened.word}` takes two values, and `)` stands behind them: `{opened.word}(a, b)`" + (
                     f"; of three it is `{opened.word}(a, {opened.word}(b, c))`" if opened.word in _OF_MORE else ""))
             return "a `,` stands between the two values of `min`, `max`, `less` and `same` alone: take it away"
-        if here.kind in (";", "{", "}", "max", END) or is_statement(here):
+        if here.kind in (";", "{", "}", "max", END) or is_statement(here) and spot.is_over_line:
             return f"the `(` at {where} lacks its `)`, or is one too many"
         if here.text == ".":
             return _DECIMAL if spot.next().text != "." else _RANGE
@@ -189,7 +189,7 @@ def at_operator(spot: Spot) -> Optional[str]:
                     "or the `)`")
     elif here.kind == ")":
         return "one `)` is too many, or a `(` is missing before it"
-    if here.text == "?":
+    if here.text == "?" or here.kind == "if" and not spot.is_over_line and not goes_on(spot):
         return Known("a value has no two cases, and an `if` has: `if r1 { set r0 = 5; } else { set r0 = 6; }`")
     if here.text == ".":
         return _DECIMAL if spot.next().text != "." else _RANGE
