@@ -73,7 +73,7 @@ SLIPS = (
          "did you mean `repeat`?"),
     Slip("note c#4 1/4;", "note cs4 1/4;", "1:6", 3,
          "here a pitch is expected, and there is `c`",
-         "a `#` begins a comment, and a sharp is `s`: if `cs4 1/4` is meant, write `note cs4 1/4;`"),
+         "a `#` begins a comment, and a sharp is `s`: write `note cs4 1/4;`"),
     Slip("note ces4 1/4;", "note cb4 1/4;", "1:6", 3,
          "here a pitch is expected, and there is `ces4`",
          "a flat is `b`: write `note cb4 1/4;`"),

@@ -8,7 +8,7 @@ from typing import Optional
 
 from ..pitch import Pitch
 from .common import FUNCTIONS, parenthesized, token_before
-from .cures import Computed, Known
+from .cures import Computed, Known, Sure
 from .drawing import drawn_at
 from .foreign import length_at, pitch_at
 from .forms import FORMS
@@ -87,7 +87,8 @@ def at_pitch(spot: Spot) -> Optional[str]:
         end = spot.place + len(found.wrote.encode())
         text = spot.mended(spot.place, end, found.write) or all_commas(spot)
         cure = Computed(f"{found.why}: write `{text}`") if text else spot.write(found.why, spot.place, end, found.write)
-        return cure if found.is_sure else str(cure)
+        is_spelled = "#" in found.wrote and found.wrote[0].lower() == found.write[0] and found.write[-1] in found.wrote
+        return Sure(cure) if found.is_sure and is_spelled else cure if found.is_sure else str(cure)
     return _no_pitch(spot)
 
 

@@ -32,7 +32,7 @@ def or_away(spot: Spot, cure: str) -> str:
     run = inside[0] if inside else _run(spot)
     if not run and spot.where == "statement" and spot.here.is_word:
         return type(cure)(f"{cure}; a remark stands behind a `#`")
-    return f"{cure}; else take the `{run}` away" if run and _is_read_on(spot, run) else cure
+    return type(cure)(f"{cure}; else take the `{run}` away") if run and _is_read_on(spot, run) else cure
 
 
 def _run(spot: Spot) -> str:
