@@ -134,7 +134,7 @@ SLIPS = (
          "a key by its number has `key` before it: write `note key 60, key 64 1/4;`"),
     Slip("note key 60 + 12 1/4;", "note key (60 + 12) 1/4;", "1:13", 3,
          "here a `,` or a length is expected, and there is `+`",
-         "what is computed stands in parentheses: write `note key (60 + 12) 1/4;`"),
+         "what is computed stands in parentheses: if a computation is meant, write `note key (60 + 12) 1/4;`"),
     Slip("note c4 e4 g4 1/2;", "note c4, e4, g4 1/2;", "1:9", 3,
          "here a `,` or a length is expected, and there is `e4`",
          "commas stand between the pitches of a chord: if a chord is meant, write `note c4, e4, g4 1/2;`, or one "

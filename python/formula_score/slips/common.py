@@ -46,7 +46,11 @@ def parenthesized(spot: Spot, start: int, before: str = "") -> str:
     inner = computed(spot.source[start:start + 200])
     more = len(inner) + (spot.source[start + len(inner):start + len(inner) + 1] == ")")
     why = "what is computed stands in parentheses" + (f", behind `{before.strip()}`" if before else "")
-    return spot.write(why, start, start + more, f"{before}({inner})") if inner else why
+    cure = spot.write(why, start, start + more, f"{before}({inner})") if inner else why
+    if re.search("[a-z]", inner):
+        return cure
+    # of numbers alone little is computed
+    return type(cure)(cure.replace(": write", ": if a computation is meant, write"))
 
 
 def open_block(spot: Spot) -> str:
