@@ -1,8 +1,7 @@
 -- What a run over a told source and a told sink hands over, of each task.
-use Rattle.std.proofs.Common.{◌≡◌, ◌⊎◌, ℕ, ◌<◌, List, [], ◌++◌, length, Option, Some, None, true, refl, ap, sym, ◌∙◌, subst, inl, inr, append-nil}
-use Rattle.std.specs.Io.KnownBytes.{prepend_known}
+use Rattle.std.proofs.Common.{◌≡◌, ◌⊎◌, ℕ, ◌<◌, List, [], ◌++◌, length, Option, Some, None, refl, ap, sym, ◌∙◌, subst, inl, inr, append-nil}
 use Rattle.fm_edge.specs.Content.{AppendsFront}
-use Rattle.fm_edge.specs.Flow.{Flow, IsAtEnd, Passes, known}
+use Rattle.fm_edge.specs.Flow.{Flow, IsAtEnd, Passes}
 use Rattle.fm_edge.specs.Seen.{SinkSeen, SourceSeen}
 use Rattle.fm_edge.specs.Told.{Given, Handed, given, handed}
 use Rattle.fm_gen.specs.LargeScore.{large_score}

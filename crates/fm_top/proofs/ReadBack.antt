@@ -1,10 +1,10 @@
 -- The file of an accepted score is within the size of files that are read, and what it holds is in range and in time.
-use Rattle.std.proofs.Common.{◌≡◌, ℕ, ◌-◌, ◌*◌, ◌+◌, ◌^◌, ◌<◌, ◌≤◌, inl, inr, List, [], ◌∷◌, length, Ok, refl, ap, sym, arith}
+use Rattle.std.proofs.Common.{◌≡◌, ℕ, ◌-◌, ◌*◌, ◌^◌, ◌<◌, ◌≤◌, inl, inr, List, [], ◌∷◌, length, Ok, refl, arith}
 use Rattle.std.proofs.Math.Nat.{mul-div-le}
 use Rattle.std.specs.Prelude.{IsTrue}
 use Rattle.fm_grammar.specs.Score.{Score}
 use Rattle.fm_line.specs.declared.line.Line.{Line}
-use Rattle.fm_line.specs.Line.{ValidLines, event, line, total}
+use Rattle.fm_line.specs.Line.{ValidLines, event, line}
 use Rattle.fm_line.specs.declared.limits.TheConstants.{MAX_EVENTS}
 use Rattle.fm_line.specs.Piece.{In, IsPiece, piece}
 use Rattle.fm_line.proofs.Pieces.{is_piece}
@@ -26,7 +26,7 @@ use Rattle.fm_top.specs.ReadBack.{IsReadBack}
 use Rattle.fm_smf.proofs.Tracks.{length-end, length-events, length-file, length-track}
 use Rattle.fm_smf.specs.File.{file}
 use Rattle.fm_smf.specs.Track.{NeverFalls, filler_count, last_time, track, track_start}
-use Rattle.fm_smf.specs.declared.limits.TheConstants.{MAX_QUANTITY, MAX_TIME, MAX_TRACK}
+use Rattle.fm_smf.specs.declared.limits.TheConstants.{MAX_QUANTITY, MAX_TRACK}
 use Rattle.fm_tick.specs.declared.tick.TheConstants.{MAX_TICK}
 
 -- ---- the size

@@ -2,7 +2,7 @@
 -- gave, and by those that the calls of the sink which were Ok were handed.
 use Rattle.std.specs.Prelude.{◌≡◌, ◌⊎◌, ℕ, ◌<◌, List, [], length, true, Option, Some, None}
 use Rattle.fm_edge.specs.Content.{AppendsFront}
-use Rattle.fm_edge.specs.Told.{Given, Handed}
+use Rattle.fm_edge.specs.Told.{Given}
 use Rattle.fm_gen.specs.LargeScore.{large_score}
 use Rattle.fm_smf.specs.File.{file}
 use Rattle.fm_smf.specs.Writing.{Remains}

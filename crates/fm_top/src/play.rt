@@ -1,9 +1,8 @@
 //! Plays a plan: alone, in rounds of threads, or by a crew of threads that run freely.
-ghost use Rattle.std.specs.Prelude.{◌≡◌, ◌*◌, IfOk, IfErr, nat_lt};
+ghost use Rattle.std.specs.Prelude.{◌≡◌, ◌*◌, nat_lt};
 ghost use Rattle.fm_edge.specs.Content.{IsNew};
-ghost use Rattle.fm_play.specs.Performance.{HasWholeFile};
 ghost use Rattle.fm_words.specs.View.{HasRanges, options_view};
-ghost use Rattle.fm_top.specs.Outcome.{StopsAt};
+ghost use Rattle.fm_top.specs.Outcome.{Plays};
 
 use fm_edge::{Gate, Sink};
 use fm_play::Played;
@@ -33,8 +32,7 @@ pub fn play<R: Threads + Wait + Sync, G: Gate + Sync, K: Sink>(
 ) -> Result<Played, RunFault>
     requires ranges { HasRanges (options_view options.now) }
     requires new { IsNew (K.seen.content sink.old) }
-    ensures played { IfOk result (HasWholeFile K.seen sink.old sink.new plan) }
-    ensures err { IfErr result (StopsAt K.seen sink.old sink.new plan) }
+    ensures { Plays K.seen sink.old sink.new plan result }
 {
     if options.workers == 0 {
         play_alone(alloc, plan, options, sink)
@@ -67,8 +65,7 @@ fn play_alone<K: Sink>(
 ) -> Result<Played, RunFault>
     requires ranges { HasRanges (options_view options.now) }
     requires new { IsNew (K.seen.content sink.old) }
-    ensures played { IfOk result (HasWholeFile K.seen sink.old sink.new plan) }
-    ensures err { IfErr result (StopsAt K.seen sink.old sink.new plan) }
+    ensures { Plays K.seen sink.old sink.new plan result }
 {
     let rounds = Rounds::open(alloc, plan, options.room, options.lead)?;
     Ok(rounds.play_alone(sink)?)
@@ -84,8 +81,7 @@ fn conduct_only<G: Gate, K: Sink>(
 ) -> Result<Played, RunFault>
     requires ranges { HasRanges (options_view options.now) }
     requires new { IsNew (K.seen.content sink.old) }
-    ensures played { IfOk result (HasWholeFile K.seen sink.old sink.new plan) }
-    ensures err { IfErr result (StopsAt K.seen sink.old sink.new plan) }
+    ensures { Plays K.seen sink.old sink.new plan result }
 {
     let (board, mut conductor, _others) = fm_crew::open(
         alloc,
@@ -108,8 +104,7 @@ fn play_in_rounds<R: Threads + Sync, G: Gate + Sync, K: Sink>(
 ) -> Result<Played, RunFault>
     requires ranges { HasRanges (options_view options.now) }
     requires new { IsNew (K.seen.content sink.old) }
-    ensures played { IfOk result (HasWholeFile K.seen sink.old sink.new plan) }
-    ensures err { IfErr result (StopsAt K.seen sink.old sink.new plan) }
+    ensures { Plays K.seen sink.old sink.new plan result }
 {
     let rounds = Rounds::open(alloc, plan, options.room, options.lead)?;
     Ok(rounds.play(rt, options.workers, gate, sink)?)
@@ -126,8 +121,7 @@ fn play_by_crew<R: Threads + Wait + Sync, G: Gate + Sync, K: Sink>(
 ) -> Result<Played, RunFault>
     requires ranges { HasRanges (options_view options.now) }
     requires new { IsNew (K.seen.content sink.old) }
-    ensures played { IfOk result (HasWholeFile K.seen sink.old sink.new plan) }
-    ensures err { IfErr result (StopsAt K.seen sink.old sink.new plan) }
+    ensures { Plays K.seen sink.old sink.new plan result }
 {
     let (board, mut conductor, others) = fm_crew::open(
         alloc,
