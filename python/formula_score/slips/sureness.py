@@ -78,8 +78,8 @@ def _difference(spot: Spot, way: Changes) -> Difference:
     old = spot.data[begun:last].decode("utf-8", "replace")
     new = changed(spot, way, begun, last).encode("latin-1", "replace").decode("utf-8", "replace")
     olds, news = list(_TOKEN.finditer(old)), list(_TOKEN.finditer(new))
-    one, other = ([each[0] for each in found] for found in (olds, news))
-    found = [each for each in SequenceMatcher(None, one, other, autojunk=False).get_opcodes() if each[0] != "equal"]
+    before, behind = ([token[0] for token in tokens] for tokens in (olds, news))
+    found = [each for each in SequenceMatcher(None, before, behind, autojunk=False).get_opcodes() if each[0] != "equal"]
     parts = tuple(Part(tuple(each[0] for each in olds[a:b]), tuple(each[0] for each in news[c:d]))
                   for _, a, b, c, d in found)
     return Difference(parts, _between(old, olds, [each[1:3] for each in found], False),
