@@ -151,10 +151,10 @@ def _capital(spot: Spot) -> Optional[str]:
 def _bars_of_rest(text: str) -> str:
     """What to write for LilyPond's `R1*4`, or for bars of rest of ABC."""
     found = re.match(r"R([0-9]+\.*)(?:\s*\*\s*([0-9]{1,3})(?![0-9/]))?(?=\s|;|\Z)", text)
-    one = length_at(found[1]) if found else None
-    if found is None or one is None or int(found[1].strip(".")) > 64:
+    length = length_at(found[1]) if found else None
+    if found is None or length is None or int(found[1].strip(".")) > 64:
         return "if silence is meant, write a `rest` with its length, as in `rest 1/1;`"
-    whole = Fraction(one.write) * int(found[2] or 1)
+    whole = Fraction(length.write) * int(found[2] or 1)
     return Computed(f"silence is a `rest`: write `rest {whole.numerator}/{whole.denominator};`")
 
 

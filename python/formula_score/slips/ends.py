@@ -38,9 +38,9 @@ def at_end(spot: Spot) -> Optional[str]:
     if spot.rest.startswith("/*"):
         return Known("a comment begins with `#`, and ends with its line: if this is one, put it behind a `#` at the "
                      "end of the line")
-    one = tied(spot) or lengths_in_a_row(spot) if head == "note" else None
-    if one:
-        return one
+    lengths = tied(spot) or lengths_in_a_row(spot) if head == "note" else None
+    if lengths:
+        return lengths
     between = _before_statement(spot)
     if between and stands(spot, between):
         return between
@@ -131,10 +131,10 @@ def _end_of_sound(spot: Spot) -> Optional[str]:
         for meant in (sum_at(text), length_at(text)):
             if meant and begun + len(meant.wrote) > spot.place:
                 cure = spot.write(meant.why, begun, begun + len(meant.wrote), meant.write)
-                one = cure.replace(": write", ": if one note is meant, write")
+                single = cure.replace(": write", ": if one note is meant, write")
                 if not cure or not times or head != "note":
                     return cure
-                return Computed(f"{one}; if {times[1]} of them, write `repeat {times[1]} {{ {statement_text(spot)} }}`")
+                return Computed(f"{single}; if {times[1]} of them, write `repeat {times[1]} {{ {statement_text(spot)} }}`")
     if here.kind in (*_ROUND, "warp") and not spot.is_over_line and _block_round(spot):
         return _block_round(spot)
     if spot.is_over_line:

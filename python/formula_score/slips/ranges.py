@@ -153,8 +153,8 @@ def unknown_name(spot: Spot) -> Optional[tuple[str, str]]:
         each.startswith(name) or len(each) > 2 and name.startswith(each))]
     if meant:
         return heading, "did you mean " + " or ".join(f"`{each}`" for each in meant) + "?"
-    there = f"; there {'are' if len(above) > 1 else 'is'} {', '.join(f'`{each}`' for each in sorted(above))}" if (
+    known = f"; there {'are' if len(above) > 1 else 'is'} {', '.join(f'`{each}`' for each in sorted(above))}" if (
         0 < len(above) < 9) else ""
-    return heading, (f"if it is a new one, write `phrase {name} {{ .. }}` above{there}" if head == "do" else
+    return heading, (f"if it is a new one, write `phrase {name} {{ .. }}` above{known}" if head == "do" else
                      f"if it is a new one, its shape stands above, as in `shape {name} = slope 1/1 by 1000 to "
-                     f"1500;`{there}")
+                     f"1500;`{known}")

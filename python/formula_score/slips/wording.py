@@ -45,14 +45,14 @@ def is_built(spot: Spot, code: str) -> bool:
     """Whether what is to be written has the names, numbers and pitches of the statement in the text, and no others."""
     begun = spot.statement[0].start if spot.statement and spot.where != "statement" else spot.place
     end = spot.end_of_statement(spot.place)
-    there = _words(spot.source[begun:end].lower())
+    stated = _words(spot.source[begun:end].lower())
     wrote = _words(code)
     if code.startswith(_HEAD) or spot.statement and code == statement_text(spot):
         return True
-    if any(each not in KEYWORDS for each in wrote - there):
+    if any(each not in KEYWORDS for each in wrote - stated):
         return False
     is_whole = bool(wrote) and code.endswith((";", "}")) and ".." not in code
-    return not is_whole or not any(kind_of(each) == PITCH or each.isdigit() for each in there - wrote)
+    return not is_whole or not any(kind_of(each) == PITCH or each.isdigit() for each in stated - wrote)
 
 
 def _words(text: str) -> Counter[str]:
