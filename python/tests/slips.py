@@ -137,8 +137,8 @@ SLIPS = (
          "what is computed stands in parentheses: if a computation is meant, write `note key (60 + 12) 1/4;`"),
     Slip("note c4 e4 g4 1/2;", "note c4, e4, g4 1/2;", "1:9", 3,
          "here a `,` or a length is expected, and there is `e4`",
-         "commas stand between the pitches of a chord: if a chord is meant, write `note c4, e4, g4 1/2;`, or one "
-         "after another `note c4 1/2; note e4 1/2; note g4 1/2;`"),
+         "commas stand between the pitches of a chord: if a chord is meant, write `note c4, e4, g4 1/2;`; if they "
+         "follow one another, write `note c4 1/2; note e4 1/2; note g4 1/2;`"),
     Slip("note [c4, e4] 1/2;", "note c4, e4 1/2;", "1:6", 3,
          "here a pitch is expected, and there is `[`",
          "the pitches of a chord stand between commas, without brackets: write `note c4, e4 1/2;`"),
@@ -571,6 +571,5 @@ SLIPS = (
          "the head stands first, and other text behind `#`: if that is meant, write `#` before it"),
     Slip("```\nformula 1; note c4 1/4;", "formula 1; note c4 1/4;", "1:1", 1,
          "``` begins no word of the language",
-         "the head stands first: write `#` before what stands before it, where that is text, else move it behind "
-         "the head"),
+         "the head stands first: if what stands before it is text, write `#` before it, else move it behind the head"),
 )

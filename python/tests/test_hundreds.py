@@ -10,6 +10,7 @@ from formula_score.slips.cures import Known
 from formula_score.slips.following import followed
 from formula_score.slips.spot import Spot
 from formula_score.slips.sureness import has_condition
+from formula_score.slips.telling import failing
 from formula_score.slips.trying import changed, mends
 
 from .hundreds import MEANT, NAMES, hundred, place_by_judge
@@ -51,6 +52,24 @@ def leads_to(text, scores):
     return False
 
 
+def readings(cure):
+    """What a message tells behind each condition: the condition, and what is to be written under it."""
+    return re.findall(r"\bif ((?:[^:;,`]|`[^`]*`)+?), (?:a [^:;]*: )?((?:write|take) (?:[^;`]|`[^`]*`)*)", cure)
+
+
+def fits(condition, reading):
+    """Whether what is to be written is of the kind that its condition names: a chord has commas, and is one note; what
+    comes in a row is several; `if `X` is meant` writes X."""
+    codes = re.findall(r"`([^`]*)`", reading)
+    if re.search(r"\ba chord is meant", condition):
+        return not any(code.count("note ") > 1 or code.count("play ") > 1 for code in codes)
+    if re.search(r"follow one another", condition):
+        return any(code.count(";") > 1 for code in codes)
+    meant = re.fullmatch(r"`([^`]*)` is meant", condition)
+    words = meant[1].split() if meant and "write it so" not in reading else []
+    return all(any(word in code for code in codes) for word in words)
+
+
 class Hundreds(unittest.TestCase):
     def test_each_file_has_a_hundred(self):
         for name in NAMES:
@@ -81,6 +100,21 @@ class Hundreds(unittest.TestCase):
                     spot = spot_of(slip.text, place)
                     if not isinstance(found.cure, Known) and "is written so" not in found.cure:
                         self.assertTrue(stands(spot, found.cure), f"{name} {slip.number}: {found.cure}")
+
+    def test_all_that_is_told_to_be_written_passes(self):
+        for name in NAMES:
+            for slip in hundred(name):
+                place = place_by_judge(slip.text)
+                found = place and told(slip.text.encode(), *place)
+                if found:
+                    self.assertEqual(failing(spot_of(slip.text, place), found.cure), [],
+                                     f"{name} {slip.number}: {found.cure}")
+
+    def test_each_reading_has_a_condition_of_its_own(self):
+        for name in NAMES:
+            for slip in hundred(name):
+                for condition, reading in readings(slip.told):
+                    self.assertTrue(fits(condition, reading), f"{name} {slip.number}: {slip.told}")
 
     def test_what_is_asserted_was_meant(self):
         led = {f"{name} {slip.number}": leads_to(slip.text, slip.scores()) for name in MEANT for slip in hundred(name)}

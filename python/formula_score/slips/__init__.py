@@ -16,12 +16,13 @@ from .places import AT
 from .ranges import known_name, no_ticks, out_of_range, unknown_name
 from .smallest import meant, rearranged, smallest
 from .spot import Spot
-from .stray import or_away, outside, quoted_away
+from .stray import lines_begun, or_away, outside, quoted_away
 from .statement import at_statement
 from .sureness import conditional
 from .trying import Change, mends
+from .telling import failing
 from .tokens import END, INDEX, NAME, NUMBER, PITCH, REGISTER, kind_of
-from .wording import without_rhythm, worded
+from .wording import in_range, without_rhythm, worded
 
 __all__ = ["Told", "told"]
 
@@ -46,13 +47,19 @@ def told(data: bytes, line: int, column: int, number: int) -> Optional[Told]:
         found = _BY_NUMBER[number](spot)
         return Told(found[0], worded(spot, found[1]), place) if found else None
     if number == 1:
-        cure = conditional(spot, _checked(spot, quoted_away, _word_in_parts, at_byte))
+        cure = _tried(spot, lines_begun, quoted_away, _word_in_parts, at_byte)
         return Told(_heading_of_byte(spot), cure or _stated(spot, at_byte) or _ANY_BYTE, place)
     if number == 2:
-        return Told(_heading_of_number(spot), conditional(spot, _checked(spot, at_number)), place)
+        return Told(_heading_of_number(spot), _tried(spot, lines_begun, at_number), place)
     rule = at_statement if spot.where == "statement" else AT[spot.where]
-    cure = conditional(spot, _checked(spot, quoted_away, _commented, _doubled, _word_in_parts, called, rule, _unopened))
+    cure = _tried(spot, lines_begun, quoted_away, _commented, _doubled, _word_in_parts, called, rule, _unopened)
     return Told(_heading(spot), cure or _stated(spot, rule), spot.last.end if spot.is_over_line else place)
+
+
+def _tried(spot: Spot, *rules: Rule) -> str:
+    """The cure by these rules with its condition; '' where something that it tells to be written does not pass."""
+    cure = in_range(spot, conditional(spot, _checked(spot, *rules)))
+    return cure if not failing(spot, cure) else ""
 
 
 def _checked(spot: Spot, *rules: Rule) -> str:
@@ -73,6 +80,8 @@ _FACT = re.compile(r"(?!if |did )((?:[^:`]|`[^`]*`)+): (?:write|take) ")
 _ALIKE = str.maketrans("асеорхуіѕјΑΒΕαο", "aceopxyisjABEao")
 #: What is told of a place, by what stands there.
 Rule = Callable[[Spot], Optional[str]]
+#: The symbols of the language.
+_SYMBOLS = ";{}()[],=/+-*%"
 _ANY_BYTE = "no token begins with this byte; what is no music stands behind `#`"
 _BY_NUMBER = {5: known_name, 6: unknown_name, 7: out_of_range, 8: no_ticks}
 
@@ -203,10 +212,17 @@ def _with_article(label: str) -> str:
 
 
 def _heading_of_byte(spot: Spot) -> str:
-    begun = spot.last.start if spot.last.is_word and spot.last.end == spot.place else spot.place
-    found = re.match(r"[A-Za-z][A-Za-z0-9_]*", spot.source[begun:]) if spot.here.text.isalpha() else None
-    if found:
-        return f"`{found[0]}` is no word of the language, by its capital letter"
+    first = spot.text[:1]
+    if first.isascii() and first.isalpha():
+        begun = spot.last.start if spot.last.is_word and spot.last.end == spot.place else spot.place
+        found = re.match(r"[A-Za-z][A-Za-z0-9_]*", spot.source[begun:])
+        return f"`{found[0] if found else first}` is no word of the language, by its capital letter"
+    named = unicodedata.name(first, "").lower()
+    if named and (first.isspace() or unicodedata.category(first) in ("Cf", "Zs", "Zl", "Zp")):
+        return f"here stands a {named}, which is no blank of the language"
+    plain = unicodedata.normalize("NFKC", first)
+    if named and plain != first and plain.isascii() and plain in _SYMBOLS:
+        return f"this sign looks like `{plain}`, and is another one, a {named}"
     return f"`{spot.characters(spot.place)}` begins no word of the language"
 
 

@@ -3,6 +3,7 @@
 from __future__ import annotations
 
 import re
+import unicodedata
 from fractions import Fraction
 from typing import Optional
 
@@ -54,6 +55,10 @@ def at_byte(spot: Spot) -> Optional[str]:
         return _backslash(spot) if is_music(spot) or spot.where in ("slash", "formula", "branch", "block") else None
     if first in _TYPED:
         return f"`{first}` is typed for `{_TYPED[first]}`: write `{_TYPED[first]}` in place of `{first}`"
+    plain = unicodedata.normalize("NFKC", first)
+    if plain != first and plain in tuple(";,{}()=/+-*[]") and mends(
+            spot, (Change(spot.place, spot.place + len(first.encode()), plain),)):
+        return Computed(f"only the sign of the keyboard is a `{plain}`: write a plain `{plain}` in its place")
     if first in _FRACTIONS:
         return Computed(f"a length is written with `/`: write `{_FRACTIONS[first]}` in place of `{first}`")
     if text.startswith("♩") and re.match(r"♩\s*=\s*[0-9]+", text):
@@ -145,7 +150,23 @@ def _capital(spot: Spot) -> Optional[str]:
     if spot.where == "statement":
         return ("a statement begins with a word in small letters, as `note`, `rest`, `repeat` or `do`, and other text "
                 "stands behind `#`")
-    return f"words have small letters alone: if `{lower}` is meant, write it so, and put what is no music behind `#`"
+    special = AT.get(spot.where)
+    if special and not passes(spot, Change(spot.place, spot.place + len(word), lower)):
+        digits = lower.translate(str.maketrans("oil", "011"))
+        if spot.last.kind == NUMBER and spot.last.end == spot.place and digits.isdigit() and passes(
+                spot, Change(spot.place, spot.place + len(word), digits)):
+            number = spot.last.text
+            return Computed(f"a number has digits alone: if `{number}{digits}` is meant, write `{number}{digits}` in "
+                            f"place of `{number}{word}`")
+        return Known(f"words have small letters alone; {_place_of(spot, word)}")
+    return f"words have small letters alone: if `{lower}` is meant, write it so; what is no music stands behind `#`"
+
+
+def _place_of(spot: Spot, word: str) -> str:
+    """What stands in place of a word that is none here."""
+    if "a number" in spot.reading.expected:
+        return f"a number stands here, in place of `{word}`"
+    return "what is no music stands behind `#`"
 
 
 def _bars_of_rest(text: str) -> str:

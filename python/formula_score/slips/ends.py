@@ -252,8 +252,8 @@ def _end_of_do(spot: Spot) -> Optional[str]:
     if here.kind in _ROUND and _block_round(spot):
         return _block_round(spot)
     if here.text == name:
-        return Computed(f"one phrase at a time: if it comes twice, write `do {name}; do {name};`, else take one "
-                        f"`{name}` away")
+        return Computed(f"one phrase at a time: if it comes twice, write `do {name}; do {name};`, else "
+                        f"`do {name};`")
     if here.kind == NUMBER or here.text in ("*",) or here.text == "x":
         number = here.text if here.kind == NUMBER else spot.next().text
         count = number if number.isdigit() else "4"
@@ -271,8 +271,8 @@ def _end_of_do(spot: Spot) -> Optional[str]:
         if here.text == "+" and spot.next().kind == NUMBER:
             return meaning("transpose")
         if other == name:
-            return Computed(f"one phrase at a time: if it comes twice, write `do {name}; do {name};`, else take one "
-                            f"`{name}` away")
+            return Computed(f"one phrase at a time: if it comes twice, write `do {name}; do {name};`, else "
+                        f"`do {name};`")
         if other in spot.phrases or spot.next().kind == NAME:
             return f"one phrase at a time: write `do {name}; do {other};`"
         return "one phrase at a time, and `;` behind it"

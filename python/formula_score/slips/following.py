@@ -3,7 +3,7 @@
 from __future__ import annotations
 
 import re
-from typing import Iterator
+from typing import Iterator, Optional
 
 from .spot import Spot
 from .trying import WINDOW, Change, Changes
@@ -40,7 +40,10 @@ def _followed(spot: Spot, cure: str) -> Iterator[Changes]:
         return
     placed = _PLACED.search(cure)
     if placed:
-        yield from _at_each(spot, placed[2], placed[1])
+        closes = re.search(r"and take its `\}` away", cure)
+        close = _close_of_block(spot) if closes else None
+        for way in _at_each(spot, placed[2], placed[1]):
+            yield (*way, Change(close, close + 1, " ")) if close is not None else way
         return
     closing = _CLOSING.search(cure)
     if closing:
@@ -63,6 +66,12 @@ def _followed(spot: Spot, cure: str) -> Iterator[Changes]:
         yield from _written(spot, one or other)
 
 
+def in_place_of(cure: str) -> str:
+    """What a cure writes another sign for; '' for nothing."""
+    found = re.search(r"in place of (?:the )?`([^`]*)`", cure)
+    return found[1] if found else ""
+
+
 def _begun(spot: Spot) -> int:
     return spot.statement[0].start if spot.statement and spot.where != "statement" else spot.place
 
@@ -72,9 +81,19 @@ def _at_each(spot: Spot, old: str, new: str) -> Iterator[Changes]:
     stop = max(spot.end_of_statement(spot.place), spot.here.end)
     before = spot.last.start if spot.last.text == old else spot.place
     for base in (spot.place, before, _begun(spot), 0 if old.startswith("formula") else spot.place):
-        at = spot.source.find(old.encode().decode("latin-1"), base, stop + 1)
+        at = spot.source.find(old.encode().decode("latin-1"), base, stop + len(old.encode()))
         if at >= 0:
             yield (Change(at, at + len(old.encode()), new),)
+
+
+def _close_of_block(spot: Spot) -> Optional[int]:
+    """Where the block ends whose `{` stands at the place."""
+    depth = 0
+    for each in spot.after:
+        depth += (each.text == "{") - (each.text == "}")
+        if each.text == "}" and depth == 0:
+            return each.start
+    return None
 
 
 def _taken_away(spot: Spot, text: str, other: str) -> Iterator[Changes]:

@@ -70,7 +70,8 @@ def at_pitch(spot: Spot) -> Optional[str]:
         each = re.findall(r"[a-g][sb]?[0-9]", run[0])
         text = spot.mended(spot.place, spot.place + len(run[0]), ", ".join(each))
         if text:
-            return Computed(f"commas stand between the pitches of a chord: write `{text}`{apart(text)}")
+            return Computed(f"commas stand between the pitches of a chord: if a chord is meant, write `{text}`"
+                            f"{apart(text)}")
     both = re.match(r"([a-h](?:is|es|s|f|isis|eses)?[',]+)([0-9]+\.*)(?![0-9a-z])", spot.rest)
     if both and here.kind == NAME:
         pitch, length = pitch_at(both[1], True), length_at(both[2])
@@ -172,8 +173,9 @@ def _no_pitch(spot: Spot) -> Optional[str]:
         if many and (head == "play") == (many[3] is None):
             pitches = re.findall(r"[a-g][sb]?[0-9]", many[2])
             row = " ".join(f"{head} {each}{many[3] or ''};" for each in pitches)
-            return Computed(f"pitches have no quotes, and each note is a statement of its own: write `{row}`, or "
-                            f"`{head} {', '.join(pitches)}{many[3] or ''};` for a chord")
+            each = f", each with{many[3]}" if many[3] else ""
+            return Computed(f"pitches have no quotes: if they follow one another{each}, write `{row}`; if a chord is "
+                            f"meant, write `{head} {', '.join(pitches)}{many[3] or ''};`")
         return f"a pitch has no quotes: write {form}"
     if head == "note" and re.match(r"[-_.xX*~=0]\s+(?:[0-9]+ ?/ ?[0-9]+|ticks [0-9]+)\s*;", spot.rest):
         return Known("a note has a pitch, as in `note c4 1/4;`; if silence is meant, write a `rest`, as in `rest 1/4;`")
@@ -263,7 +265,7 @@ def apart(chord: str) -> str:
         return ""
     length = f" {found[3]}" if found[3] else ""
     text = " ".join(f"{found[1]} {each}{length};" for each in found[2].split(", "))
-    return f", or one after another `{text}`" if len(text) < 70 else ", or one after another each as a statement"
+    return "; if they follow one another, " + (f"write `{text}`" if len(text) < 70 else "each is a statement")
 
 
 def chord_plus(spot: Spot) -> Optional[str]:

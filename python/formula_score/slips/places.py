@@ -26,6 +26,19 @@ def at_seed(spot: Spot) -> Optional[str]:
     return f"a written number stands behind `{word}`, as in `{FORMS.get(word, 'seed 42;')}`"
 
 
+def before_head(spot: Spot) -> str:
+    """What to do about what stands before the head: taken away, or a comment where the head has a line of its own."""
+    before = re.match(r"(.*?)(?:^|(?<=[\s;]))formula\s*[12]\s*;", spot.text, re.S)
+    wrote = before[1].strip() if before else ""
+    if not before or "\n" in before[1]:
+        each = "each of its lines" if "\n" in wrote else "it"
+        return ("the head stands first: if what stands before it is text, write `#` before "
+                f"{each}, else move it behind the head")
+    if not wrote or len(wrote) > 40 or "`" in wrote:
+        return "a score begins with its head; other text stands behind `#`, and statements behind the head"
+    return f"the head stands first: if nothing is meant by `{wrote}`, take `{wrote}` away"
+
+
 def at_head(spot: Spot) -> Optional[str]:
     """Where `formula` or its version is expected."""
     here = spot.here
@@ -36,8 +49,7 @@ def at_head(spot: Spot) -> Optional[str]:
         if here.text == "division":
             return "`formula 2;` stands first, and `division` directly behind it: move it there"
         if not is_statement(here):
-            return ("the head stands first: write `#` before what stands before it, where that is text, else move it "
-                    "behind the head")
+            return before_head(spot)
         return f"the head stands first: move `formula {later[1]};` before {spot.shown(here)}"
     if spot.where == "version":
         version = re.match(r"[^0-9;\n]{0,12}([12])(?![0-9])", spot.rest)

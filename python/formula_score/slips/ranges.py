@@ -139,9 +139,8 @@ def unknown_name(spot: Spot) -> Optional[tuple[str, str]]:
     heading = f"no {kind} above has the name `{name}`"
     inside = next((each for each in spot.reading.blocks if each.word == f"phrase {name}"), None)
     if inside:
-        return heading, ("a phrase cannot play itself: if it is played behind its block, write the `}}` before `do "
-                         f"{name};`; "
-                         "if it comes again, write a loop round what comes again")
+        return heading, ("a phrase cannot play itself: if it is played behind its block, move its `}` before "
+                         f"`do {name};`; if it comes again, write a loop round what comes again")
     if name in spot.reading.named:
         other = "warp" if head == "do" else "do"
         return (heading, f"`{name}` is a {'shape' if head == 'do' else 'phrase'}: if it is meant, write "

@@ -3,17 +3,22 @@
 from __future__ import annotations
 
 import re
+from fractions import Fraction
 from typing import Optional
 
 from .common import FUNCTIONS, insert, token_before
+from .cures import Computed
 from .foreign import length_at, sum_at
 from .lengths import write_length
+from .limits import MILLION
 from .near import near
 from .spot import Spot
 from .tokens import END, INDEX, NAME, NUMBER, REGISTER
 
 #: The words that begin a part of a shape.
 PARTS = ("flat", "slope", "pause", "breath")
+#: From which value on a quotient is meant in thousandths; below it is how many times as long.
+FACTOR = 20
 
 
 def end_of_shape(spot: Spot) -> Optional[str]:
@@ -46,15 +51,24 @@ def end_of_shape(spot: Spot) -> Optional[str]:
 
 
 def thousandths(spot: Spot) -> str:
-    begun = spot.last.start
-    found = re.match(r"([0-9]+)([./])([0-9]+)", spot.source[begun:])
+    """What to do about a stretch with a point or a stroke: what is computed is told where it has one meaning."""
+    begun, why = spot.last.start, "stretches are whole numbers of thousandths"
+    found = re.match(r"([0-9]{1,9})([./])([0-9]{1,9})(?![0-9.])", spot.source[begun:])
+    value = Fraction(0)
     if found:
         over, sign, under = found.groups()
-        value = float(f"{over}.{under}") if sign == "." else int(over) / max(1, int(under))
-        stretch = round(value * 1000)
-        if 1 <= stretch <= 1_000_000:
-            return spot.write("stretches are whole numbers of thousandths", begun, begun + len(found[0]), str(stretch))
-    return "stretches are whole numbers of thousandths: 1000 is as written, and 2000 half as fast"
+        value = Fraction(f"{over}.{under}") if sign == "." else Fraction(int(over), max(1, int(under)))
+    if found and FACTOR <= value:
+        quotient = round(value)
+        text = spot.mended(begun, begun + len(found[0]), str(quotient)) if quotient <= MILLION else None
+        if text:
+            return Computed(f"{why}, and `{found[0]}` is {'' if quotient == value else 'about '}{quotient}: write "
+                            f"`{text}`")
+    elif found and 1000 * value >= 1:
+        text = spot.mended(begun, begun + len(found[0]), str(round(1000 * value)))
+        if text:
+            return Computed(f"{why}, and 1000 is as written: if {found[0]} times as long is meant, write `{text}`")
+    return f"{why}: 1000 is as written, and 2000 half as fast"
 
 
 def at_part(spot: Spot) -> Optional[str]:

@@ -123,7 +123,7 @@ def at_statement(spot: Spot) -> Optional[str]:
     if line and line.words == "tempo" and second:
         return meaning("accelerando")
     found = by_index(word, number)
-    if found and "the quarter notes a minute" in found and spot.reading.blocks and number:
+    if found and found.startswith("if ") and "is the quarter notes a minute" in found and spot.reading.blocks:
         shape, warp = re.findall(r"(shape [^;]*;) (warp [a-z0-9_]+)", found)[0]
         return Known(f"if {number} is the quarter notes a minute, write `{shape}` before "
                      f"`{spot.reading.blocks[0].word}`, and `{warp} {{ .. }}` here: a tempo is a `warp`, by 120,000 "

@@ -6,10 +6,10 @@ import re
 from typing import Optional
 
 from ..index import musical
-from .cures import Computed
+from .cures import Computed, Known
 from .spot import Spot
 from .tokens import END, NUMBER
-from .trying import Change, mends
+from .trying import Change, mends, reads_past
 
 #: What marks may stand for, by the lines of the index.
 _MEANT = {">": "accent", "^": "accent", "!": "accent", "-": "tenuto", "_": "tenuto", ".": "staccato", "~": "tie",
@@ -18,6 +18,10 @@ _MEANT = {">": "accent", "^": "accent", "!": "accent", "-": "tenuto", "_": "tenu
 _MARKS = re.compile(r"[^\sA-Za-z0-9;{}()\[\],#\"“”„«»¼½¾⅛⅜⅓⅔♯♭♮]+")
 _LABEL = re.compile(r"[0-9]{1,4} ?[.):]+|[A-Z]:[^\s;{}]{1,16}(?=\s)|[A-Za-z][A-Za-z0-9_]{0,15} ?[):]"
                     r"|[\[(<] ?[A-Za-z0-9_ ]{1,16} ?[\])>]:?")
+#: What lists, mails and consoles write before each line.
+_BEGUN = re.compile(r"(?:[-*+>•·–—|$%]+|[0-9]{1,4} ?[.):|]*|[a-z][.)])(?=[ \t]+[a-z])")
+#: How many lines are looked at.
+MARKS = 20
 _QUOTED = re.compile(r"[-^_]?(\"|“|„|«|'|‘)([^\"“”„«»'‘’\n]{0,60})(\"|”|“|»|'|’)")
 
 
@@ -73,6 +77,24 @@ def _label_away(spot: Spot) -> Optional[str]:
         return None
     return Computed(f"`{found[0]}` is no part of a statement: if it is a label, put it behind a `#` at the end of the "
                     f"line, or take `{found[0]}` away")
+
+
+def lines_begun(spot: Spot) -> Optional[str]:
+    """What to do about marks or numbers before the statements of a text, as of a list or a mail, line by line."""
+    begun = spot.source.rfind("\n", 0, spot.place) + 1
+    found = _BEGUN.match(spot.text)
+    if found is None or spot.source[begun:spot.place].strip() or spot.where not in ("statement", "formula"):
+        return None
+    mark = found[0].strip()
+    like = re.sub("[0-9]+", "[0-9]+", re.escape(mark))
+    each_line = re.compile(rf"^[ \t]*{like}(?=[ \t])", re.M)
+    marks = [each for each in each_line.finditer(spot.source[begun:], 0) if each.end() > each.start()]
+    is_alone = len(marks) == 1
+    changes = tuple(Change(begun + each.start(), begun + each.end(), "") for each in marks)
+    if is_alone and spot.where == "statement" or not reads_past(spot, changes[:MARKS]):
+        return None
+    what = "such a number" if mark.isdigit() else f"`{mark}`" if like == re.escape(mark) else "such a mark"
+    return Known(f"if nothing is meant by `{mark}`, take it away" + ("" if is_alone else f", and {what} at each line"))
 
 
 def quoted_away(spot: Spot) -> Optional[str]:

@@ -91,10 +91,14 @@ def _between(text: str, tokens: Sequence[re.Match[str]], runs: Sequence[tuple[in
     places = [place for first, last in runs for place in range(first, last)]
     if not places:
         return ""
+    if not whole and places[-1] - places[0] >= len(places) and not any(tokens[each][0].isalnum() for each in places):
+        return ""       # marks round what is kept
     begun, end = tokens[places[0]].start(), tokens[places[-1]].end()
     while whole and _WITHIN.match(text[begun - 1:begun]):
         begun -= 1
     while whole and _WITHIN.match(text[end:end + 1]):
+        end += 1
+    while whole and text[begun:end].count("(") > text[begun:end].count(")") and end < len(text):
         end += 1
     return re.sub(r"\s+", " ", text[begun:end].split(" {")[0]).strip(" ;{},")
 

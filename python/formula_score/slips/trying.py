@@ -85,14 +85,31 @@ def mends(spot: Spot, changes: Sequence[Change], once: bool = False) -> bool:
 
 def passes(spot: Spot, change: Change) -> bool:
     """Whether what is written anew is read, wherever the first fault behind it stands."""
-    part = _part(spot, change.start)
+    fault = _first(spot, (change,))
+    return fault is None or fault.place >= change.start + len(change.new)
+
+
+def reads_past(spot: Spot, changes: Sequence[Change]) -> bool:
+    """Whether the changed text is read past the place, and past all that is written anew."""
+    fault = _first(spot, changes)
+    if fault is None:
+        return True
+    grown = sum(len(each.new) - (each.end - each.start) for each in changes)
+    last = max(each.end for each in changes)
+    return fault.place > max(last, spot.place) + grown
+
+
+def _first(spot: Spot, changes: Sequence[Change]) -> Optional[Fault]:
+    """The first fault of the changed text, by its place in the whole of it; None where there is none for a while."""
+    part = _part(spot, min(each.start for each in changes))
     if part is None:
-        return False
-    stop = min(change.end + WINDOW, len(spot.source))
-    text = changed(spot, (change,), part.start, stop)
+        return Fault(3, 0)
+    stop = min(max(each.end for each in changes) + WINDOW, len(spot.source))
+    text = changed(spot, changes, part.start, stop)
     read, wrong, ended = lexed(text)
     judge, fault = _judged(read, wrong, ended, spot, part, stop < len(spot.source) and not wrong)
-    return fault is None or fault.place >= change.start - part.start + len(change.new)
+    first = min([*judge.noted, *([fault] if fault else [])], key=lambda each: each.place, default=None)
+    return first._replace(place=first.place + part.start) if first else None
 
 
 def _block_begun(read: Sequence[Token], end: int, ended: int) -> int:

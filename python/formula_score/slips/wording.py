@@ -8,6 +8,8 @@ from collections import Counter
 from ..nodes import KEYWORDS
 from .common import statement_text
 from .cures import Computed, Known
+from .limits import MILLION
+from .ranges import whole_note
 from .spot import Spot
 from .tokens import PITCH, kind_of
 
@@ -26,6 +28,18 @@ def worded(spot: Spot, cure: str) -> str:
         codes = re.findall(r"`([^`]*)`", found[1])
         return found[0] if all(is_built(spot, each) for each in codes) else f", as in {found[1]}"
     return _SAYS.sub(said, cure)
+
+
+def in_range(spot: Spot, cure: str) -> str:
+    """A cure whose tempo shapes are as long as the division of the text allows."""
+    is_long = 500 * whole_note(spot) > MILLION and "500/1" not in _line(spot)
+    return type(cure)(cure.replace("flat 500/1", "flat 250/1")) if is_long and "flat 500/1" in cure else cure
+
+
+def _line(spot: Spot) -> str:
+    """The present statement, and its line from the place on."""
+    begun = spot.statement[0].start if spot.statement else spot.place
+    return spot.source[begun:spot.end_of_statement(spot.place)]
 
 
 def without_rhythm(spot: Spot, cure: str) -> str:
