@@ -399,13 +399,14 @@ SLIPS = (
          "an instrument is a program, counted from 0: if `program` is meant, write `program 73;`"),
     Slip("bend 9000;", "bend 8191;", "1:6", 7,
          "`9000` is out of its range",
-         "a number from -8192 to 8191 stands there: 8192 is two semitones on most instruments"),
+         "a number from -8192 to 8191 stands there: 8192 is two semitones on most instruments; if the greatest is "
+         "meant, write `8191`; if a zero is too many, write `900`"),
     Slip("volume 128 { note c4 1/4; }", "volume 127 { note c4 1/4; }", "1:8", 7,
          "`128` is out of its range",
-         "a number from 1 to 127 stands there: a velocity, and 80 is mf"),
+         "a number from 1 to 127 stands there: a velocity, and 80 is mf; if the greatest is meant, write `127`"),
     Slip("channel 16 { note c4 1/4; }", "channel 15 { note c4 1/4; }", "1:9", 7,
          "`16` is out of its range",
-         "a number from 0 to 15 stands there: channels count from 0"),
+         "a number from 0 to 15 stands there: channels count from 0; if the greatest is meant, write `15`"),
     Slip("note c4 1/0;", "note c4 1/4;", "1:9", 7,
          "`1/0` is no length",
          "the number behind the `/` is not 0, as in `1/4`"),
@@ -464,8 +465,8 @@ SLIPS = (
          "a statement begins with a word as `note`, `rest`, `repeat` or `do`, and other text stands behind `#`"),
     Slip("rhythm [1/8] { play c4; ~; play e4; }", "rhythm [1/8] { play c4; skip; play e4; }", "1:25", 1,
          "`~` begins no word of the language",
-         "if `~` stands for silence, write `skip;`, and a tie is one note with both lengths in one, as `note "
-         "c4 5/8;`"),
+         "if `~` stands for silence, write `skip;`; if for a tie, that is one note with both lengths in one, as in "
+         "`note c4 5/8;`"),
     Slip("note c4(3,8) 1/8;", "note c4 1/8; rest 1/4; note c4 1/8; rest 1/4; note c4 1/8; rest 1/8;", "1:8", 3,
          "here a `,` or a length is expected, and there is `(`",
          "a pitch has its length behind it, and a rhythm is its notes and rests, as in `note c4 1/4; rest 1/4;`"),
@@ -545,8 +546,8 @@ SLIPS = (
          "the number stands directly behind `seed`: write `seed 7;`"),
     Slip("phrase a { note c4 1/4; } do reverse a;", "phrase a { note c4 1/4; } do a;", "1:38", 3,
          "here a `;` is expected, and there is `a`",
-         "no phrase has the name `reverse`, and `do` plays one as it stands: if nothing is meant by `reverse`, write "
-         "`do a;`"),
+         "a phrase is played as it is written: if backwards is meant, write its notes in the other order in a phrase "
+         "of its own; if nothing is meant by `reverse`, write `do a;`"),
     Slip("phrase a { note c4 1/4; } repeat 4 a;", "phrase a { note c4 1/4; } repeat 4 { do a; }", "1:36", 3,
          "here a `{` is expected, and there is `a`",
          "what it holds stands between `{` and `}`: write `repeat 4 { do a; }`"),

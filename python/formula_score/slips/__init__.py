@@ -13,7 +13,8 @@ from .checking import says_a_change, stands
 from .cures import Computed, Known
 from .forms import FORMS, GRAMMAR
 from .places import AT
-from .ranges import known_name, no_ticks, out_of_range, unknown_name
+from .programs import of_programs
+from .ranges import known_name, nearest, no_ticks, out_of_range, unknown_name
 from .smallest import meant, rearranged, smallest
 from .spot import Spot
 from .stray import lines_begun, or_away, outside, quoted_away
@@ -21,6 +22,7 @@ from .statement import at_statement
 from .sureness import conditional
 from .trying import Change, mends
 from .telling import failing
+from .typed import mistyped
 from .tokens import END, INDEX, NAME, NUMBER, PITCH, REGISTER, kind_of
 from .wording import in_range, without_rhythm, worded
 
@@ -45,14 +47,15 @@ def told(data: bytes, line: int, column: int, number: int) -> Optional[Told]:
         return None
     if number in _BY_NUMBER:
         found = _BY_NUMBER[number](spot)
-        return Told(found[0], worded(spot, found[1]), place) if found else None
+        return Told(found[0], _ranged(spot, worded(spot, found[1])), place) if found else None
     if number == 1:
-        cure = _tried(spot, lines_begun, quoted_away, _word_in_parts, at_byte)
+        cure = _tried(spot, lines_begun, mistyped, of_programs, quoted_away, _word_in_parts, at_byte)
         return Told(_heading_of_byte(spot), cure or _stated(spot, at_byte) or _ANY_BYTE, place)
     if number == 2:
-        return Told(_heading_of_number(spot), _tried(spot, lines_begun, at_number), place)
+        return Told(_heading_of_number(spot), _tried(spot, lines_begun, of_programs, at_number), place)
     rule = at_statement if spot.where == "statement" else AT[spot.where]
-    cure = _tried(spot, lines_begun, quoted_away, _commented, _doubled, _word_in_parts, called, rule, _unopened)
+    cure = _tried(spot, lines_begun, mistyped, of_programs, quoted_away, _commented, _doubled, _word_in_parts, called,
+                  rule, _unopened)
     return Told(_heading(spot), cure or _stated(spot, rule), spot.last.end if spot.is_over_line else place)
 
 
@@ -60,6 +63,12 @@ def _tried(spot: Spot, *rules: Rule) -> str:
     """The cure by these rules with its condition; '' where something that it tells to be written does not pass."""
     cure = in_range(spot, conditional(spot, _checked(spot, *rules)))
     return cure if not failing(spot, cure) else ""
+
+
+def _ranged(spot: Spot, cure: str) -> str:
+    """What is told of a number or a name, with the number that may be meant of one out of its range, if it passes."""
+    more = "".join(f"; {each}" for each in nearest(spot) if not failing(spot, each))
+    return cure + more
 
 
 def _checked(spot: Spot, *rules: Rule) -> str:

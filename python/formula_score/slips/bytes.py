@@ -306,9 +306,10 @@ def _mark(spot: Spot, first: str) -> Optional[str]:
             return (f"music with a name is a `phrase`: write `phrase {named[1]} {{ .. }}`, and play it by `do "
                     f"{named[1]};`")
         if spot.where == "statement":
-            silence = "skip;" if spot.is_inside("rhythm") else "rest 1/4;"
-            return Known(f"if `~` stands for silence, write `{silence}`, and a tie is one note with both lengths in "
-                         "one, as `note c4 5/8;`") if spot.rest[1:2] in "; \n" else None
+            silence = "write `skip;`" if spot.is_inside("rhythm") else (
+                "write a `rest` with its length, as in `rest 1/8;`")
+            return Known(f"if `~` stands for silence, {silence}; if for a tie, that is one note with both lengths in "
+                         "one, as in `note c4 5/8;`") if spot.rest[1:2] in "; \n" else None
         return by_mark("~", "tie")
     quoted = re.match(r"([\"'“„‘«”])([A-Za-z0-9/ ]*)([\"'”“’»])", spot.text)
     end = spot.place + len(quoted[0].encode()) if quoted else 0

@@ -134,7 +134,8 @@ def _end_of_sound(spot: Spot) -> Optional[str]:
                 single = cure.replace(": write", ": if one note is meant, write")
                 if not cure or not times or head != "note":
                     return cure
-                return Computed(f"{single}; if {times[1]} of them, write `repeat {times[1]} {{ {statement_text(spot)} }}`")
+                return Computed(f"{single}; if {times[1]} of them, write `repeat {times[1]} "
+                                f"{{ {statement_text(spot)} }}`")
     if here.kind in (*_ROUND, "warp") and not spot.is_over_line and _block_round(spot):
         return _block_round(spot)
     if spot.is_over_line:

@@ -125,7 +125,8 @@ def _behind_pitch(spot: Spot) -> Optional[str]:
         end = spot.place + len((meant.wrote if meant else here.text).encode())
         text = all_commas(spot)
         if text:
-            return Computed(f"commas stand between the pitches of a chord: if a chord is meant, write `{text}`{apart(text)}")
+            return Computed("commas stand between the pitches of a chord: if a chord is meant, write "
+                            f"`{text}`{apart(text)}")
         return spot.write("commas stand between the pitches of a chord", spot.last.end, end,
                           f", {meant.write if meant and meant.write else here.text}")
     if here.text in ("♯", "♭", "♮") or here.kind == OTHER and spot.text[:1] in "♯♭♮":

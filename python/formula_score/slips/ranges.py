@@ -52,6 +52,24 @@ def out_of_range(spot: Spot) -> Optional[tuple[str, str]]:
             f"a number from {_digits(found.low)} to {_digits(found.high)} stands there: {what}")
 
 
+def nearest(spot: Spot) -> list[str]:
+    """Which numbers may be meant by one out of its range, each with its condition."""
+    sign = "-" if spot.here.text == "-" else ""
+    number = spot.next() if sign else spot.here
+    found = range_at(spot.where, spot.head)
+    if number.kind != NUMBER or found is None or spot.where in ("length", "version", "value", "operator"):
+        return []
+    value = int(sign + number.text)
+    if found.low <= value <= found.high:
+        return []
+    told = [f"if the {'greatest' if value > found.high else 'least'} is meant, write "
+            f"`{found.high if value > found.high else found.low}`"]
+    less = value // 10
+    if value % 10 == 0 and max(found.low, 1) <= less <= found.high:
+        told.append(f"if a zero is too many, write `{less}`")
+    return told
+
+
 def _digits(number: int) -> str:
     return f"{number:,}" if abs(number) >= 10_000 else str(number)
 

@@ -18,7 +18,7 @@ _SYMBOLS = re.compile(r"`?([;,{}()\[\]=/]|formula|by|to|max|branch)`?")
 #: Marks and words that say nothing by themselves.
 _EMPTY = (",", ";", "=", ")", "]", "then", "of", "the", "a", "an")
 #: Marks that may be typed for a mark.
-_TYPED_FOR = {";": ":,.", ",": ".;:", "/": "\\|", "{": "([<", "}": ")]>", "[": "({<", "]": ")}>;", "(": "[{<",
+_TYPED_FOR = {";": ":,.", ",": ".;:<", "/": "\\|", "{": "([<", "}": ")]>", "[": "({<", "]": ")}>;", "(": "[{<",
               ")": "]}>", "=": ":-"}
 _CLOSES = {"(": ")", "[": "]", "{": "}"}
 
@@ -165,6 +165,9 @@ def _spelled(spot: Spot) -> Iterator[Edit]:
             continue
         yield Edit("near", (Change(here.start, here.end, word),), f"did you mean `{word}`?")
     if here.kind == NAME:
+        digits = here.text[:1] + here.text[1:].translate(str.maketrans("oil", "011"))
+        if kind_of(digits) in (PITCH, REGISTER, INDEX):
+            yield Edit("near", (Change(here.start, here.end, digits),), f"did you mean `{digits}`?")
         for pitch in dict.fromkeys(_pitches_near(here.text)):
             yield Edit("near", (Change(here.start, here.end, pitch),), f"did you mean `{pitch}`?")
 

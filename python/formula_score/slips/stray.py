@@ -102,5 +102,9 @@ def quoted_away(spot: Spot) -> Optional[str]:
     found = _QUOTED.match(spot.text)
     if found is None or not found[2].strip() or not _is_read_on(spot, found[0]):
         return None
+    inner = found[2].strip()
+    if inner.endswith((";", "}")) and mends(spot, (Change(spot.place, spot.place + len(found[0].encode()), inner),)):
+        return Computed(f"text is not in the file: if `{inner}` is a statement, write `{inner}` in place of "
+                        f"`{found[0]}`; if it is a remark, put it behind a `#` at the end of the line")
     return Computed("text is not in the file: if this is a remark, put it behind a `#` at the end of the line, or take "
                     f"`{found[0]}` away")

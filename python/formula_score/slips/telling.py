@@ -87,7 +87,10 @@ def _chosen(spot: Spot, clause: str) -> Iterator[Changes]:
 def stands_alone(spot: Spot, code: str) -> bool:
     """Whether a whole statement, the head of a block, or a value is accepted by itself behind the head of this text."""
     text = code if code.endswith((";", "}")) else f"set r0 = {code};"
-    text = f"if 1 {{ }} {text}" if text.startswith("else ") else f"par {{ {text} }}" if text.startswith("branch ") else text
+    if text.startswith("else "):
+        text = f"if 1 {{ }} {text}"
+    if text.startswith("branch "):
+        text = f"par {{ {text} }}"
     for pattern, filled in _FILLED:
         text = re.sub(pattern, filled, text)
     read, wrong, _ = lexed(text.replace("..", ""))
