@@ -115,7 +115,7 @@ SLIPS = (
          "silence is a statement of its own: if `rest` is meant, write `rest 1/4;`"),
     Slip("note r4;", "rest 1/4;", "1:6", 3,
          "here a pitch is expected, and there is `r4`",
-         "silence is a statement of its own: if that is meant, write `rest 1/4;`"),
+         "silence is a statement of its own: if `rest 1/4` is meant, write `rest 1/4;`"),
     Slip("r4; note c4 1/4;", "rest 1/4; note c4 1/4;", "1:1", 3,
          "`r4` begins no statement",
          "if a rest is meant, write `rest 1/4;`"),
@@ -444,7 +444,8 @@ SLIPS = (
          "tempo_90 { .. }` here: a tempo is a `warp`, by 120,000 divided by them"),
     Slip("theme = { note c4 1/4; } do theme;", "phrase theme { note c4 1/4; } do theme;", "1:1", 3,
          "`theme` begins no statement",
-         "music with a name is a `phrase`: if that is meant, write `phrase theme { .. }`, and play it by `do theme;`"),
+         "music with a name is a `phrase`: if `phrase` is meant, write `phrase theme { .. }`, and play it by `do "
+         "theme;`"),
     Slip("note c4 1/4> note d4 1/4;", "note c4 3/8; note d4 1/8;", "1:12", 1,
          "`>` begins no word of the language",
          "if `>` is an accent or a crescendo, write a list, as in `loud [100, 64] { .. }`; if a dotted rhythm, its "
@@ -478,7 +479,7 @@ SLIPS = (
          "if `note_on` is meant as `note`, it has its length, as in `note key 60 1/4;`"),
     Slip("pitchbend 2000;", "bend 2000;", "1:1", 3,
          "`pitchbend` begins no statement",
-         "`pitchbend` is `bend` here: if that is meant, write `bend 2000;`"),
+         "`pitchbend` is `bend` here: if `bend` is meant, write `bend 2000;`"),
     Slip("control 0x07 100;", "control 7 100;", "1:9", 2,
          "`0x07` is no number",
          "numbers are decimal: write `7` in place of `0x07`"),

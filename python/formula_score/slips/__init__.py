@@ -228,7 +228,8 @@ def _heading_of_byte(spot: Spot) -> str:
         return f"`{found[0] if found else first}` is no word of the language, by its capital letter"
     named = unicodedata.name(first, "").lower()
     if named and (first.isspace() or unicodedata.category(first) in ("Cf", "Zs", "Zl", "Zp")):
-        return f"here stands a {named}, which is no blank of the language"
+        article = "an" if named[0] in "aeiou" else "a"
+        return f"here stands {article} {named}, which is no blank of the language"
     plain = unicodedata.normalize("NFKC", first)
     if named and plain != first and plain.isascii() and plain in _SYMBOLS:
         return f"this sign looks like `{plain}`, and is another one, a {named}"

@@ -118,6 +118,8 @@ def _capital(spot: Spot) -> Optional[str]:
     if spot.where == "statement" and re.match(r"[A-Z]:", spot.rest):
         return _field(word[0], spot.rest)
     if spot.where == "formula" and not near(lower, ["formula"]) and "formula" in spot.rest:
+        if not re.match(r"[^\n]*\n\s*formula", spot.rest):
+            return AT["formula"](spot)
         return "the head stands first, and other text behind `#`: write `#` before it"
     if spot.where == "formula" and re.match(rf"[{_FIELDS}]:", spot.rest):
         return BEFORE_HEAD if _HEAD.search(spot.rest) else HEAD

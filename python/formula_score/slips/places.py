@@ -44,6 +44,10 @@ def at_head(spot: Spot) -> Optional[str]:
     here = spot.here
     later = re.search(r"(?:^|[\s;])formula\s*([12])\s*;", spot.rest)
     if spot.where == "formula" and later and not near(here.text, ["formula"]):
+        lines = spot.rest[:later.start() + 1].strip().count("\n") + 1
+        is_apart = "\n" in spot.rest[:later.start() + 1]
+        if (lines > 1 or not is_apart) and not is_statement(here) and here.text != "division":
+            return before_head(spot)
         if re.match(r"//|/\*|--|%|[\"'“„«]|[A-Za-z ]+:", spot.text):
             return "a comment begins with `#`, and other text stands in one: write `#` before it"
         if here.text == "division":

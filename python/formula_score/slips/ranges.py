@@ -65,7 +65,7 @@ def nearest(spot: Spot) -> list[str]:
     told = [f"if the {'greatest' if value > found.high else 'least'} is meant, write "
             f"`{found.high if value > found.high else found.low}`"]
     less = value // 10
-    if value % 10 == 0 and max(found.low, 1) <= less <= found.high:
+    if value % 10 == 0 and max(found.low, 1) <= less < found.high:
         told.append(f"if a zero is too many, write `{less}`")
     return told
 

@@ -9,7 +9,7 @@ from ..index import musical
 from .cures import Computed, Known
 from .spot import Spot
 from .tokens import END, NUMBER
-from .trying import Change, mends, reads_past
+from .trying import Change, changed, mends, reads_past
 
 #: What marks may stand for, by the lines of the index.
 _MEANT = {">": "accent", "^": "accent", "!": "accent", "-": "tenuto", "_": "tenuto", ".": "staccato", "~": "tie",
@@ -92,6 +92,8 @@ def lines_begun(spot: Spot) -> Optional[str]:
     is_alone = len(marks) == 1
     changes = tuple(Change(begun + each.start(), begun + each.end(), "") for each in marks)
     if is_alone and spot.where == "statement" or not reads_past(spot, changes[:MARKS]):
+        return None
+    if spot.where == "formula" and not re.match(r"\s*formula", changed(spot, changes[:1], spot.place, len(spot.source))):
         return None
     what = "such a number" if mark.isdigit() else f"`{mark}`" if like == re.escape(mark) else "such a mark"
     return Known(f"if nothing is meant by `{mark}`, take it away" + ("" if is_alone else f", and {what} at each line"))

@@ -67,7 +67,7 @@ def conditional(spot: Spot, cure: str) -> str:
     least = min(found, key=lambda each: each.size, default=None)
     if least is None or all(_is_implied(spot, each) for each in least.parts):
         return cure
-    return type(cure)(f"{cure[:says.start()]}{_condition(spot, least, cure)}, {cure[says.start():]}")
+    return type(cure)(f"{cure[:says.start()]}{_condition(spot, least)}, {cure[says.start():]}")
 
 
 def _difference(spot: Spot, way: Changes) -> Difference:
@@ -139,9 +139,8 @@ def _is_same_pitch(old: str, new: Sequence[str]) -> bool:
             and old.lower()[:2] not in SYLLABLES)
 
 
-def _condition(spot: Spot, difference: Difference, cure: str) -> str:
+def _condition(spot: Spot, difference: Difference) -> str:
     """What has to be meant for a change: what it adds, or that nothing was meant by what it takes away."""
-    codes = [each.strip(" ;{}.") for each in _CODE.findall(cure)]
     taken, added = (each if "`" not in each and len(each) <= _SHOWN else "" for each in difference[1:])
     news = [each for part in difference.parts for each in part.new]
     olds = [each for part in difference.parts for each in part.old]
@@ -149,7 +148,7 @@ def _condition(spot: Spot, difference: Difference, cure: str) -> str:
     if all(each == "," or each in _BRACKETS for each in marks) and spot.head in ("note", "play"):
         return "if a chord is meant"
     if any(each.isalnum() for each in news):
-        return f"if `{added}` is meant" if added and ";" not in added and added not in codes else "if that is meant"
+        return f"if `{added}` is meant" if added and ";" not in added else "if that is meant"
     if taken and (not news or re.search(r"\w", taken)):
         return f"if nothing{' else' if news else ''} is meant by `{taken}`"
     return "if that is meant" if news else "if nothing is meant by it"

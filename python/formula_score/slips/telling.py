@@ -3,6 +3,7 @@
 from __future__ import annotations
 
 import re
+from itertools import islice
 from typing import Iterator
 
 from .following import followed, in_place_of
@@ -10,7 +11,8 @@ from .judging import Judge, lexed
 from .ranges import whole_note
 from .reading import There
 from .spot import Spot
-from .trying import Change, Changes, mends, reads_past
+from .tokens import tokens
+from .trying import Change, Changes, changed, mends, reads_past
 
 _CODE = re.compile(r"`` ` ``|`[^`]*`")
 _EXAMPLE = re.compile(r",? ?\bas(?: in)? `[^`]*`(?:,? or(?: as)? `[^`]*`)?(?: \([^()]*\))?")
@@ -45,6 +47,8 @@ def failing(spot: Spot, cure: str) -> list[str]:
 
 def _passes(spot: Spot, clause: str) -> bool:
     ways = [*followed(spot, clause), *_as_comments(spot, clause), *_moved(spot, clause), *_chosen(spot, clause)]
+    if spot.where in ("formula", "version"):
+        return any(_has_head(spot, each) for each in ways)
     if any(mends(spot, each) or reads_past(spot, each) for each in ways):
         return True
     codes = [each.strip("`") for each in _CODE.findall(re.sub(r" before `[^`]*`", "", clause))]
@@ -52,11 +56,21 @@ def _passes(spot: Spot, clause: str) -> bool:
         all(stands_alone(spot, each) for each in codes) or stands_alone(spot, " ".join(codes)))
 
 
+def _has_head(spot: Spot, way: Changes) -> bool:
+    """Whether the changed text begins with its head, and no comment has taken it away."""
+    first = [each.text for each in islice(tokens(changed(spot, way, 0, len(spot.source))), 3)]
+    return first in (["formula", "1", ";"], ["formula", "2", ";"])
+
+
 def _as_comments(spot: Spot, clause: str) -> Iterator[Changes]:
     """The text with a `#` before what stands at the place, or before each line of it."""
     if re.match(r"write `#` before it|write `#` in place of|write `#`\Z", clause):
         end = in_place_of(clause)
         yield (Change(spot.place, spot.place + len(end.encode()), "# "),)
+    head = re.search(r"(?m)^\s*formula", spot.source[spot.place:])
+    if clause.startswith("write `#` before each") and head:
+        lines = re.finditer(r"(?m)^(?=.)", spot.source[spot.place:spot.place + head.start()])
+        yield tuple(Change(spot.place + each.start(), spot.place + each.start(), "# ") for each in lines)
     quoted = re.match(r"take `([^`]*)`(?: and `([^`]*)`)? away, and write `#` before each line", clause)
     begin, end = (quoted[1], quoted[2] or quoted[1]) if quoted else ("", "")
     close = spot.source.find(end, spot.place + len(begin)) if begin else -1
@@ -69,8 +83,8 @@ def _moved(spot: Spot, clause: str) -> Iterator[Changes]:
     """The text with the `}` before a `branch` behind the last branch."""
     if not clause.startswith("take the `}` before this `branch`") or spot.last.text != "}":
         return
-    depth, tokens = 0, list(spot.after)
-    for each, behind in zip(tokens, tokens[1:]):
+    depth, after = 0, spot.after
+    for each, behind in zip(after, after[1:]):
         depth += (each.text == "{") - (each.text == "}")
         if each.text == "}" and depth == 0 and behind.text != "branch":
             yield Change(spot.last.start, spot.last.end, " "), Change(each.end, each.end, " }")
