@@ -81,8 +81,8 @@ def _ordinal(number: int) -> str:
 
 def _track(spot: Spot) -> Optional[str]:
     found = re.match(r"([a-z]+) ([0-9]|1[0-5])\s*\{", spot.rest)
-    return Known(f"if {found[2]} is its channel, write `channel {found[2]} {{ .. }}`; voices side by side are "
-                 "branches, as in `par { branch { note c5 1/1; } branch { channel 1 { note c4 1/1; } } }`") if (
+    return Known(f"if {found[2]} is its channel, counted from 0, write `channel {found[2]} {{ .. }}`; voices side "
+                 "by side are branches, as in `par { branch { note c5 1/1; } branch { channel 1 { note c4 1/1; } } }`") if (
         found and found[1] in _TRACKS) else None
 
 
@@ -186,7 +186,7 @@ def _backwards(spot: Spot) -> Optional[str]:
 def _pitch_only(spot: Spot) -> Optional[str]:
     """The word of another program between `note` and its pitch."""
     word = spot.here.text
-    if spot.head not in ("note", "play") or spot.where != "pitch" or word not in ("on", "is", "play", "the", "a"):
+    if spot.head not in ("note", "play") or spot.where != "pitch" or word not in ("on", "is", "play", "the"):
         return None
     behind = spot.source[spot.here.end:].lstrip()
     return Computed(f"a pitch stands directly behind `{spot.head}`: if nothing else is meant by `{word}`, take "

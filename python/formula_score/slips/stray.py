@@ -93,10 +93,11 @@ def lines_begun(spot: Spot) -> Optional[str]:
     changes = tuple(Change(begun + each.start(), begun + each.end(), "") for each in marks)
     if is_alone and spot.where == "statement" or not reads_past(spot, changes[:MARKS]):
         return None
-    if spot.where == "formula" and not re.match(r"\s*formula", changed(spot, changes[:1], spot.place, len(spot.source))):
+    left = changed(spot, changes[:1], spot.place, len(spot.source))
+    if spot.where == "formula" and not re.match(r"\s*formula", left):
         return None
-    what = "such a number" if mark.isdigit() else f"`{mark}`" if like == re.escape(mark) else "such a mark"
-    return Known(f"if nothing is meant by `{mark}`, take it away" + ("" if is_alone else f", and {what} at each line"))
+    other = "the numbers of the other lines" if like != re.escape(mark) else "at the other lines that begin so"
+    return Known(f"if nothing is meant by `{mark}`, take it away" + ("" if is_alone else f", also {other}"))
 
 
 def quoted_away(spot: Spot) -> Optional[str]:

@@ -110,7 +110,8 @@ def stands_alone(spot: Spot, code: str) -> bool:
     read, wrong, _ = lexed(text.replace("..", ""))
     names = {name: "phrase" if name in spot.phrases else "shape" for name in spot.names}
     for name in re.findall(r"\b(?:phrase|shape) ([a-z][a-z0-9_]*)", text):
-        names.pop(name, None)
+        if name not in spot.reading.named:
+            names.pop(name, None)
     judge = Judge(read, whole_note(spot), names)
     try:
         judge.go_on(())

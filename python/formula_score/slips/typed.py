@@ -59,8 +59,8 @@ def _thousands(spot: Spot) -> Optional[str]:
 def _dots(spot: Spot) -> Optional[str]:
     found = re.match(r"\.{2,4}|…", spot.text)
     is_list = spot.where in ("entry", "entries", "pitch", "part") or spot.where == "length" and spot.last.text == ","
-    return Known(f"the dots stand for what is left out, and a score has all of it: write each entry in place of the "
-                 f"`{found[0]}`") if found and is_list else None
+    return Known(f"a score has nothing left out: if the dots stand for more, write each entry in place of the "
+                 f"`{found[0]}`") if found and is_list and spot.last.text not in ("note", "play") else None
 
 
 def _letter_for_sign(spot: Spot) -> Optional[str]:

@@ -31,9 +31,12 @@ def worded(spot: Spot, cure: str) -> str:
 
 
 def in_range(spot: Spot, cure: str) -> str:
-    """A cure whose tempo shapes are as long as the division of the text allows."""
+    """A cure whose tempo shapes are as long as the division of the text allows, and have a name that is free."""
     is_long = 500 * whole_note(spot) > MILLION and "500/1" not in _line(spot)
-    return type(cure)(cure.replace("flat 500/1", "flat 250/1")) if is_long and "flat 500/1" in cure else cure
+    told = cure.replace("flat 500/1", "flat 250/1") if is_long else cure
+    for name in re.findall(r"write `shape ((?:tempo|fast|slow)[a-z]*_[0-9]+) =", told):
+        told = re.sub(rf"\b{name}\b", f"{name}_2", told) if name in spot.names else told
+    return type(cure)(told) if told != cure else cure
 
 
 def _line(spot: Spot) -> str:
