@@ -28,7 +28,7 @@ from .program import PROGRAM, run
 FOLDER = pathlib.Path(__file__).parent / "fresh"
 NAMES = ("first", "second", "third", "fourth", "fifth", "sixth", "seventh", "eighth", "ninth", "tenth", "eleventh",
          "twelfth", "thirteenth", "fourteenth", "fifteenth", "sixteenth", "seventeenth", "eighteenth", "nineteenth",
-         "twentieth")
+         "twentieth", "twenty-first", "twenty-second")
 #: Those of them that have what was meant as scores.
 MEANT = NAMES[5:13]
 

@@ -264,6 +264,10 @@ def _end_of_do(spot: Spot) -> Optional[str]:
     if here.text == "(":
         if spot.next().text == ")":
             return f"a phrase has no arguments: write `do {name};`"
+        number = spot.next().text
+        if number.isdigit() and int(number) > 1:
+            return (f"a phrase has no arguments: if it comes {number} times, write `repeat {number} {{ do {name}; }}`; if it "
+                    f"takes the number from a register, write `set r0 = {number}; do {name};`")
         return f"a phrase has no arguments, and a register hands a value over: write `set r0 = ..; do {name};`"
     if here.text in (",", "+", "and") or here.kind == NAME and here.text in spot.phrases:
         other = here.text if here.text in spot.phrases else spot.next().text

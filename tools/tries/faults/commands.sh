@@ -68,7 +68,7 @@ each statement ends with \`;\`: write \`note c4 1/4;\`" "$scratch/slips" "$out"
     explains "a byte above 127" 3 "$(fault '1:20 fault 1')" "$scratch/slips:1:20: \`é\` begins no word of the language (fault 1)
 1 | formula 1;${tab}note c4 é
   |           ${tab}        ^
-words have the letters a to z alone: write others for the \`é\`, or put what is no music behind \`#\`" "$scratch/slips" "$out"
+words have the letters a to z alone, and \`é\` is none of them; what is no music stands behind \`#\`" "$scratch/slips" "$out"
     input=$refused explains "a text from a pipe" 3 "$(fault '1:20 fault 8')" "/dev/stdin:1:20: \`1/7\` is 274.29 ticks, and no whole\
  number of them (fault 8)
 1 | formula 1; note c4 1/7;
