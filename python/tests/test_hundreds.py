@@ -44,7 +44,7 @@ def leads_to(text, scores):
             return None
         texts = [changed(spot, each, 0, len(spot.source)).encode("latin-1").decode()
                  for each in ways if mends(spot, each)]
-        if any(words(one) == words(other) for one in texts for other in scores):
+        if any(words(text) == words(score) for text in texts for score in scores):
             return True
         if not texts:
             return None

@@ -41,9 +41,9 @@ def _followed(spot: Spot, cure: str) -> Iterator[Changes]:
     placed = _PLACED.search(cure)
     if placed:
         closes = re.search(r"and take its `\}` away", cure)
-        close = _close_of_block(spot) if closes else None
+        brace = _close_of_block(spot) if closes else None
         for way in _at_each(spot, placed[2], placed[1]):
-            yield (*way, Change(close, close + 1, " ")) if close is not None else way
+            yield (*way, Change(brace, brace + 1, " ")) if brace is not None else way
         return
     closing = _CLOSING.search(cure)
     if closing:
@@ -62,8 +62,8 @@ def _followed(spot: Spot, cure: str) -> Iterator[Changes]:
     if away:
         yield from _taken_away(spot, away[1] or here.text or spot.last.text, away[2] or "")
         return
-    for one, other in _WRITE.findall(cure):
-        yield from _written(spot, one or other)
+    for statement, example in _WRITE.findall(cure):
+        yield from _written(spot, statement or example)
 
 
 def in_place_of(cure: str) -> str:

@@ -58,7 +58,7 @@ def _plays_itself(spot: Spot) -> str:
     """The `do` of a phrase in its own block, which ends before it then; '' for none."""
     word, _, name = spot.reading.blocks[0].word.partition(" ")
     begun = spot.reading.blocks[0].token.start
-    for one, other in zip(spot.before, spot.before[1:]):
-        if word == "phrase" and one.start > begun and one.text == "do" and other.text == name:
+    for token, following in zip(spot.before, spot.before[1:]):
+        if word == "phrase" and token.start > begun and token.text == "do" and following.text == name:
             return f"do {name}"
     return ""
