@@ -19,6 +19,8 @@ from .test_typing import words
 
 #: How many faults of one slip are followed, and how many cures that are asserted may lead elsewhere.
 FAULTS, ELSEWHERE = 8, 4
+#: A slip with an expression of too many tokens, which the judge does not count.
+NOT_COUNTED = ("twenty-second 98",)
 
 
 def spot_of(text, place):
@@ -130,8 +132,7 @@ class Hundreds(unittest.TestCase):
                 self.assertEqual(status, 3, f"{name} {slip.number}")
                 place = place_of(said)
                 judged = place_by_judge(slip.text)
-                # the judge counts neither the tokens of an expression, nor what faults from 9 on are about
-                if place.number < 9 and (place.number, judged) != (4, None):
+                if place.number < 9 and f"{name} {slip.number}" not in NOT_COUNTED:
                     self.assertEqual(place, judged, f"{name} {slip.number}")
                 else:
                     self.assertIsNone(judged, f"{name} {slip.number}")
