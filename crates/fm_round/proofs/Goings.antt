@@ -1,5 +1,6 @@
 -- What is written and watched in a turn, from process to process.
-use Rattle.std.proofs.Common.{◌≡◌, ◌⊎◌, ℕ, ◌+◌, ◌<◌, ◌≤◌, List, length, map, Bool, true, false, Some, None, refl, sym, ap, ◌∙◌, subst, inl, inr, arith, length-append}
+use Rattle.std.proofs.Common.{◌≡◌, ◌⊎◌, ℕ, ◌+◌, ◌<◌, ◌≤◌, List, length, map, Bool, true, false, Some, None, Result, Ok, Err, refl, sym, ap, ◌∙◌, subst, inl, inr, arith, length-append}
+use Rattle.std.specs.Prelude.{IfOk, IsErr, OnOk}
 use Rattle.std.proofs.lemmas.Bool.{cases_eq}
 use Rattle.fm_edge.specs.Seen.{SinkSeen}
 use Rattle.fm_edge.specs.Runs.{Breaks}
@@ -32,6 +33,19 @@ use Rattle.fm_round.proofs.Releasing.{from_first, parts}
 use Rattle.fm_round.proofs.Running.{lane-map, loads-release}
 use Rattle.fm_round.proofs.Reaching.{Reached, reached_more}
 use Rattle.fm_round.proofs.OneDue.{from_backs, from_stays, own_due, waits_past}
+
+-- ---- what an error says
+
+pub no_ok : {T E : Type 0} (P : Type 0) (r : Result T E) → IsErr r → OnOk r P
+no_ok P (Ok x) is = absurd (cc)
+no_ok P (Err e) is = tt
+
+pub no_value : {T E : Type 0} (P : T → Type 0) (r : Result T E) → IsErr r → IfOk r P
+no_value P (Ok x) is = absurd (cc)
+no_value P (Err e) is = tt
+
+pub no_less : (n : ℕ) → n ≤ n
+no_less n = omega arith
 
 -- ---- what is written
 

@@ -4,7 +4,7 @@ use Rattle.std.proofs.lemmas.List.{length-map}
 use Rattle.fm_edge.specs.Seen.{SinkSeen}
 use Rattle.fm_program.specs.Parts.{PlanParts}
 use Rattle.fm_round.specs.Hands.{IsRound, MayRun}
-use Rattle.fm_round.specs.Lanes.{AllStarted, IsLeast, RunsAll, lane, live_clock, without_due}
+use Rattle.fm_round.specs.Lanes.{AllStarted, IsLeast, RunsAll, live_clock, without_due}
 use Rattle.fm_round.specs.Watching.{AllAwait, AreWatched, Watched}
 use Rattle.fm_round.specs.declared.lane.Lane.{Lane}
 use Rattle.fm_round.specs.declared.watch.Watch.{Watch}

@@ -1,7 +1,7 @@
 use Rattle.std.proofs.Common.{◌+◌, ◌≤◌, sym, ap, ◌∙◌, subst, arith}
 use Rattle.fm_edge.proofs.Chains.{on_err}
 use Rattle.fm_line.specs.declared.limits.TheConstants.{MAX_EVENTS}
-use Rattle.fm_round.specs.Lanes.{IsLaneOf, Runs, lane, live_clock, no_lane}
+use Rattle.fm_round.specs.Lanes.{IsLaneOf, Runs, live_clock, no_lane}
 use Rattle.fm_round.specs.Turns.{is_past}
 use Rattle.fm_round.specs.declared.lane.Lane.{Lane}
 use Rattle.fm_round.proofs.Goings.{few_between}

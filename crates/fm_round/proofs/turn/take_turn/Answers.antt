@@ -1,4 +1,4 @@
-use Rattle.std.proofs.Common.{◌≡◌, ◌+◌, ◌<◌, ◌≤◌, ℕ, length, sym, ◌∙◌, subst, arith}
+use Rattle.std.proofs.Common.{◌≡◌, ◌+◌, ◌<◌, ◌≤◌, ℕ, length, refl, sym, ◌∙◌, subst, arith}
 use Rattle.fm_edge.proofs.Chains.{on_err}
 use Rattle.fm_line.specs.declared.limits.TheConstants.{MAX_EVENTS}
 use Rattle.fm_round.specs.Chain.{link}
@@ -6,11 +6,26 @@ use Rattle.fm_round.specs.Lanes.{loads}
 use Rattle.fm_round.specs.Turns.{GoesOn}
 use Rattle.fm_round.specs.Watching.{AllAwait}
 use Rattle.fm_round.proofs.Chaining.{chained_within}
-use Rattle.fm_round.proofs.Following.{await_next}
-use Rattle.fm_round.proofs.Goings.{few_between, goes_more, goes_started, goes_stops, less_next, playing_on, reached_next, watched_served}
+use Rattle.fm_round.proofs.Following.{await_next, await_none}
+use Rattle.fm_round.proofs.Goings.{await_served, few_between, goes_more, goes_none, goes_started, goes_stops, less_next, no_less, no_ok, no_value, playing_on, reached_next, watched_served}
 use Rattle.fm_round.proofs.Running.{any_default}
-use Rattle.fm_round.proofs.Reaching.{Reached, less_same}
+use Rattle.fm_round.proofs.Reaching.{Reached, less_same, reached_none}
 use Rattle.fm_round.proofs.turn.take_turn.Goals as goal
+
+pub loop-at-init : goal.loop-at-init
+loop-at-init g c = record {
+  size = refl;
+  lead = refl;
+  watched = c.requires.watched;
+  there = λ _. c.requires.watched.watch.chain.first;
+  awaited = c.requires.awaited;
+  less = no_less (loads c.args.plan.now 0 c.args.lanes.now);
+  goes = goes_none c.args.sink.now c.args.writer.now c.args.lanes.now c.args.stage.now.gather;
+  reached = λ _. reached_none c.args.plan.now c.args.tick c.args.lanes.now c.requires.from;
+}
+
+pub serve-requires-clause-there : goal.serve-requires-clause-there
+serve-requires-clause-there g c = c.loop-at-test.true
 
 pub serve-requires-clause-may : goal.serve-requires-clause-may
 serve-requires-clause-may g c = playing_on c.loop-at.events c.requires.may c.loop-at.invariant.goes
@@ -21,6 +36,15 @@ serve-requires-clause-from g c = λ is. (c.loop-at.invariant.reached is).from
 pub returns-in_err-count-clause-err : goal.returns-in_err-count-clause-err
 returns-in_err-count-clause-err g c =
     on_err c.from_residual.result (goes_stops c.loop-at.events c.loop-at.invariant.goes c.in_err-count.ensures.err)
+
+pub returns-in_err-count-clause-turned : goal.returns-in_err-count-clause-turned
+returns-in_err-count-clause-turned g c = no_ok _ c.from_residual.result c.from_residual.ensures.0
+
+pub returns-in_err-count-clause-lead : goal.returns-in_err-count-clause-lead
+returns-in_err-count-clause-lead g c = no_ok _ c.from_residual.result c.from_residual.ensures.0
+
+pub returns-in_err-count-clause-goes : goal.returns-in_err-count-clause-goes
+returns-in_err-count-clause-goes g c = no_value _ c.from_residual.result c.from_residual.ensures.0
 
 pub overflow_add-events : goal.overflow_add-events
 overflow_add-events g c =
@@ -47,6 +71,18 @@ visit-requires-clause-watched g c = record {
       (c.loop-at.invariant.size ∙ c.requires.watched.processes.count) c.in_ok-count.ensures.serves
       (c.loop-at.invariant.there c.loop-at-test.true);
 }
+
+pub visit-requires-clause-before : goal.visit-requires-clause-before
+visit-requires-clause-before g c = subst (λ (n : ℕ). c.loop-at.at < n) (sym c.serve.auto.lanes) c.loop-at-test.true
+
+pub visit-requires-clause-chained : goal.visit-requires-clause-chained
+visit-requires-clause-chained g c = c.loop-at.invariant.there c.loop-at-test.true
+
+pub visit-requires-clause-awaited : goal.visit-requires-clause-awaited
+visit-requires-clause-awaited g c =
+    await_served c.args.plan.now c.requires.may.fits c.loop-at.stage.watch c.args.tick c.loop-at.at c.in_ok-count.all c.loop-at.lanes
+    c.serve.new.lanes c.loop-at.invariant.watched.watch (c.loop-at.invariant.size ∙ c.requires.watched.processes.count)
+    c.in_ok-count.ensures.serves (c.loop-at.invariant.there c.loop-at-test.true) c.loop-at.invariant.awaited
 
 pub loop-at-smaller : goal.loop-at-smaller
 loop-at-smaller g c =
@@ -95,3 +131,41 @@ loop-at-preserved g c =
           c.visit.new.lanes c.in_ok-count.ensures.serves c.visit.ensures.starts c.requires.may.fits between c.visit.new.watch
           c.visit.ensures.watched.watch on awaits (c.loop-at.invariant.reached (c.in_ok-count.ensures.whole all)) all);
     }
+
+pub leave-requires : goal.leave-requires
+leave-requires g c = record {
+  chain = c.loop-at.invariant.watched.watch.chain;
+  size = c.loop-at.invariant.watched.watch.size ∙ sym c.loop-at.invariant.watched.processes.count;
+  idle = c.loop-at.invariant.watched.watch.idle;
+}
+
+pub returns-clause-turned : goal.returns-clause-turned
+returns-clause-turned g c =
+    let watch = c.loop-at.invariant.watched.watch in
+    let count = c.loop-at.invariant.watched.processes.count in record {
+      watched = record {
+        processes = c.loop-at.invariant.watched.processes;
+        watch = record {
+          chain = c.leave.ensures.chain;
+          size = c.leave.ensures.size ∙ count;
+          guesses = watch.guesses;
+          lists = watch.lists;
+          later = watch.later;
+          idle = c.leave.ensures.idle;
+          known = watch.known;
+        };
+      };
+      started = await_none c.args.plan.now c.loop-at.stage.watch c.loop-at.at c.loop-at.lanes c.loop-at.invariant.awaited watch.chain
+          (watch.size ∙ sym count) c.loop-at-test.false;
+      size = c.loop-at.invariant.size;
+      less = c.loop-at.invariant.less;
+    }
+
+pub returns-clause-lead : goal.returns-clause-lead
+returns-clause-lead g c = c.loop-at.invariant.lead
+
+pub returns-clause-goes : goal.returns-clause-goes
+returns-clause-goes g c = c.loop-at.invariant.goes
+
+pub returns-clause-err : goal.returns-clause-err
+returns-clause-err g c = tt
