@@ -5,7 +5,7 @@ use crate::number::Number;
 
 /// A part of a time deformation: `flat` and `slope` have a length and stretches in thousandths, a
 /// pause delays all that follows, a breath all but the note-offs at its place.
-#[derive(Clone, Copy, Debug, PartialEq, Eq)]
+#[derive(Clone, Copy)]
 pub enum PartText {
     Flat {
         length: Length,

@@ -4,7 +4,7 @@ use crate::keyword::Keyword;
 
 /// What a token is. A number is below 10^9; a pitch is a MIDI key, which may be 128 for `gs9`; a
 /// register is 0 to 7; an index is 0 to 15; a symbol is its byte.
-#[derive(Clone, Copy, Debug, PartialEq, Eq)]
+#[derive(Clone, Copy, PartialEq, Eq)]
 pub enum Kind {
     Name,
     Number(u32),

@@ -6,7 +6,7 @@ use thiserror::Error;
 
 /// A token: its bytes in the source and the spot of the first one. The end of the text has no
 /// bytes, and the spot after the last byte.
-#[derive(Clone, Copy, Debug)]
+#[derive(Clone, Copy)]
 pub struct Token<'s> {
     pub kind: Kind,
     pub text: &'s [u8],
