@@ -15,7 +15,7 @@ use crate::track::{Track, judge_track};
 use std::marker::Model;
 
 /// A chunk of a file.
-#[derive(Clone, Copy, Debug)]
+#[derive(Clone, Copy)]
 pub struct Chunk<'a> {
     /// Its kind in four bytes, and its length in four.
     pub head: &'a [u8],

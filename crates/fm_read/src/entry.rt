@@ -8,7 +8,7 @@ use crate::fault::{CUT, ReadKind, Stop};
 use crate::quantity::quantity_of;
 
 /// A delta time and an event, as they lie in the file.
-#[derive(Clone, Copy, Debug)]
+#[derive(Clone, Copy)]
 pub struct Entry<'a> {
     /// The ticks since the entry before, below 2^28.
     pub delta: u32,

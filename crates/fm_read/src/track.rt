@@ -52,7 +52,7 @@ pub fn judge_track(body: &[u8]) -> Result<(), Stop>
 }
 
 /// The entries of a track that are still to come, in order. End of Track is the last of them.
-#[derive(Clone, Drop)]
+#[derive(Drop)]
 pub struct Track<'a> {
     rest: &'a [u8],
     running: Option<u8>,
