@@ -1,7 +1,7 @@
 //! The steps of the core.
 
 /// One atomic step of a seat.
-#[derive(Clone, Copy, Debug, PartialEq, Eq, Drop)]
+#[derive(Clone, Copy, Drop)]
 pub enum Step {
     /// The seat sees a process: 0, the next one of its sweep, or the last one in it.
     Look {

@@ -12,7 +12,7 @@ use fm_lex::MAX_TEXT;
 use thiserror::Error;
 
 /// The parts of a record.
-#[derive(Clone, Copy, Debug)]
+#[derive(Clone, Copy)]
 pub struct Reel<'a> {
     /// How many seats took the steps, 1 to 17: the conductor's and one for each worker.
     pub seats: u32,

@@ -115,9 +115,25 @@ fn a_tape_is_a_record(rt: HostRuntime) -> Result<(), Fail> {
 
 #[test]
 fn a_step_is_read_from_the_front(rt: HostRuntime) {
-    assert_eq!(rt; read_step(&STEPS[20..]), Some((GIVE, 14)));
-    assert_eq!(rt; read_step(&STEPS[34..]), Some((Step::Publish, 1)));
-    assert_eq!(rt; read_step(&STEPS[37..41]), None);
+    let given = read_step(&STEPS[20..]);
+    assert!(rt;
+        matches!(
+            given,
+            Some((
+                Step::Give {
+                    seat: 16,
+                    process: 16_383,
+                    taken: 64,
+                    computed: 300,
+                    clock: 1_099_511_627_776,
+                    ended: true,
+                },
+                14,
+            ))
+        )
+    );
+    assert!(rt; matches!(read_step(&STEPS[34..]), Some((Step::Publish, 1))));
+    assert!(rt; read_step(&STEPS[37..41]).is_none());
 }
 
 /// Bytes, and the position of the first field that cannot stand.

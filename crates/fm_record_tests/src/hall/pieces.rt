@@ -138,7 +138,7 @@ fn goes_to_the_end<R: Abort>(rt: &R, hall: &mut Hall) {
     for _ in 0..400 {
         goes_on(rt, hall);
     }
-    assert_eq!(rt; hall.next_step(), None);
+    assert!(rt; hall.next_step().is_none());
     assert_eq!(rt; hall.floor(), Floor::Done);
 }
 
