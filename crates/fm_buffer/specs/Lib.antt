@@ -1,2 +1,3 @@
 pub mod Outbox
 pub mod Gather
+pub mod Merging
