@@ -1,5 +1,6 @@
 -- What a player tells: its clock, its place, and its next event.
-use Rattle.std.proofs.Common.{◌≡◌, refl, sym, ◌∙◌, ap, arith, ℕ, ◌-◌, ◌<◌, ◌≤◌, List, [], ◌∷◌, ◌++◌, length, map, reverse, replicate, true, false, Some, None, slice_get, append_assoc, append-nil}
+use Rattle.std.proofs.Common.{◌≡◌, refl, sym, ◌∙◌, ap, arith, ℕ, ◌-◌, ◌*◌, ◌<◌, ◌≤◌, List, [], ◌∷◌, ◌++◌, length, map, reverse, replicate, Bool, true, false, if◌then◌else◌, nat_lt, Some, None, slice_get, append_assoc, append-nil}
+use Rattle.std.proofs.lemmas.Bool.{lt-ltb, ltb-false, ltb-true}
 use Rattle.std.proofs.lemmas.List.{length-map, reverse-append}
 use Rattle.fm_warp.specs.declared.part.Part.{Part}
 use Rattle.fm_warp.specs.declared.side.Side.TheVariants.{Onset}
@@ -21,10 +22,11 @@ use Rattle.fm_line.specs.Sounds.{is_note_off}
 use Rattle.fm_player.specs.declared.player.Player.{Player}
 use Rattle.fm_player.specs.Course.{code_of, step_event, steps_of, tick_from}
 use Rattle.fm_player.specs.Timing.{level_of, levels_inside}
-use Rattle.fm_player.specs.Sounding.{StartsAt, pending_events}
+use Rattle.fm_player.specs.Sounding.{StartsAt, is_at_off, next_time, pending_events}
 use Rattle.fm_player.specs.Player.{InCourse, clock_of, is_send, next_event, place_reached, steps_left}
 use Rattle.fm_player.proofs.FrameLemmas.{false_true}
 use Rattle.fm_player.proofs.RunLemmas.{sounding_over}
+use Rattle.fm_player.proofs.SoundLemmas.{not_at_off, pending-none, starts, starts-on}
 use Rattle.fm_player.proofs.TickLemmas.{mark-plain, on_tick, position-tick}
 use Rattle.fm_player.proofs.CourseLemmas.{advances, calm-standing, over-left}
 use Rattle.fm_player.proofs.StepLemmas.{OpCan, first-due, next-step, next_of, none-due, now_of}
@@ -54,6 +56,22 @@ clock-now p s course none =
     ∙ on_tick-frames p.stock.warps (frames_of s.time.nest) [] (now_of p s).position
     ∙ ap (composed Onset p.stock.warps (frames_of s.time.nest)) (sym course.stands.time.position)
     ∙ sym course.ready.time.tick
+
+-- where no note-off is next, it is the tick of the note's note-ons or that of the position
+pub clock-within : (p : PlanParts) (s : Player) (limit : ℕ) → InCourse p s → is_at_off s.note ≡ false
+    → s.note.onset ≤ limit → s.time.tick ≤ limit → clock_of p s ≤ limit
+clock-within p s limit course free onset tick = at (nat_lt s.note.given (2 * length s.note.keys.items)) refl
+  where
+    at : (b : Bool) → nat_lt s.note.given (2 * length s.note.keys.items) ≡ b → clock_of p s ≤ limit
+    at true is =
+        let more = ltb-true _ _ is in
+        let first = starts s.process s.note (next_time s.note) more refl in
+        let same : clock_of p s ≡ s.note.onset =
+        clock-pending p s (next_time s.note) course first (starts-on s.process s.note (next_time s.note) first more free)
+        ∙ ap (λ (b : Bool). if b then s.note.onset else s.note.ending) (lt-ltb _ _ (not_at_off s.note free more)) in
+        omega arith
+    at false is =
+        let same = clock-now p s course (pending-none s.process s.note (ltb-false _ _ is)) in omega arith
 
 -- ---- the place
 

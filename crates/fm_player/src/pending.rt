@@ -107,6 +107,13 @@ impl Pending {
         }
     }
 
+    /// The tick of the note-ons.
+    pub(crate) fn onset(&self) -> u64
+        ensures { result ≡ self.now.onset }
+    {
+        self.onset
+    }
+
     /// How many note-ons are left.
     pub(crate) fn ons_left(&self) -> usize
         ensures value { result ≡ ons_left self.now }

@@ -76,6 +76,19 @@ impl Player {
         }
     }
 
+    /// Whether two of its numbers show that the clock is at most a limit. False says nothing, and
+    /// so does any answer where a note-off is next.
+    pub fn is_within(&self, limit: u64) -> bool
+        ensures { (p : PlanParts) → InCourse p self.now → is_at_off self.now.note ≡ false
+            → result ≡ true → clock_of p self.now ≤ limit }
+    {
+        if self.note.onset() <= limit {
+            self.time.tick() <= limit
+        } else {
+            false
+        }
+    }
+
     /// Where it is in its levels.
     pub fn place(&self) -> Place
         ensures { (p : PlanParts) → InCourse p self.now → result ≡ place_reached p self.now }
