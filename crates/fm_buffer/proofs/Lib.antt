@@ -1,4 +1,5 @@
 pub mod Through
 pub mod Settled
 mod Merged
+mod Paired
 mod Numerals

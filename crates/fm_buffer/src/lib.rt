@@ -9,6 +9,7 @@
 mod gather;
 mod merging;
 mod outbox;
+mod pairs;
 
 pub use gather::Gather;
 pub use outbox::{MAX_ROOM, Outbox};
