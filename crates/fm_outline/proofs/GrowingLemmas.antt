@@ -7,10 +7,7 @@ use Rattle.fm_grammar.specs.Score as text
 use Rattle.fm_grammar.specs.declared.item.Item.{Item, the_lemmas}
 use Rattle.fm_grammar.specs.View.{item_view, items_view, branches_of}
 use Rattle.fm_expansion.specs.Outline as plain
-use Rattle.fm_expansion.specs.Numbering.{Catalogue, Numbered, numbered, instruction_of, block_of, arms_of, expr_added, list_added}
-use Rattle.fm_program.specs.declared.op.Count.TheVariants as count
-use Rattle.fm_grammar.specs.declared.number.Number.{Number}
-use Rattle.fm_meaning.specs.Resolved.{Quality}
+use Rattle.fm_expansion.specs.Numbering.{Catalogue, Numbered, numbered, instruction_of, block_of, arms_of, expr_added}
 use Rattle.fm_outline.specs.declared.step.Step.{Step}
 use Rattle.fm_outline.specs.View.{Look, Placed, before, arms_before, instruction_view, step_view}
 use Rattle.fm_outline.specs.Growing.{followed}
@@ -116,27 +113,4 @@ choice_numbered k e a b x y p t t1 t2 t3 at added first second =
     (λ n. numbered
     (plain.choice n (block_of k a (expr_added e.nodes t)).value (block_of k b (block_of k a (expr_added e.nodes t)).tables).value)
     (block_of k b (block_of k a (expr_added e.nodes t)).tables).tables)
-    at
-
--- a loop with a count that is computed
-pub again_numbered : (k : Catalogue) (e : text.Postfix) (n : Number) (b : text.Body) (y : plain.Block) (p : ℕ)
-    (t t1 t2 : plain.Tables) → p ≡ length t.exprs → t1 ≡ expr_added e.nodes t → numbered y t2 ≡ block_of k b t1
-    → numbered (plain.loop (count.Drawn p n.value) y) t2 ≡ instruction_of k (text.again e n b) t
-again_numbered k e n b y p t t1 t2 at added inside =
-    ap (λ v. numbered (plain.loop (count.Drawn p n.value) v.value) v.tables) (inside ∙ ap (block_of k b) added)
-    ∙ ap
-    (λ i. numbered (plain.loop (count.Drawn i n.value) (block_of k b (expr_added e.nodes t)).value)
-    (block_of k b (expr_added e.nodes t)).tables)
-    at
-
--- statements under a list
-pub under_numbered : (k : Catalogue) (q : Quality) (list : List ℕ) (b : text.Body) (y : plain.Block) (p : ℕ)
-    (t t1 t2 : plain.Tables) → p ≡ length t.lists → t1 ≡ list_added list t → numbered y t2 ≡ block_of k b t1
-    → numbered (plain.under q p y) t2
-    ≡ numbered (plain.under q (length t.lists) (block_of k b (list_added list t)).value)
-    (block_of k b (list_added list t)).tables
-under_numbered k q list b y p t t1 t2 at added inside =
-    ap (λ v. numbered (plain.under q p v.value) v.tables) (inside ∙ ap (block_of k b) added)
-    ∙ ap
-    (λ i. numbered (plain.under q i (block_of k b (list_added list t)).value) (block_of k b (list_added list t)).tables)
     at

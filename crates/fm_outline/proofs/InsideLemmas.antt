@@ -1,17 +1,14 @@
 -- What a statement says itself, before what stands inside it.
-use Rattle.std.proofs.Common.{◌≡◌, ℕ, List, [], ◌++◌, Option, Some, None, Ok, is_some, ap, sym, ◌∙◌}
-use Rattle.std.specs.List.{list_any}
-use Rattle.std.specs.Str.{bytes_eq}
+use Rattle.std.proofs.Common.{◌≡◌, ℕ, List, [], ◌++◌, Some, None, ap, ◌∙◌}
 use Rattle.fm_grammar.specs.Score as text
 use Rattle.fm_meaning.specs.Fault.{NumberedFault}
 use Rattle.fm_meaning.specs.Faults.{first_found}
 use Rattle.fm_meaning.specs.Rules.{most_rounds, most_channel, most_data, most_gate}
-use Rattle.fm_meaning.specs.Ranges.{stmt_faults, body_faults, expr_faults, number_faults, numbers_faults, unknown_faults}
+use Rattle.fm_meaning.specs.Ranges.{stmt_faults, body_faults, expr_faults, number_faults, numbers_faults}
 use Rattle.fm_expansion.specs.Numbering.{Catalogue}
 use Rattle.fm_ranges.specs.Own.{own_faults}
-use Rattle.fm_outline.specs.Knows.{labels, names_of, number_or_told}
-use Rattle.fm_outline.proofs.RefusalLemmas.{before, behind, no_first}
-use Rattle.fm_outline.proofs.NameLemmas.{number_clean}
+use Rattle.fm_outline.specs.Knows.{names_of}
+use Rattle.fm_outline.proofs.RefusalLemmas.{before, no_first}
 
 -- no fault of its own, of what it is
 pub own_clean : {x s : text.Stmt} (whole : ℕ) → x ≡ s → None ≡ first_found (own_faults whole x) → own_faults whole s ≡ []
@@ -60,30 +57,3 @@ own_first k s f is = is
 pub own_told : {whole : ℕ} (k : Catalogue) (s : text.Stmt) (f : NumberedFault) → k.whole ≡ whole
     → first_found (own_faults whole s) ≡ Some f → first_found (stmt_faults (names_of k) s) ≡ Some f
 own_told k s f same is = own_first k s f (ap (λ w. first_found (own_faults w s)) same ∙ is)
-
--- a fault of the first of two blocks
-pub first_block : {x : text.Stmt} (whole : ℕ) (k : Catalogue) (e : text.Postfix) (a b : text.Body) (f : NumberedFault)
-    → x ≡ text.choice e a b → None ≡ first_found (own_faults whole x) → first_found (body_faults (names_of k) a) ≡ Some f
-    → first_found (stmt_faults (names_of k) x) ≡ Some f
-first_block whole k e a b f seen own told =
-    ap (λ y. first_found (stmt_faults (names_of k) y)) seen
-    ∙ before (expr_faults e ++ body_faults (names_of k) a) (body_faults (names_of k) b) f
-    (ap (λ fs. first_found (fs ++ body_faults (names_of k) a)) (own_clean whole seen own) ∙ told)
-
--- the first has none
-pub second_block : {x : text.Stmt} (whole : ℕ) (k : Catalogue) (e : text.Postfix) (a b : text.Body)
-    → x ≡ text.choice e a b → None ≡ first_found (own_faults whole x) → first_found (body_faults (names_of k) a) ≡ None
-    → first_found (stmt_faults (names_of k) x) ≡ first_found (body_faults (names_of k) b)
-second_block whole k e a b seen own none =
-    ap (λ y. first_found (stmt_faults (names_of k) y)) seen
-    ∙ behind (expr_faults e ++ body_faults (names_of k) a) (body_faults (names_of k) b)
-    (sym (ap (λ fs. first_found (fs ++ body_faults (names_of k) a)) (own_clean whole seen own) ∙ none))
-
--- under a deformation that is known
-pub under_known : {x : text.Stmt} (k : Catalogue) (name : text.Leaf) (b : text.Body) (o : Option ℕ) (n : ℕ)
-    → x ≡ text.warp name b → is_some o ≡ list_any (bytes_eq name.text) (labels k.shapes) → Ok n ≡ number_or_told name o
-    → first_found (stmt_faults (names_of k) x) ≡ first_found (body_faults (names_of k) b)
-under_known k name b o n seen known is =
-    ap (λ y. first_found (stmt_faults (names_of k) y)) seen
-    ∙ behind (unknown_faults name (labels k.shapes)) (body_faults (names_of k) b)
-    (number_clean name (labels k.shapes) o n known is)

@@ -14,7 +14,7 @@ use Rattle.fm_grammar.specs.declared.item.What.TheVariants as code
 use Rattle.fm_grammar.specs.Score.{Stmt}
 use Rattle.fm_grammar.specs.Score as tree
 use Rattle.fm_grammar.specs.View.{PlacedStmt, placed, pitch_view, duration_view, amount_view, expr_view, name_view, item_view, items_view, branches_of}
-use Rattle.fm_grammar.proofs.StatementViews.{seen, note_seen, play_seen, rest_seen, control_seen, program_seen, bend_seen, set_seen, choice_seen, repeat_seen, again_seen, par_seen, warp_seen, channel_seen, volume_seen, gate_seen, rhythm_seen, artic_seen, loud_seen}
+use Rattle.fm_grammar.proofs.StatementViews.{seen, note_seen, play_seen, rest_seen, skip_seen, call_seen, control_seen, program_seen, bend_seen, set_seen, choice_seen, repeat_seen, again_seen, par_seen, warp_seen, channel_seen, volume_seen, gate_seen, rhythm_seen, artic_seen, loud_seen}
 
 -- a statement of the code of a known kind
 of_kind : (i : Item) (w : What) (s : Stmt) → i.what ≡ w → seen i.spot w ≡ placed i.spot s → (item_view i).what ≡ s
@@ -38,6 +38,14 @@ play_what i a l is at_l =
 pub rest_what : (i : Item) (d : code_duration.Duration)
     → i.what ≡ code.Rest d → (item_view i).what ≡ tree.rest (duration_view d)
 rest_what i d is = of_kind i (code.Rest d) _ is (rest_seen i.spot d)
+
+-- a rest of the rhythm's duration
+pub skip_what : (i : Item) → i.what ≡ code.Skip → (item_view i).what ≡ tree.skip
+skip_what i is = of_kind i code.Skip _ is (skip_seen i.spot)
+
+-- a call of a phrase
+pub call_what : (i : Item) (n : Name) → i.what ≡ code.Do n → (item_view i).what ≡ tree.call (name_view n)
+call_what i n is = of_kind i (code.Do n) _ is (call_seen i.spot n)
 
 -- a control change
 pub control_what : (i : Item) (n : Number) (a : code_amount.Amount)

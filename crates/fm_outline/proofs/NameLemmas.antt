@@ -1,6 +1,6 @@
 -- What names stand for, and what the faults of names tell.
 use Rattle.std.proofs.Common.{◌≡◌, ℕ, List, ◌++◌, ◌||◌, ◌∙◌, sym, ap, ap₂, refl, not, cond, Bool, true, false, Option, Some, None, Result, Ok, Err, is_some}
-use Rattle.std.specs.Prelude.{⊤, unwrap_or, if◌then◌else◌}
+use Rattle.std.specs.Prelude.{⊤, if◌then◌else◌}
 use Rattle.std.specs.List.{list_any}
 use Rattle.std.specs.Str.{bytes_eq}
 use Rattle.std.proofs.lemmas.List.Folds.{list_any-append}
@@ -25,11 +25,6 @@ use Rattle.fm_outline.specs.View.{Look}
 use Rattle.fm_outline.proofs.RefusalLemmas.{told_by}
 
 -- ---- the number of a name, and a new one
-
--- the number that is found
-pub number_of : (name : text.Leaf) (o : Option ℕ) (n : ℕ) → Ok n ≡ number_or_told name o → n ≡ unwrap_or o 0
-number_of name (Some m) n is = let same : n ≡ m = cc in same
-number_of name None n is = cc
 
 -- a name whose number is found has no fault
 pub number_clean : (name : text.Leaf) (names : List (List ℕ)) (o : Option ℕ) (n : ℕ)

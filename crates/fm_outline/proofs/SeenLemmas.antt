@@ -1,12 +1,14 @@
 -- What steps of the code stand for, one level at a time.
-use Rattle.std.proofs.Common.{◌≡◌, ℕ, map, rules, Vec, Global}
+use Rattle.std.proofs.Common.{◌≡◌, ℕ, map, rules, Option, Vec, Global}
 use Rattle.fm_grammar.proofs.StatementViews.{map_twice}
 use Rattle.fm_program.specs.declared.op.Count.{Count}
 use Rattle.fm_expansion.specs.Outline as plain
 use Rattle.fm_outline.specs.declared.quality.Quality.{Quality}
 use Rattle.fm_outline.specs.declared.step.Step.{Step, the_lemmas}
 use Rattle.fm_outline.specs.declared.step.Instruction.TheViews as code
-use Rattle.fm_outline.specs.View.{Look, instruction_view, step_view, block_view, arms_of_blocks, quality_view}
+use Rattle.fm_outline.specs.declared.step.Instruction.TheVariants as leaf
+use Rattle.fm_outline.specs.declared.lasting.Lasting.TheVariants as lasting
+use Rattle.fm_outline.specs.View.{Look, phrase_at, instruction_view, step_view, block_view, arms_of_blocks, quality_view}
 
 pub choice_seen : (look : Look) (expr : ℕ) (a b : Vec Step Global)
     → instruction_view look (code.Choice expr a b) ≡ plain.choice expr (block_view look a.items) (block_view look b.items)
@@ -40,3 +42,15 @@ under_seen look q list b = search (rules, the_lemmas)
 pub step_seen : (look : Look) (s : Step)
     → step_view look s ≡ record { spot = s.spot; what = instruction_view look s.what }
 step_seen look s = search (rules, the_lemmas)
+
+-- a call of a phrase
+pub call_seen : (look : Look) (number : Option ℕ)
+    → instruction_view look (leaf.Phrase number) ≡ plain.phrase (phrase_at look number)
+call_seen look number = search (rules, the_lemmas)
+
+-- a rest of the rhythm's duration
+pub skip_seen : (look : Look) → instruction_view look (leaf.Rest lasting.Beat) ≡ plain.rest plain.beat
+skip_seen look = search (rules, the_lemmas)
+
+-- for `search`: statements with one block
+pub ruleset blocks_seen = (loop_seen, warp_seen, channel_seen, steady_seen, under_seen)

@@ -70,12 +70,12 @@ module _ {score : text.Score} {known : Known} {phrases : List (List Step)} {bloc
 
   -- a statement more
   pub play_walked : {spot : Spot} {stmt : text.Stmt} {rest : List text.Entry} {grown : List Step} (u : plain.Tables) (s : Step)
-      → WalkedBy score known phrases block t (text.plays spot stmt ∷ rest) → s.spot ≡ spot → grown ≡ block ++ s ∷ []
+      → WalkedBy score known phrases block t (text.plays spot stmt ∷ rest) → grown ≡ block ++ s ∷ []
       → ((k : Catalogue) (look : Look) → Knows known look k
       → (first_found (stmt_faults (names_of k) stmt) ≡ None)
-      × (numbered (instruction_view look s.what) u ≡ instruction_of k stmt t))
+      × ((s.spot ≡ spot) × (numbered (instruction_view look s.what) u ≡ instruction_of k stmt t)))
       → WalkedBy score known phrases grown u rest
-  play_walked {spot = spot} {stmt = stmt} {rest = rest} u s r at pushed is = record {
+  play_walked {spot = spot} {stmt = stmt} {rest = rest} u s r pushed is = record {
     k = r.k;
     first =
         r.first
@@ -86,9 +86,10 @@ module _ {score : text.Score} {known : Known} {phrases : List (List Step)} {bloc
     so_far = λ look more.
         let steps = map (step_view look) block in
         let what = instruction_view look s.what in
-        let seen : step_view look s ≡ placed spot what = step_seen look s ∙ ap (λ p. placed p what) at in
+        let here = (is r.k look (r.knows look more)).1 in
+        let seen : step_view look s ≡ placed spot what = step_seen look s ∙ ap (λ p. placed p what) here.0 in
         r.so_far look more
-        ∙ placed_more (outline_from r.k rest) spot steps what (instruction_of r.k stmt t) u (is r.k look (r.knows look more)).1
+        ∙ placed_more (outline_from r.k rest) spot steps what (instruction_of r.k stmt t) u here.1
         ∙ ap (λ p. followed (steps ++ p ∷ []) (outline_from r.k rest u)) (sym seen)
         ∙ ap (λ l. followed l (outline_from r.k rest u)) (sym (map-append (step_view look) block (s ∷ [])))
         ∙ ap (λ l. followed (map (step_view look) l) (outline_from r.k rest u)) (sym pushed);

@@ -7,3 +7,4 @@ pub mod Refusal
 pub mod Forking
 pub mod Growing
 pub mod Walked
+pub mod Opening

@@ -12,6 +12,8 @@ ghost use Rattle.fm_expansion.specs.Numbering.{Catalogue, numbered, draw_numbere
 ghost use Rattle.fm_expansion.specs.Numbering.{note_numbered, span_numbered};
 ghost use Rattle.fm_outline.specs.View.{Look, tables_view, instruction_view};
 ghost use Rattle.fm_outline.specs.InRange.{AmountFits};
+ghost use Rattle.fm_outline.specs.declared.lasting.Lasting.TheVariants as length;
+ghost use Rattle.fm_outline.specs.declared.step.Instruction.TheVariants as does;
 
 use crate::lasting::Lasting;
 use crate::step::Instruction;
@@ -23,7 +25,7 @@ use fm_value::Expr;
 use std::alloc::{AllocError, Global};
 
 /// A note of a duration of its own.
-pub(crate) fn outline_note(
+pub(crate) fn note(
     alloc: Global,
     whole: u32,
     pitches: &[Pitch],
@@ -44,7 +46,7 @@ pub(crate) fn outline_note(
 }
 
 /// A note of the innermost rhythm.
-pub(crate) fn outline_play(
+pub(crate) fn play(
     alloc: Global,
     pitches: &[Pitch],
     tables: &mut Tables,
@@ -63,7 +65,7 @@ pub(crate) fn outline_play(
 }
 
 /// A rest.
-pub(crate) fn outline_rest(
+pub(crate) fn rest(
     alloc: Global,
     whole: u32,
     duration: &Duration,
@@ -78,8 +80,17 @@ pub(crate) fn outline_rest(
     Ok(Instruction::Rest { lasting })
 }
 
+/// A rest of the rhythm's duration.
+pub(crate) fn skip() -> Instruction
+    ensures { result ≡ does.Rest length.Beat }
+{
+    Instruction::Rest {
+        lasting: Lasting::Beat,
+    }
+}
+
 /// A message of a controller.
-pub(crate) fn outline_control(
+pub(crate) fn control(
     alloc: Global,
     controller: Number,
     amount: &Amount,
@@ -100,7 +111,7 @@ pub(crate) fn outline_control(
 }
 
 /// A message of one number.
-pub(crate) fn outline_send(
+pub(crate) fn send(
     alloc: Global,
     point: Point,
     amount: &Amount,
@@ -117,7 +128,7 @@ pub(crate) fn outline_send(
 }
 
 /// A register that takes a value.
-pub(crate) fn outline_set(
+pub(crate) fn set(
     alloc: Global,
     register: u8,
     value: &Expr,

@@ -11,6 +11,7 @@ mod known;
 mod lasting;
 mod leaf;
 mod number;
+mod opening;
 mod outline;
 mod quality;
 mod refusal;

@@ -17,17 +17,17 @@ ghost use Rattle.fm_outline.specs.Phrases.{PhrasesStand};
 ghost use Rattle.fm_outline.specs.Refusal.{Refuses};
 ghost use Rattle.fm_outline.specs.Walked.{EntryDone, EntryRefused, played};
 
-use crate::fork::{before_fork, step_at};
+use crate::fork::before_fork;
 use crate::known::{Known, Meaning};
 use crate::outline::Outline;
 use crate::refusal::answered;
-use crate::statement::{outline_item, outline_items};
+use crate::statement::{outline_items, outline_step};
 use crate::step::Step;
 use crate::tables::{Tables, append, next_index};
 use fm_expansion::outlines_stand_for_scores;
 use fm_grammar::{Entry, Item, Name, PartText, Score};
 use fm_names::Names;
-use fm_ranges::{check_head, check_own, check_parts};
+use fm_ranges::{check_head, check_parts};
 use fm_rules::{CheckFault, rules_of, warp_of};
 use std::alloc::Global;
 
@@ -46,9 +46,7 @@ impl<'s> Walk<'s> {
         ensures ok { OnOk result (EntryDone self.old (played item.now) self.new) }
         ensures refused { Refuses result (EntryRefused self.old (played item.now)) }
     {
-        answered(check_own(item, self.known.whole))?;
-        let what = outline_item(alloc, item, &self.known, &mut self.tables)?;
-        let step = step_at(item.spot, what, &self.known.forking);
+        let step = outline_step(alloc, item, &self.known, &mut self.tables)?;
         Ok(append(&mut self.block, step)?)
     }
 

@@ -1,4 +1,6 @@
-use Rattle.std.proofs.Common.{◌≡◌, map, drop}
+use Rattle.std.proofs.Common.{◌≡◌, ◌+◌, ◌*◌, max, map, drop}
+use denote.Param.Weighed.{most}
+use Rattle.fm_grammar.specs.declared.item.Item.{size-Item}
 use Rattle.fm_grammar.specs.View.{items_view, branches_of}
 use Rattle.fm_meaning.specs.Faults.{first_found}
 use Rattle.fm_meaning.specs.Ranges.{body_faults, branches_faults}
@@ -9,16 +11,38 @@ use Rattle.fm_outline.specs.Growing.{followed}
 use Rattle.fm_outline.proofs.GrowingLemmas.{joined_behind}
 use Rattle.fm_outline.proofs.statement.+statement.Given as goal
 
+-- ---- how deep what is left is
+
+abbrev pub decreases-outline_item : goal.decreases-outline_item
+decreases-outline_item l = 4 * goal.size-outline_item l
+
+abbrev pub decreases-outline_step : goal.decreases-outline_step
+decreases-outline_step l = 4 * goal.size-outline_step l + 1
+
+abbrev pub decreases-outline_items : goal.decreases-outline_items
+decreases-outline_items l = 4 * goal.size-outline_items l + 2
+
+abbrev pub decreases-inside : goal.decreases-inside
+decreases-inside l = 4 * goal.size-inside l + 3
+
+abbrev pub decreases-outline_choice : goal.decreases-outline_choice
+decreases-outline_choice l = 4 * max (most size-Item l.yes.now) (most size-Item l.no.now) + 3
+
+abbrev pub decreases-outline_fork : goal.decreases-outline_fork
+decreases-outline_fork l = 4 * goal.size-outline_fork l + 3
+
+-- ---- loops
+
 -- the first fault is that of the branches that are left, and the branches so far stand before these
-abbrev pub invariant-outline_item-loop-branch : goal.invariant-outline_item-loop-branch
-invariant-outline_item-loop-branch l =
+abbrev pub invariant-outline_fork-loop-branch : goal.invariant-outline_fork-loop-branch
+invariant-outline_fork-loop-branch l =
     (k : Catalogue) (look : Look) → Knows l.known look k
-    → (first_found (branches_faults (names_of k) (branches_of (map (λ b. items_view b.items) l.branch-items)))
+    → (first_found (branches_faults (names_of k) (branches_of (map (λ b. items_view b.items) l.branches)))
     ≡ first_found
-    (branches_faults (names_of k) (branches_of (map (λ b. items_view b.items) (drop l.branch-index l.branch-items)))))
-    × (arms_of k (branches_of (map (λ b. items_view b.items) l.branch-items)) (tables_view l.fn.tables)
+    (branches_faults (names_of k) (branches_of (map (λ b. items_view b.items) (drop l.branch-index l.branches)))))
+    × (arms_of k (branches_of (map (λ b. items_view b.items) l.branches)) (tables_view l.fn.tables)
     ≡ joined_behind (map (λ b. block_view look b.items) l.outlined.items)
-    (arms_of k (branches_of (map (λ b. items_view b.items) (drop l.branch-index l.branch-items))) (tables_view l.tables)))
+    (arms_of k (branches_of (map (λ b. items_view b.items) (drop l.branch-index l.branches))) (tables_view l.tables)))
 
 -- the first fault is that of the statements that are left, and the statements so far stand before these
 abbrev pub invariant-outline_items-loop-item : goal.invariant-outline_items-loop-item

@@ -6,7 +6,7 @@ use Rattle.fm_meaning.specs.Ranges.{body_faults, entries_faults}
 use Rattle.fm_rules.specs.Why.{fault_at}
 use Rattle.fm_names.specs.Named.{named}
 use Rattle.fm_outline.specs.View.{tables_view}
-use Rattle.fm_outline.proofs.RefusalLemmas.{handed}
+use Rattle.fm_outline.proofs.RefusalLemmas.{handed, refused_tells}
 use Rattle.fm_outline.proofs.NameLemmas.{new_free, new_told}
 use Rattle.fm_outline.proofs.WalkLemmas.{phrase_walked, name_refused, inside_refused}
 use Rattle.fm_outline.proofs.walk.Walk.add_phrase.Goals as goal
@@ -25,8 +25,8 @@ returns-in_err-steps-clause-refused c = λ why spot is score rest r.
     inside_refused r name (fault_at spot why) (λ ns. body_faults ns (items_view c.args.body.now))
     (λ ns. entries_faults (record ns { phrases = name.text ∷ ns.phrases }) rest) (λ ns. refl)
     (new_free name (named c.args.self.now.known.names name.text) _ c.in_ok-check_new.ensures)
-    (c.in_err-steps.ensures.refused why spot
-    (handed is c.from_residual-in_err-steps.ensures.1))
+    (λ k look knows.
+    refused_tells _ _ c.in_err-steps.field-0.0 (c.in_err-steps.ensures k look knows) is c.from_residual-in_err-steps.ensures.1)
 
 pub returns-clause-ok : goal.returns-clause-ok
 returns-clause-ok c = λ score rest r.
@@ -37,4 +37,4 @@ returns-clause-ok c = λ score rest r.
     let at : c.in_ok-number.number ≡ length (map vec_items w.phrases.items) = search (rules, length-map) in
     phrase_walked (tables_view c.outline_items.new.tables) c.in_ok-number.number steps.items r
     (new_free (name_view c.args.name.now) (named w.known.names c.args.name.now.text.now) _ c.in_ok-check_new.ensures) at
-    grown c.in_ok-define.ensures.ok (λ k look knows. c.in_ok-steps.ensures.ok k look knows)
+    grown c.in_ok-define.ensures.ok (λ k look knows. c.in_ok-steps.ensures k look knows)
