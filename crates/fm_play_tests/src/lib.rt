@@ -1,6 +1,6 @@
-//! Tests of the crates that place ticks in time and play one process: `fm_warp`, `fm_nest`,
-//! `fm_locate`, `fm_buffer`, `fm_offs`, `fm_program`, `fm_player`, `fm_strand`, `fm_play` and
-//! `fm_position`.
+//! Tests of the crates that place ticks in time and play one process: `fm_tick`, `fm_warp`,
+//! `fm_nest`, `fm_locate`, `fm_buffer`, `fm_offs`, `fm_program`, `fm_player`, `fm_strand`,
+//! `fm_play` and `fm_position`.
 //!
 //! They use public calls alone, and stand above the crates that they test, so that the code of
 //! those is not proved once more for them. There is nothing else here.
@@ -25,9 +25,13 @@ mod position;
 #[cfg(test)]
 mod program;
 #[cfg(test)]
+mod same;
+#[cfg(test)]
 mod shapes;
 #[cfg(test)]
 mod strand;
+#[cfg(test)]
+mod tick;
 #[cfg(test)]
 mod walk;
 #[cfg(test)]

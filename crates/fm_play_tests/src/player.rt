@@ -2,6 +2,7 @@
 ghost use Rattle.fm_player.specs.Player.{InCourse};
 
 use crate::note::plan_of_a_note;
+use crate::same::{same, same_number};
 use fm_msg::{Event, Msg};
 use fm_nest::Place;
 use fm_offs::NoteOff;
@@ -33,10 +34,9 @@ fn takes<R: Abort>(rt: &R, plan: &Plan, player: &mut Player, wanted: Option<Note
     assert!(rt; player.take_off(plan) == wanted);
 }
 
-#[test]
-fn a_note_begins_and_its_note_off_is_taken(rt: HostRuntime) -> Result<(), Fail> {
-    let plan = plan_of_a_note(rt.alloc())?;
-    let mut player = begun(&plan);
+// Plays the note.
+fn begins_and_ends<R: Abort>(rt: &R, plan: &Plan) {
+    let mut player = begun(plan);
     let on = Msg::On {
         channel: 0,
         key: 60,
@@ -47,27 +47,32 @@ fn a_note_begins_and_its_note_off_is_taken(rt: HostRuntime) -> Result<(), Fail> 
         channel: 0,
         key: 60,
     };
-    assert_eq!(rt; player.clock(), 0);
-    assert_eq!(rt; player.pitches(&plan), 0);
-    assert!(rt; !player.is_sounding(&plan));
-    steps(&rt, &plan, &mut player, Stepped::Silent);
-    assert_eq!(rt; player.pitches(&plan), 1);
-    assert!(rt; player.is_sounding(&plan));
-    takes(&rt, &plan, &mut player, None);
+    same_number(rt, player.clock(), 0);
+    assert!(rt; player.pitches(plan) == 0);
+    assert!(rt; !player.is_sounding(plan));
+    steps(rt, plan, &mut player, Stepped::Silent);
+    assert!(rt; player.pitches(plan) == 1);
+    assert!(rt; player.is_sounding(plan));
+    takes(rt, plan, &mut player, None);
     steps(
-        &rt,
-        &plan,
+        rt,
+        plan,
         &mut player,
         Stepped::Event(Event::new(0, 0, 0, on)),
     );
-    assert_eq!(rt; player.pitches(&plan), 0);
-    assert!(rt; !player.has_ended(&plan));
-    takes(&rt, &plan, &mut player, Some(off));
-    assert_eq!(rt; player.pitches(&plan), 16);
-    assert!(rt; player.has_ended(&plan));
-    steps(&rt, &plan, &mut player, Stepped::Ended);
-    assert_eq!(rt; player.clock(), 480);
-    assert_eq!(rt; player.place().position, 480);
+    assert!(rt; player.pitches(plan) == 0);
+    assert!(rt; !player.has_ended(plan));
+    takes(rt, plan, &mut player, Some(off));
+    assert!(rt; player.pitches(plan) == 16);
+    assert!(rt; player.has_ended(plan));
+    steps(rt, plan, &mut player, Stepped::Ended);
+    same_number(rt, player.clock(), 480);
+    same_number(rt, player.place().position, 480);
+}
+
+#[test]
+fn a_note_begins_and_its_note_off_is_taken(rt: HostRuntime) -> Result<(), Fail> {
+    begins_and_ends(&rt, &plan_of_a_note(rt.alloc())?);
     Ok(())
 }
 
@@ -78,7 +83,7 @@ fn processes_meet_at_the_later_place(rt: HostRuntime) -> Result<(), Fail> {
         position: 480,
         ..early
     };
-    assert_eq!(rt; meet(&early, &late), late);
-    assert_eq!(rt; meet(&late, &early), late);
+    same(&rt, &meet(&early, &late), &late);
+    same(&rt, &meet(&late, &early), &late);
     Ok(())
 }

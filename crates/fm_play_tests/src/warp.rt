@@ -3,9 +3,10 @@ ghost use Rattle.std.specs.Prelude.{◌≤◌, All};
 ghost use Rattle.fm_tick.specs.declared.stretch.TheConstants.{MAX_STRETCH};
 ghost use Rattle.fm_warp.specs.Deformation.{IsPart};
 
+use crate::same::{same, same_number};
 use crate::shapes::stretch;
 use fm_tick::MAX_TICK;
-use fm_warp::{Cursor, MAX_PART_TICKS, MAX_PARTS, Part, Query, Side, Warp, WarpFault, map_all};
+use fm_warp::{Cursor, MAX_PART_TICKS, Part, Query, Side, Warp, WarpFault, map_all};
 use std::alloc::AllocError;
 use std::process::Abort;
 use std::test::*;
@@ -40,7 +41,7 @@ fn warp_of<R: Abort + AllocGlobal>(rt: &R, parts: &[Part]) -> Warp
 {
     let mut warp = Warp::new(rt.alloc());
     for part in parts {
-        assert_eq!(rt; warp.push(*part), Ok(()));
+        assert!(rt; warp.push(*part).is_ok());
     }
     warp
 }
@@ -65,68 +66,6 @@ fn many_parts<R: Abort + AllocGlobal>(rt: &R) -> Warp {
     )
 }
 
-// Compares where the onset of a position lies.
-fn is_at<R: Abort>(rt: &R, warp: &Warp, x: u64, onset: u64)
-    requires { x ≤ MAX_TICK }
-{
-    assert_eq!(rt; warp.at(x), onset, "at {x}");
-}
-
-// The same of its onset and its note-off.
-fn is_at_and_till<R: Abort>(rt: &R, warp: &Warp, x: u64, onset: u64, ending: u64)
-    requires { x ≤ MAX_TICK }
-{
-    assert_eq!(rt; (warp.at(x), warp.till(x)), (onset, ending), "at {x}");
-}
-
-#[test]
-fn a_slope_puts_positions_by_the_square(rt: HostRuntime) {
-    let warp = warp_of(&rt, &[slope(960, 1_000, 2_000)]);
-    is_at(&rt, &warp, 480, 600);
-    is_at(&rt, &warp, 960, 1_440);
-    is_at(&rt, &warp, 961, 1_441);
-}
-
-#[test]
-fn each_length_is_rounded_before_it_is_added(rt: HostRuntime) {
-    let warp = warp_of(&rt, &[slope(1, 1_000, 2_000), slope(1, 1_000, 2_000)]);
-    is_at(&rt, &warp, 1, 1);
-    is_at(&rt, &warp, 2, 2);
-}
-
-// A deformation of as many parts as there may be.
-fn most_parts<R: Abort + AllocGlobal>(rt: &R) -> Warp {
-    let mut warp = Warp::new(rt.alloc());
-    for _ in 0..MAX_PARTS {
-        assert_eq!(rt; warp.push(Part::Pause { ticks: 1 }), Ok(()));
-    }
-    warp
-}
-
-#[test]
-fn a_part_too_many_is_refused(rt: HostRuntime) {
-    let mut warp = most_parts(&rt);
-    assert_eq!(rt;
-        warp.push(Part::Pause { ticks: 1 }),
-        Err(WarpFault::TooManyParts)
-    );
-    assert_eq!(rt; warp.parts().len(), MAX_PARTS);
-    assert_eq!(rt; warp.at(0), 256);
-}
-
-#[test]
-fn a_breath_delays_no_note_off_at_its_position(rt: HostRuntime) {
-    let warp = warp_of(&rt, &[flat(480, 1_000), Part::Breath { ticks: 120 }]);
-    is_at_and_till(&rt, &warp, 480, 600, 480);
-    is_at_and_till(&rt, &warp, 481, 601, 601);
-}
-
-#[test]
-fn a_pause_delays_all_at_its_position(rt: HostRuntime) {
-    let warp = warp_of(&rt, &[flat(480, 1_000), Part::Pause { ticks: 120 }]);
-    is_at_and_till(&rt, &warp, 480, 600, 600);
-}
-
 /// Positions, and where their onsets and their note-offs lie.
 const EDGES: &[(u64, u64, u64)] = &[
     (0, 5, 0),
@@ -143,13 +82,18 @@ const EDGES: &[(u64, u64, u64)] = &[
     (13, 651, 651),
 ];
 
+// Compares where the onset and the note-off of a position lie.
+fn is_at_and_till<R: Abort>(rt: &R, warp: &Warp, row: &(u64, u64, u64)) {
+    let (x, onset, ending) = *row;
+    assert!(rt; x <= MAX_TICK);
+    assert!(rt; warp.at(x) == onset && warp.till(x) == ending);
+}
+
 #[test]
 fn positions_at_and_between_the_edges(rt: HostRuntime) {
     let warp = many_parts(&rt);
     for row in EDGES {
-        let (x, onset, ending) = *row;
-        assert!(rt; x <= MAX_TICK);
-        is_at_and_till(&rt, &warp, x, onset, ending);
+        is_at_and_till(&rt, &warp, row);
     }
 }
 
@@ -157,10 +101,10 @@ fn positions_at_and_between_the_edges(rt: HostRuntime) {
 fn one_cursor_maps_onsets_and_note_offs(rt: HostRuntime) {
     let warp = many_parts(&rt);
     let mut cursor = Cursor::new();
-    assert_eq!(rt; cursor.at(&warp, 3), 76);
-    assert_eq!(rt; cursor.at(&warp, 7), 323);
-    assert_eq!(rt; cursor.till(&warp, 3), 26);
-    assert_eq!(rt; cursor.deform(Side::Ending, &warp, 7), 163);
+    same_number(&rt, cursor.at(&warp, 3), 76);
+    same_number(&rt, cursor.at(&warp, 7), 323);
+    same_number(&rt, cursor.till(&warp, 3), 26);
+    same_number(&rt, cursor.deform(Side::Ending, &warp, 7), 163);
 }
 
 #[test]
@@ -186,13 +130,13 @@ fn a_list_of_positions_is_mapped_in_place(rt: HostRuntime) {
     ];
     map_all(&warp, &mut queries);
     let ticks = queries.map(|query| query.tick);
-    assert_eq!(rt; ticks, [76, 0, 650, 26]);
+    same(&rt, &ticks, &[76, 0, 650, 26]);
 }
 
 // Compares the text of a fault.
 fn is_told<R: Abort + AllocGlobal>(rt: &R, fault: WarpFault, want: &str) -> Result<(), AllocError> {
     let text = format!(in rt.alloc(); "{fault}")?;
-    assert_eq!(rt; text.as_str(), want);
+    same(rt, &text.as_str(), &want);
     Ok(())
 }
 

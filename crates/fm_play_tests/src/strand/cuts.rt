@@ -1,5 +1,5 @@
-//! A process with operations of all kinds, run whole and cut.
-ghost use Rattle.std.specs.Prelude.{◌≡◌, ◌≤◌, [], map, IfOk, OnOk};
+//! A process with operations of all kinds, cut into quanta.
+ghost use Rattle.std.specs.Prelude.{◌≡◌, ◌≤◌, [], map, IfOk, OnOk, vec_items};
 ghost use Rattle.fm_buffer.specs.declared.outbox.TheConstants.{MAX_ROOM};
 ghost use Rattle.fm_program.specs.Parts.{expr_nodes, program_parts, stock_parts};
 ghost use Rattle.fm_strand.specs.Strand.{InCourse};
@@ -10,10 +10,11 @@ use crate::shapes::stretch;
 use fm_buffer::Gather;
 use fm_msg::{Event, Profile};
 use fm_program::{Count, Draw, Op, Point, Program, Scopes, Slot, Span, Stock, Turn};
-use fm_strand::{Outbox, Plan, Quantum, Stepped, Strand};
+use fm_strand::{Outbox, Plan, Quantum, Strand};
 use fm_value::{Expr, Node, Spot2};
 use fm_warp::{Part, Warp};
 use std::alloc::{AllocError, Global};
+use std::process::Abort;
 use std::test::Fail;
 
 /// The ticks and the bytes of its events, computed by a program of another language.
@@ -58,9 +59,6 @@ const EVENTS: &[(u64, [u8; 3])] = &[
     (2_000, [0x92, 48, 80]),
     (2_216, [0x82, 48, 64]),
 ];
-
-/// How many steps it takes.
-const STEPS: u32 = 83;
 
 /// A note of the drawn chord, its duration of the outer list and its articulation of the inner one.
 const NOTE: Op = Op::Note {
@@ -155,26 +153,71 @@ fn inner_warp(alloc: Global) -> Result<Warp, Fail>
     Ok(warp)
 }
 
+// Durations and articulations.
+fn lists(alloc: Global) -> Result<Vec<Vec<u32>>, AllocError>
+    ensures { IfOk result (λ lists. map vec_items lists.items ≡ rich_stock.lists) }
+{
+    let durations = vec![in alloc; 480, 240, 120]?;
+    let gates = vec![in alloc; 50, 100, 0]?;
+    Ok(vec![in alloc; durations, gates]?)
+}
+
+// Chords of two keys and of one.
+fn chords(alloc: Global) -> Result<Vec<Vec<Draw>>, AllocError>
+    ensures { IfOk result (λ chords. map vec_items chords.items ≡ rich_stock.chords) }
+{
+    let two = vec![in alloc; Draw::Drawn { expr: 0 }, Draw::Fixed { value: 67 }]?;
+    let one = vec![in alloc; Draw::Fixed { value: 48 }]?;
+    Ok(vec![in alloc; two, one]?)
+}
+
+// A scope of one loop, and one of another loop in it.
+fn scopes(alloc: Global) -> Result<Scopes, AllocError>
+    ensures { IfOk result (λ scopes. scopes ≡ rich_stock.scopes) }
+{
+    let mut scopes = Scopes::new(alloc);
+    let outer = scopes.push(Slot::Frame { frame: 1 }, 0)?;
+    scopes.push(Slot::Frame { frame: 3 }, outer)?;
+    Ok(scopes)
+}
+
+// Both deformations.
+fn warps(alloc: Global) -> Result<Vec<Warp>, Fail>
+    ensures { IfOk result (λ warps. warps.items ≡ rich_stock.warps) }
+{
+    let outer = outer_warp(alloc)?;
+    let inner = inner_warp(alloc)?;
+    Ok(vec![in alloc; outer, inner]?)
+}
+
+// The tables with these expressions and deformations.
+fn stock_with(alloc: Global, exprs: Vec<Expr>, warps: Vec<Warp>) -> Result<Stock, AllocError>
+    ensures { IfOk result (λ s. stock_parts s ≡ record {
+      exprs = map expr_nodes exprs.items;
+      lists = rich_stock.lists;
+      chords = rich_stock.chords;
+      scopes = rich_stock.scopes;
+      warps = warps.items;
+    }) }
+{
+    let lists = lists(alloc)?;
+    let chords = chords(alloc)?;
+    Ok(Stock {
+        exprs,
+        lists,
+        chords,
+        scopes: scopes(alloc)?,
+        warps,
+    })
+}
+
 // The tables.
 fn stock(alloc: Global) -> Result<Stock, Fail>
     ensures { IfOk result (λ s. stock_parts s ≡ rich_stock) }
 {
     let exprs = exprs(alloc)?;
-    let durations = vec![in alloc; 480, 240, 120]?;
-    let gates = vec![in alloc; 50, 100, 0]?;
-    let two = vec![in alloc; Draw::Drawn { expr: 0 }, Draw::Fixed { value: 67 }]?;
-    let one = vec![in alloc; Draw::Fixed { value: 48 }]?;
-    let mut scopes = Scopes::new(alloc);
-    let outer = scopes.push(Slot::Frame { frame: 1 }, 0)?;
-    scopes.push(Slot::Frame { frame: 3 }, outer)?;
-    let warps = vec![in alloc; outer_warp(alloc)?, inner_warp(alloc)?]?;
-    Ok(Stock {
-        exprs,
-        lists: vec![in alloc; durations, gates]?,
-        chords: vec![in alloc; two, one]?,
-        scopes,
-        warps,
-    })
+    let warps = warps(alloc)?;
+    Ok(stock_with(alloc, exprs, warps)?)
 }
 
 // A list round a level, in it a loop of three rounds; in each round a list and a level round a
@@ -249,29 +292,50 @@ fn plan(alloc: Global) -> Result<Plan, Fail> {
     Ok(Plan::of(stock, programs, 5, Profile::first()))
 }
 
-// Appends the events of so many steps.
-pub(super) fn make_steps(
+/// Quanta: their room, the first limit, and by how many ticks it rises where it stops one.
+const QUANTA: &[(u32, u64, u64)] = &[(1, 0, 10), (2, 15, 500), (2, 840, 1_000), (64, 10_000, 0)];
+
+// The first process has these events in quanta of each kind, and ends at this tick.
+pub(super) fn has_events<R: Abort + AllocGlobal>(
+    rt: &R,
     plan: &Plan,
-    strand: &mut Strand,
-    most: u32,
-    events: &mut Vec<Event>,
-) -> Result<(), AllocError>
-    requires { InCourse plan.now strand.old }
-    ensures { InCourse plan.now strand.new }
-{
-    for _step in 0..most {
-        match strand.step(plan) {
-            Stepped::Silent => {}
-            Stepped::Event(event) => events.push(event)?,
-            Stepped::Ended => return Ok(()),
-        }
+    rows: &[(u64, [u8; 3])],
+    end: u64,
+) -> Result<(), AllocError> {
+    for quanta in QUANTA {
+        has_events_in(rt, plan, quanta, rows, end)?;
     }
+    Ok(())
+}
+
+// The same in quanta of one kind.
+fn has_events_in<R: Abort + AllocGlobal>(
+    rt: &R,
+    plan: &Plan,
+    quanta: &(u32, u64, u64),
+    rows: &[(u64, [u8; 3])],
+    end: u64,
+) -> Result<(), AllocError> {
+    let (room, first, lead) = *quanta;
+    assert!(rt; 1 <= room && room <= 64);
+    let mut strand = begun(plan);
+    let mut events = Vec::new(rt.alloc());
+    make_quanta(
+        rt.alloc(),
+        plan,
+        &mut strand,
+        room,
+        first,
+        lead,
+        &mut events,
+    )?;
+    assert!(rt; are_expected(events.as_slice(), rows) && strand.clock() == end);
     Ok(())
 }
 
 // Appends the events of quanta to the end, each with an empty outbox. Where the limit stops one,
 // it rises by the lead, in ticks.
-pub(super) fn make_quanta(
+fn make_quanta(
     alloc: Global,
     plan: &Plan,
     strand: &mut Strand,
@@ -319,7 +383,7 @@ fn take_all(
 }
 
 // Whether these are the events of the rows, numbered in turn.
-pub(super) fn are_expected(events: &[Event], rows: &[(u64, [u8; 3])]) -> bool {
+fn are_expected(events: &[Event], rows: &[(u64, [u8; 3])]) -> bool {
     if events.len() != rows.len() {
         return false;
     }
@@ -352,33 +416,6 @@ fn a_copy_of_a_plan_has_the_spots_of_its_expressions(rt: HostRuntime) -> Result<
 }
 
 #[test]
-fn events_are_the_same_whatever_the_cuts(rt: HostRuntime) -> Result<(), Fail> {
-    let alloc = rt.alloc();
-    let plan = plan(alloc)?;
-    for cut in 0..STEPS + 1 {
-        for room in [1, 2, 64] {
-            for (first, lead) in [(0, 10), (15, 500), (840, 1_000), (10_000, 0)] {
-                assert!(rt; 1 <= room && room <= 64);
-                let mut strand = begun(&plan);
-                let mut events = Vec::new(alloc);
-                make_steps(&plan, &mut strand, cut, &mut events)?;
-                make_quanta(alloc, &plan, &mut strand, room, first, lead, &mut events)?;
-                assert!(rt; are_expected(events.as_slice(), EVENTS));
-                assert_eq!(rt; strand.clock(), 2_360);
-            }
-        }
-    }
-    Ok(())
-}
-
-#[test]
-fn it_takes_so_many_steps(rt: HostRuntime) -> Result<(), Fail> {
-    let alloc = rt.alloc();
-    let plan = plan(alloc)?;
-    let mut strand = begun(&plan);
-    let mut events = Vec::new(alloc);
-    make_steps(&plan, &mut strand, STEPS - 1, &mut events)?;
-    assert!(rt; strand.step(&plan) != Stepped::Ended);
-    assert!(rt; strand.step(&plan) == Stepped::Ended);
-    Ok(())
+fn events_are_the_same_whatever_the_quanta(rt: HostRuntime) -> Result<(), Fail> {
+    Ok(has_events(&rt, &plan(rt.alloc())?, EVENTS, 2_360)?)
 }

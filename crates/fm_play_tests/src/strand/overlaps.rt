@@ -9,13 +9,11 @@ ghost use Rattle.fm_program.specs.declared.op.Turn.TheVariants as turn;
 ghost use Rattle.fm_program.specs.Parts.{program_parts, stock_parts};
 ghost use Rattle.fm_strand.specs.Worked.{ring_program, ring_stock};
 
-use super::begun;
-use super::cuts::{are_expected, make_quanta, make_steps};
+use super::cuts::has_events;
 use fm_msg::Profile;
 use fm_program::{Draw, Op, Point, Program, Scopes, Span, Stock, Turn};
 use fm_strand::Plan;
 use std::alloc::{AllocError, Global};
-use std::test::Fail;
 
 /// The ticks and the bytes of the events, computed by hand.
 const EVENTS: &[(u64, [u8; 3])] = &[
@@ -56,9 +54,6 @@ const EVENTS: &[(u64, [u8; 3])] = &[
     (35, [0x80, 62, 64]),
     (35, [0x80, 63, 64]),
 ];
-
-/// How many steps they take.
-const STEPS: u32 = 40;
 
 // A chord of sixteen keys, and one of one.
 fn stock(alloc: Global) -> Result<Stock, AllocError>
@@ -156,19 +151,6 @@ fn plan(alloc: Global) -> Result<Plan, AllocError> {
 }
 
 #[test]
-fn overlapping_notes_are_the_same_whatever_the_cuts(rt: HostRuntime) -> Result<(), Fail> {
-    let alloc = rt.alloc();
-    let plan = plan(alloc)?;
-    for cut in 0..STEPS + 1 {
-        for (room, first, lead) in [(1, 0, 10), (2, 10, 5), (64, 10_000, 0)] {
-            assert!(rt; 1 <= room && room <= 64);
-            let mut strand = begun(&plan);
-            let mut events = Vec::new(alloc);
-            make_steps(&plan, &mut strand, cut, &mut events)?;
-            make_quanta(alloc, &plan, &mut strand, room, first, lead, &mut events)?;
-            assert!(rt; are_expected(events.as_slice(), EVENTS));
-            assert_eq!(rt; strand.clock(), 35);
-        }
-    }
-    Ok(())
+fn overlapping_notes_are_the_same_whatever_the_quanta(rt: HostRuntime) -> Result<(), AllocError> {
+    has_events(&rt, &plan(rt.alloc())?, EVENTS, 35)
 }

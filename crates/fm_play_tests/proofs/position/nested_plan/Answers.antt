@@ -1,7 +1,0 @@
--- The plan fits.
-use Rattle.std.proofs.Common.{rules}
-use Rattle.fm_position.proofs.Rows.{nested_fits_as}
-use Rattle.fm_play_tests.proofs.position.nested_plan.Goals as goal
-
-pub of-requires : goal.of-requires
-of-requires c = nested_fits_as _ (search rules)
