@@ -1,7 +1,7 @@
 -- The files of the tests, as what was written.
 use Rattle.std.proofs.Common.{◌≡◌, ℕ, List, [], ◌∷◌, Ok, true, refl, arith}
 use Rattle.fm_msg.specs.declared.msg.Msg.{Msg}
-use Rattle.fm_msg.specs.declared.msg.Msg.TheVariants.{On, Off, Program, Control, Bend}
+use Rattle.fm_msg.specs.declared.msg.Msg.TheVariants.{On, Off, Program, Control}
 use Rattle.fm_msg.specs.declared.profile.Profile.{Profile}
 use Rattle.fm_msg.specs.Event.{TimedMessage}
 use Rattle.fm_smf.specs.VariableLength.{vlq}
@@ -34,59 +34,6 @@ two_written c is = record {
     division = omega arith;
     in_range = (refl, (refl, (refl, (refl, (refl, tt)))));
     in_time = (omega arith, (omega arith, (omega arith, (omega arith, (omega arith, tt)))));
-    later = omega arith;
-  };
-  in_time = omega arith;
-}
-
-abbrev chord_events : List TimedMessage
-chord_events =
-    at 0 (Bend 2 0) ∷ at 0 (On 1 64 64) ∷ at 0 (On 0 67 64) ∷ at 5 (On 0 60 64)
-    ∷ at 5 (On 0 60 64) ∷ at 8 (Off 0 60) ∷ at 9 (Off 1 64) ∷ at 20 (Off 0 60) ∷ at 20 (Off 0 67) ∷ []
-
-abbrev chord_file : List ℕ
-chord_file =
-    77 ∷ 84 ∷ 104 ∷ 100 ∷ 0 ∷ 0 ∷ 0 ∷ 6 ∷ 0 ∷ 0 ∷ 0 ∷ 1 ∷ 1 ∷ 224 ∷ 77 ∷ 84 ∷ 114 ∷ 107 ∷ 0 ∷ 0 ∷ 0 ∷ 47 ∷ 0 ∷ 255
-    ∷ 81 ∷ 3 ∷ 7 ∷ 161 ∷ 32 ∷ 0 ∷ 226 ∷ 0 ∷ 0 ∷ 0 ∷ 145 ∷ 64 ∷ 64 ∷ 0 ∷ 144 ∷ 67 ∷ 64 ∷ 5 ∷ 144 ∷ 60 ∷ 64 ∷ 0 ∷ 144
-    ∷ 60 ∷ 64 ∷ 3 ∷ 128 ∷ 60 ∷ 64 ∷ 1 ∷ 129 ∷ 64 ∷ 64 ∷ 11 ∷ 128 ∷ 60 ∷ 64 ∷ 0 ∷ 128 ∷ 67 ∷ 64 ∷ 0 ∷ 255 ∷ 47 ∷ 0
-    ∷ []
-
--- a bend, and four notes on two channels
-pub chord_written : (c : Contents) → contents chord_file ≡ Ok c → HasExcerpts first_profile c
-unfolding file with_length track event_bytes end_bytes delta fillers vlq
-chord_written c is = record {
-  events = chord_events;
-  end = 20;
-  is = record {
-    is_read = is;
-    small = omega arith;
-    division = omega arith;
-    in_range = (refl, (refl, (refl, (refl, (refl, (refl, (refl, (refl, (refl, tt)))))))));
-    in_time = (
-      omega arith,
-      (
-        omega arith,
-        (
-          omega arith,
-          (
-            omega arith,
-            (
-              omega arith,
-              (
-                omega arith,
-                (
-                  omega arith,
-                  (
-                    omega arith,
-                    (omega arith, tt),
-                  ),
-                ),
-              ),
-            ),
-          ),
-        ),
-      ),
-    );
     later = omega arith;
   };
   in_time = omega arith;

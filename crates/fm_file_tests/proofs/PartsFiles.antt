@@ -39,28 +39,6 @@ two_written c is = record {
   };
 }
 
-abbrev empty_file : List ℕ
-empty_file =
-    77 ∷ 84 ∷ 104 ∷ 100 ∷ 0 ∷ 0 ∷ 0 ∷ 6 ∷ 0 ∷ 0 ∷ 0 ∷ 1 ∷ 1 ∷ 224 ∷ 77 ∷ 84 ∷ 114 ∷ 107 ∷ 0 ∷ 0 ∷ 0 ∷ 11 ∷ 0
-    ∷ 255 ∷ 81 ∷ 3 ∷ 7 ∷ 161 ∷ 32 ∷ 0 ∷ 255 ∷ 47 ∷ 0 ∷ []
-
--- no event
-pub none_written : (c : Contents) → contents empty_file ≡ Ok c → IsWritten c
-unfolding file with_length track end_bytes delta fillers vlq
-none_written c is = record {
-  profile = first_profile;
-  events = [];
-  end = 0;
-  is = record {
-    is_read = is;
-    small = omega arith;
-    division = omega arith;
-    in_range = tt;
-    in_time = tt;
-    later = omega arith;
-  };
-}
-
 abbrev running_events : List TimedMessage
 running_events = at 0 (On 2 60 64) ∷ at 5 (On 2 62 64) ∷ at 7 (Program 1 9) ∷ []
 

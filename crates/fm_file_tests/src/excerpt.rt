@@ -75,29 +75,6 @@ const RUNNING_WINDOW: [u8; 48] = [
     0x40, 0, 0xFF, 0x2F, 0,
 ];
 
-/// A bend of 0, and four notes on two channels, of which two are of one key.
-const CHORD: [u8; 69] = [
-    0x4D, 0x54, 0x68, 0x64, 0, 0, 0, 6, 0, 0, 0, 1, 1, 0xE0, 0x4D, 0x54, 0x72, 0x6B, 0, 0, 0, 0x2F,
-    0, 0xFF, 0x51, 3, 7, 0xA1, 0x20, 0, 0xE2, 0, 0, 0, 0x91, 0x40, 0x40, 0, 0x90, 0x43, 0x40, 5,
-    0x90, 0x3C, 0x40, 0, 0x90, 0x3C, 0x40, 3, 0x80, 0x3C, 0x40, 1, 0x81, 0x40, 0x40, 0x0B, 0x80,
-    0x3C, 0x40, 0, 0x80, 0x43, 0x40, 0, 0xFF, 0x2F, 0,
-];
-
-/// Its first 9 ticks.
-const CHORD_BEGINNING: [u8; 69] = [
-    0x4D, 0x54, 0x68, 0x64, 0, 0, 0, 6, 0, 0, 0, 1, 1, 0xE0, 0x4D, 0x54, 0x72, 0x6B, 0, 0, 0, 0x2F,
-    0, 0xFF, 0x51, 3, 7, 0xA1, 0x20, 0, 0xE2, 0, 0, 0, 0x91, 0x40, 0x40, 0, 0x90, 0x43, 0x40, 5,
-    0x90, 0x3C, 0x40, 0, 0x90, 0x3C, 0x40, 3, 0x80, 0x3C, 0x40, 1, 0x80, 0x3C, 0x40, 0, 0x80, 0x43,
-    0x40, 0, 0x81, 0x40, 0x40, 0, 0xFF, 0x2F, 0,
-];
-
-/// Its ticks from 5 to 9.
-const CHORD_MIDDLE: [u8; 53] = [
-    0x4D, 0x54, 0x68, 0x64, 0, 0, 0, 6, 0, 0, 0, 1, 1, 0xE0, 0x4D, 0x54, 0x72, 0x6B, 0, 0, 0, 0x1F,
-    0, 0xFF, 0x51, 3, 7, 0xA1, 0x20, 0, 0xE2, 0, 0, 0, 0x90, 0x3C, 0x40, 0, 0x90, 0x3C, 0x40, 3,
-    0x80, 0x3C, 0x40, 1, 0x80, 0x3C, 0x40, 0, 0xFF, 0x2F, 0,
-];
-
 /// Ticks from and to which an excerpt goes, and the excerpt.
 const EXCERPTS: &[(u64, Option<u64>, &[u8])] = &[
     (480, None, &SECOND),
@@ -107,12 +84,6 @@ const EXCERPTS: &[(u64, Option<u64>, &[u8])] = &[
     (1 << 40, Some(1 << 40), &NOTHING),
     (0, Some(480), &FIRST),
     (0, None, &TWO),
-];
-
-/// The same for the chord.
-const CHORD_EXCERPTS: &[(u64, Option<u64>, &[u8])] = &[
-    (0, Some(9), &CHORD_BEGINNING),
-    (5, Some(9), &CHORD_MIDDLE),
 ];
 
 // One caller: an excerpt of the bytes of a file.
@@ -190,23 +161,6 @@ fn excerpts_have_their_bytes(rt: HostRuntime) -> Result<(), AllocError> {
         has_excerpt(
             &rt,
             &TWO,
-            &Profile::first(),
-            (*begin, *until),
-            &[],
-            count,
-            want,
-        )?;
-    }
-    Ok(())
-}
-
-#[test]
-fn notes_are_closed_by_channel_and_key(rt: HostRuntime) -> Result<(), AllocError> {
-    for (begin, until, want) in CHORD_EXCERPTS {
-        let count = Some(want.len() as u64);
-        has_excerpt(
-            &rt,
-            &CHORD,
             &Profile::first(),
             (*begin, *until),
             &[],

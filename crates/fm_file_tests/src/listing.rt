@@ -73,11 +73,6 @@ fn has_listing<R: Abort + AllocGlobal>(
 }
 
 #[test]
-fn a_quarter_note_is_listed(rt: HostRuntime) -> Result<(), AllocError> {
-    has_listing(&rt, &NOTE, &[], true, NOTE_LISTING.as_bytes())
-}
-
-#[test]
 fn tracks_are_listed_with_whole_events(rt: HostRuntime) -> Result<(), AllocError> {
     has_listing(&rt, &OTHERS, &[], true, OTHERS_LISTING.as_bytes())
 }

@@ -2,6 +2,7 @@
 use crate::same::same;
 use fm_msg::{DIVISION, Event, Msg, Profile};
 use std::cmp::Ordering;
+use std::process::Abort;
 
 /// Messages, how many bytes each has, and what lies in three bytes then, which were AA.
 const MESSAGES: &[(Msg, usize, [u8; 3])] = &[
@@ -65,13 +66,19 @@ const MESSAGES: &[(Msg, usize, [u8; 3])] = &[
     ),
 ];
 
+// A message has the bytes of its row.
+fn has_bytes<R: Abort>(rt: &R, row: &(Msg, usize, [u8; 3])) {
+    let (msg, count, bytes) = *row;
+    assert!(rt; msg.is_in_range());
+    let mut out = [0xAA; 3];
+    let found = msg.bytes(&mut out);
+    same(rt, &(found, out), &(count, bytes));
+}
+
 #[test]
 fn each_message_has_the_bytes_of_the_standard(rt: HostRuntime) {
-    for (msg, count, bytes) in MESSAGES {
-        let mut out = [0xAA; 3];
-        assert!(rt; msg.is_in_range());
-        let found = (*msg, msg.bytes(&mut out), out);
-        same(&rt, &found, &(*msg, *count, *bytes));
+    for row in MESSAGES {
+        has_bytes(&rt, row);
     }
 }
 
@@ -95,16 +102,10 @@ fn events_at_one_tick_go_by_process_and_index(rt: HostRuntime) {
 }
 
 #[test]
-fn a_first_file_has_480_ticks_a_quarter_note(rt: HostRuntime) {
-    let profile = Profile {
-        running: false,
-        division: 480,
-    };
-    same(&rt, &(Profile::first(), DIVISION), &(profile, 480));
-}
-
-#[test]
-fn a_second_file_has_running_status_and_any_division(rt: HostRuntime) {
-    let profile = Profile::second(96);
-    same(&rt, &(profile.running, profile.division), &(true, 96));
+fn files_have_480_ticks_a_quarter_note_or_any_division(rt: HostRuntime) {
+    let first = Profile::first();
+    let second = Profile::second(96);
+    let found = (first.running, first.division, DIVISION);
+    same(&rt, &found, &(false, 480, 480));
+    same(&rt, &(second.running, second.division), &(true, 96));
 }

@@ -28,18 +28,6 @@ const TWO_PARTS: [u8; 78] = [
     0xFF, 0x2F, 0,
 ];
 
-/// A file without an event.
-const EMPTY: [u8; 33] = [
-    0x4D, 0x54, 0x68, 0x64, 0, 0, 0, 6, 0, 0, 0, 1, 1, 0xE0, 0x4D, 0x54, 0x72, 0x6B, 0, 0, 0, 0x0B,
-    0, 0xFF, 0x51, 3, 7, 0xA1, 0x20, 0, 0xFF, 0x2F, 0,
-];
-
-/// Its tempo.
-const EMPTY_PARTS: [u8; 33] = [
-    0x4D, 0x54, 0x68, 0x64, 0, 0, 0, 6, 0, 1, 0, 1, 1, 0xE0, 0x4D, 0x54, 0x72, 0x6B, 0, 0, 0, 0x0B,
-    0, 0xFF, 0x51, 3, 7, 0xA1, 0x20, 0, 0xFF, 0x2F, 0,
-];
-
 /// A file with running status: two note-ons on channel 2, and a program on channel 1.
 const RUNNING: [u8; 43] = [
     0x4D, 0x54, 0x68, 0x64, 0, 0, 0, 6, 0, 0, 0, 1, 3, 0xC0, 0x4D, 0x54, 0x72, 0x6B, 0, 0, 0, 0x15,
@@ -83,16 +71,6 @@ fn has_parts<R: Abort + AllocGlobal>(
     same(rt, &answer, &count);
     same_bytes(rt, sink.content(), left);
     Ok(())
-}
-
-#[test]
-fn a_file_has_a_track_for_each_channel(rt: HostRuntime) -> Result<(), AllocError> {
-    has_parts(&rt, &TWO, &[], Some(78), &TWO_PARTS)
-}
-
-#[test]
-fn a_file_without_events_has_one_track(rt: HostRuntime) -> Result<(), AllocError> {
-    has_parts(&rt, &EMPTY, &[], Some(33), &EMPTY_PARTS)
 }
 
 #[test]
