@@ -3,6 +3,7 @@
 ghost use Rattle.std.specs.Prelude.{◌<◌};
 ghost use Rattle.fm_msg.specs.declared.msg.TheConstants.{DATA_VALUES};
 
+use crate::same::same;
 use fm_audit::{AuditFault, audit, header};
 use fm_core::Reason;
 use fm_edge::MemorySink;
@@ -13,20 +14,6 @@ use fm_smf::Profile;
 use std::alloc::{AllocError, Global};
 use std::process::Abort;
 use std::test::*;
-
-/// One seat, room 1, lead 0, and `formula 1;`, which has no notes.
-const SILENT: [u8; 24] = *b"FMR1\x01\x01\0\0\0\0\0\0\0\x0Aformula 1;";
-
-/// Its whole run: process 0 is claimed, recorded and given back at its end.
-const SILENT_RUN: [u8; 22] = [
-    2, 0, 0, 0, 4, 0, 0, 0, 6, 0, 0, 0, 0, 0, 0, 0, 0, 0, 0, 0, 0, 1,
-];
-
-/// Its file.
-const SILENT_FILE: [u8; 33] = [
-    0x4D, 0x54, 0x68, 0x64, 0, 0, 0, 6, 0, 0, 0, 1, 1, 0xE0, 0x4D, 0x54, 0x72, 0x6B, 0, 0, 0, 11,
-    0, 0xFF, 0x51, 3, 7, 0xA1, 0x20, 0, 0xFF, 0x2F, 0,
-];
 
 /// One seat, room 2, lead 432, and a quarter note.
 const NOTE: [u8; 37] = *b"FMR1\x01\x02\0\0\x01\xB0\0\0\0\x17formula 1;note c4 1/4;\n";
@@ -75,8 +62,6 @@ type Voice = (Option<(u8, u64)>, &'static [u32], u64);
 /// The processes of a score, the head of its record, and the steps of a whole run.
 type Score = (&'static [Voice], &'static [u8], &'static [u8]);
 
-const SILENT_SCORE: Score = (&[(None, &[], 0)], &SILENT, &SILENT_RUN);
-
 const NOTE_SCORE: Score = (&[(Some((60, 432)), &[], 480)], &NOTE, &NOTE_RUN);
 
 const VOICES_SCORE: Score = (
@@ -96,24 +81,6 @@ type Steps = (usize, usize, &'static [u8]);
 
 /// Steps, what the audit answers, and what the sink holds then.
 type Check = (Steps, Result<u64, AuditFault>, &'static [u8]);
-
-const SILENT_CHECKS: &[Check] = &[
-    ((22, 22, &[]), Ok(33), &SILENT_FILE),
-    ((8, 22, &[]), Err(AuditFault::Unfinished { steps: 2 }), &[]),
-    (
-        (4, 8, &[]),
-        Err(AuditFault::Refused {
-            step: 1,
-            reason: Reason::WrongEnd,
-        }),
-        &[],
-    ),
-    (
-        (22, 22, &[10]),
-        Err(AuditFault::BadStep { position: 22 }),
-        &[],
-    ),
-];
 
 const NOTE_CHECKS: &[Check] = &[
     ((50, 50, &[]), Ok(42), &NOTE_FILE),
@@ -236,8 +203,8 @@ fn audits<R: Abort + AllocGlobal>(
     assert!(rt; sink.content().is_empty());
     let reel = header(&bytes).map_err(|_| "header")?;
     let told = audit(rt.alloc(), lines, &Profile::first(), &reel, &mut sink);
-    assert_eq!(rt; told, check.1);
-    assert_eq!(rt; sink.content(), check.2);
+    same(rt, &told, &check.1);
+    same(rt, &sink.content(), &check.2);
     Ok(())
 }
 
@@ -252,11 +219,6 @@ fn all_answer<R: Abort + AllocGlobal>(
         audits(rt, score, fails, check)?;
     }
     Ok(())
-}
-
-#[test]
-fn a_run_without_notes_gives_its_file_or_its_first_fault(rt: HostRuntime) -> Result<(), Fail> {
-    all_answer(&rt, &SILENT_SCORE, false, SILENT_CHECKS)
 }
 
 #[test]

@@ -12,4 +12,6 @@ mod hall;
 #[cfg(test)]
 mod record;
 #[cfg(test)]
+mod same;
+#[cfg(test)]
 mod texts;

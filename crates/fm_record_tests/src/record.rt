@@ -2,6 +2,7 @@
 
 ghost use Rattle.fm_record.specs.StepBytes.{HasFields};
 
+use crate::same::same;
 use fm_record::{BadHeader, MAX_RECORD, Reel, Step, Tape, header, read_step};
 use std::alloc::AllocError;
 use std::process::Abort;
@@ -89,15 +90,15 @@ fn push_pairs<R: Abort>(rt: &R, tape: &mut Tape) {
 
 // Compares the parts of a record of that tape.
 fn has_its_parts<R: Abort>(rt: &R, reel: &Reel<'_>) {
-    assert_eq!(rt; (reel.seats, reel.room, reel.lead), (3, 32, 7_680));
-    assert_eq!(rt; reel.text, b"formula 1;".as_slice());
-    assert_eq!(rt; reel.steps, STEPS.as_slice());
+    same(rt, &(reel.seats, reel.room, reel.lead), &(3, 32, 7_680));
+    same(rt, &reel.text, &b"formula 1;".as_slice());
+    same(rt, &reel.steps, &STEPS.as_slice());
 }
 
 // Compares the bytes of that tape.
 fn is_whole<R: Abort>(rt: &R, bytes: &[u8]) {
     assert!(rt; bytes.len() == 66);
-    assert_eq!(rt; &bytes[..24], HEAD.as_slice());
+    same(rt, &&bytes[..24], &HEAD.as_slice());
     match header(bytes) {
         Ok(reel) => has_its_parts(rt, &reel),
         Err(_) => panic!(rt; "the head of a tape can stand"),
@@ -107,8 +108,8 @@ fn is_whole<R: Abort>(rt: &R, bytes: &[u8]) {
 #[test]
 fn a_tape_is_a_record(rt: HostRuntime) -> Result<(), Fail> {
     let tape = filled(&rt)?;
-    assert!(rt; !tape.is_short());
-    assert_eq!(rt; tape.steps(), STEPS.as_slice());
+    same(&rt, &tape.is_short(), &false);
+    same(&rt, &tape.steps(), &STEPS.as_slice());
     is_whole(&rt, tape.bytes());
     Ok(())
 }
@@ -148,18 +149,16 @@ const HEADS: &[(&[u8], u32)] = &[
     (b"FMR1\x01\x01\0\0\0\0\0\0\0\x0Aformula 1", 10),
 ];
 
+// The first field of these bytes that cannot stand is at this position.
+fn is_told<R: Abort>(rt: &R, bytes: &[u8], position: u32) {
+    assert!(rt; bytes.len() <= MAX_RECORD);
+    let told = header(bytes).map(|reel| reel.room);
+    same(rt, &told, &Err(BadHeader { position }));
+}
+
 #[test]
 fn the_first_field_that_cannot_stand_is_told(rt: HostRuntime) {
     for (bytes, position) in HEADS {
-        if bytes.len() > MAX_RECORD {
-            continue;
-        }
-        let told = header(bytes).map(|reel| reel.room);
-        assert_eq!(rt;
-            told,
-            Err(BadHeader {
-                position: *position
-            })
-        );
+        is_told(&rt, bytes, *position);
     }
 }

@@ -1,5 +1,6 @@
 //! What the faults of records and of runs say.
 
+use crate::same::same;
 use fm_audit::{AuditFault, BadHeader};
 use fm_core::Reason;
 use fm_lex::Spot;
@@ -71,7 +72,7 @@ fn says<R: Abort + AllocGlobal, T: Display>(
     wanted: &str,
 ) -> Result<(), AllocError> {
     let text = said(rt.alloc(), fault)?;
-    assert_eq!(rt; text.as_str(), wanted);
+    same(rt, &text.as_str(), &wanted);
     Ok(())
 }
 

@@ -1,5 +1,6 @@
 //! Small pieces played to their end by the next steps alone.
 use super::lines;
+use crate::same::same;
 use fm_core::Floor;
 use fm_hall::{Hall, MAX_LEAD, Taken, are_valid};
 use fm_msg::Event;
@@ -129,7 +130,7 @@ const PIECES: &[Row] = &[
 // Takes the next step, where there is one.
 fn goes_on<R: Abort>(rt: &R, hall: &mut Hall) {
     if let Some(step) = hall.next_step() {
-        assert_eq!(rt; hall.step(&step), Taken::Taken);
+        same(rt, &hall.step(&step), &Taken::Taken);
     }
 }
 
@@ -139,12 +140,12 @@ fn goes_to_the_end<R: Abort>(rt: &R, hall: &mut Hall) {
         goes_on(rt, hall);
     }
     assert!(rt; hall.next_step().is_none());
-    assert_eq!(rt; hall.floor(), Floor::Done);
+    same(rt, &hall.floor(), &Floor::Done);
 }
 
 // Compares an event with its time, process and index.
 fn is_event<R: Abort>(rt: &R, event: &Event, wanted: (u64, u32, u32)) {
-    assert_eq!(rt; (event.time(), event.process(), event.index()), wanted);
+    same(rt, &(event.time(), event.process(), event.index()), &wanted);
 }
 
 // Compares what is released.
@@ -164,12 +165,18 @@ fn opens<R: Abort + AllocGlobal>(rt: &R, row: &Row) -> Result<Hall, AllocError> 
     Hall::open(rt.alloc(), made, seats, room, lead)
 }
 
+// Plays a row to its end.
+fn plays<R: Abort + AllocGlobal>(rt: &R, row: &Row) -> Result<(), AllocError> {
+    let mut hall = opens(rt, row)?;
+    goes_to_the_end(rt, &mut hall);
+    are_events(rt, hall.released(), row.4);
+    Ok(())
+}
+
 #[test]
 fn the_next_steps_alone_play_small_pieces_to_their_end(rt: HostRuntime) -> Result<(), Fail> {
     for row in PIECES {
-        let mut hall = opens(&rt, row)?;
-        goes_to_the_end(&rt, &mut hall);
-        are_events(&rt, hall.released(), row.4);
+        plays(&rt, row)?;
     }
     Ok(())
 }
