@@ -10,8 +10,6 @@
 mod laws;
 mod quotient;
 mod stretch;
-#[cfg(test)]
-mod tests;
 mod tick;
 
 pub use laws::bounds_name_one_number;
