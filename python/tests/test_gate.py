@@ -35,6 +35,16 @@ class Report(unittest.TestCase):
         self.assertEqual(lines[1], "2.5 minutes where the budget has 140 (code 2.1, tests 0.0, ground 0.0, edits 0.4)")
         self.assertEqual(lines[2], "the dearest crates, in minutes: fm_crew 2.1, fm_msg 0.4")
 
+    def test_a_crate_past_its_share_is_named(self) -> None:
+        share = report.read_seconds(report.SHARES)
+        self.assertEqual(report.past_share(share), [])
+        more = {**share, "fm_crew": 2 * share["fm_crew"] + 20, "fm_new": 30.0, "fm_msg": share["fm_msg"] + 1}
+        self.assertEqual(report.past_share(more), [f"fm_crew {more['fm_crew']:.0f} for {share['fm_crew']:.0f}", "fm_new 30 for 0"])
+
+    def test_a_new_table_of_shares_is_scaled(self) -> None:
+        lines = report.share_lines(report.by_crate(self.SECONDS))
+        self.assertEqual(lines[1:], ["fm_crew 126", "fm_msg 26"])
+
     def test_without_its_measure_a_run_is_not_compared(self) -> None:
         lines = report.budget_table(report.by_crate({Task("fm_crew", "code"): 1.0}))
         self.assertEqual(lines, ["no comparison with the budget: fm_msg was not proved in this run"])

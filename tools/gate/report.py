@@ -4,6 +4,7 @@ import re
 from typing import Optional
 
 from crates import all_below, longest_chains, read_uses
+from left import read_seconds
 from sampling import KINDS, Task
 
 # The crate by whose code machines are compared, and the seconds that it takes on the machine of the budget.
@@ -11,6 +12,12 @@ MEASURE, MEASURE_SECONDS = "fm_msg", 26.0
 
 # How many processor minutes the gate may take there from nothing.
 BUDGET_MINUTES = 140
+
+# The share of each crate: the seconds that it took there in the run by which the budget was last compared.
+SHARES = os.path.join(os.path.dirname(os.path.abspath(__file__)), "shares.txt")
+
+# A crate is past its share if it takes so many times as much, and so many seconds more.
+PAST, PAST_SECONDS = 1.25, 20.0
 
 # What the gate says of an edit that is refused.
 REFUSED = re.compile(r"(?:rt: )?must-fail (\w+)/(\S+?)(?:\.edit)?: refused, as it must be(?:: )?(.*)")
@@ -69,7 +76,29 @@ def budget_table(rows: dict[str, Row]) -> list[str]:
         f"{MEASURE} took {measure:.0f} s of code, so each second counts {scale * 60:.2f} times:",
         f"{minutes:.1f} minutes where the budget has {BUDGET_MINUTES} ({kinds})",
         "the dearest crates, in minutes: " + ", ".join(f"{crate} {sum(row.values()) * scale:.1f}" for crate, row in dearest),
+        "past their share, in seconds: " + (", ".join(past_share(scaled(rows))) or "none"),
     ]
+
+
+def scaled(rows: dict[str, Row]) -> dict[str, float]:
+    """Returns what each crate would take on the machine of the budget, in seconds."""
+    measure = rows.get(MEASURE, {}).get("code", 0.0)
+    return {crate: sum(row.values()) * MEASURE_SECONDS / measure for crate, row in rows.items()} if measure else {}
+
+
+def past_share(seconds: dict[str, float]) -> list[str]:
+    """Returns the crates that take more than their share, the worst first, each with its seconds and its share."""
+    share = read_seconds(SHARES)
+    past = [crate for crate, taken in seconds.items()
+            if taken > PAST * share.get(crate, 0.0) and taken > PAST_SECONDS + share.get(crate, 0.0)]
+    past.sort(key=lambda crate: share.get(crate, 0.0) - seconds[crate])
+    return [f"{crate} {seconds[crate]:.0f} for {share.get(crate, 0.0):.0f}" for crate in past]
+
+
+def share_lines(rows: dict[str, Row]) -> list[str]:
+    """Returns the lines of a new table of shares."""
+    head = f"# Seconds that each crate took in a run of the gate from nothing, where the code of {MEASURE} takes {MEASURE_SECONDS:.0f} s: its share of the budget."
+    return [head, *(f"{crate} {seconds:.0f}" for crate, seconds in sorted(scaled(rows).items()))]
 
 
 def edit_names(crate: str) -> list[str]:
