@@ -10,4 +10,4 @@ pub mod PhraseLemmas
 pub mod LookLemmas
 pub mod WalkLemmas
 pub mod MapLemmas
-pub mod OpeningLemmas
+pub mod ShellLemmas

@@ -7,4 +7,4 @@ pub mod Refusal
 pub mod Forking
 pub mod Growing
 pub mod Walked
-pub mod Opening
+pub mod Shell

@@ -12,7 +12,7 @@ ghost use Rattle.fm_expansion.specs.Numbering.{Catalogue, numbered, draw_numbere
 ghost use Rattle.fm_expansion.specs.Numbering.{note_numbered, span_numbered};
 ghost use Rattle.fm_outline.specs.View.{Look, tables_view, instruction_view};
 ghost use Rattle.fm_outline.specs.InRange.{AmountFits};
-ghost use Rattle.fm_outline.specs.declared.lasting.Lasting.TheVariants as length;
+ghost use Rattle.fm_outline.specs.declared.lasting.Lasting.TheVariants as lasts;
 ghost use Rattle.fm_outline.specs.declared.step.Instruction.TheVariants as does;
 
 use crate::lasting::Lasting;
@@ -25,7 +25,7 @@ use fm_value::Expr;
 use std::alloc::{AllocError, Global};
 
 /// A note of a duration of its own.
-pub(crate) fn note(
+pub(crate) fn own_note(
     alloc: Global,
     whole: u32,
     pitches: &[Pitch],
@@ -82,7 +82,7 @@ pub(crate) fn rest(
 
 /// A rest of the rhythm's duration.
 pub(crate) fn skip() -> Instruction
-    ensures { result ≡ does.Rest length.Beat }
+    ensures { result ≡ does.Rest lasts.Beat }
 {
     Instruction::Rest {
         lasting: Lasting::Beat,

@@ -10,16 +10,16 @@ ghost use Rattle.fm_expansion.specs.Numbering.{Catalogue, numbered, instruction_
 ghost use Rattle.fm_outline.specs.View.{Look, tables_view, instruction_view, block_view};
 ghost use Rattle.fm_ranges.specs.Own.{own_faults};
 ghost use Rattle.fm_outline.specs.Knows.{Knows, names_of};
-ghost use Rattle.fm_outline.specs.Opening.{Opens};
+ghost use Rattle.fm_outline.specs.Shell.{Opens};
 ghost use Rattle.fm_outline.specs.Refusal.{Tells};
 
 use crate::fork::step_at;
 use crate::known::Known;
-use crate::leaf::{control, note, play, rest, send, set, skip};
+use crate::leaf::{control, own_note, play, rest, send, set, skip};
 use crate::number::{add_lengths, add_numbers};
-use crate::opening::{Opening, drawn, gate, repeated, under, volume, warped};
 use crate::quality::Quality;
 use crate::refusal::{answered, called, made};
+use crate::shell::{Shell, deformed, drawn, gate, repeated, under, volume};
 use crate::step::{Instruction, Step};
 use crate::tables::{Tables, append};
 use fm_grammar::{Item, What};
@@ -46,7 +46,7 @@ fn outline_item(
 {
     match &item.what {
         What::Note { pitches, duration } => {
-            made(note(alloc, known.whole, pitches, duration, tables))
+            made(own_note(alloc, known.whole, pitches, duration, tables))
         }
         What::Play { pitches } => made(play(alloc, pitches, tables)),
         What::Rest { duration } => made(rest(alloc, known.whole, duration, tables)),
@@ -56,55 +56,61 @@ fn outline_item(
         What::Bend { amount } => made(send(alloc, Point::Bend, amount, tables)),
         What::Set { register, value } => made(set(alloc, *register, value, tables)),
         What::If { test, yes, no } => outline_choice(alloc, test, yes, no, known, tables),
-        What::Repeat { count, body } => inside(alloc, repeated(*count), body, known, tables),
+        What::Repeat { count, body } => enclosed(alloc, repeated(*count), body, known, tables),
         What::Again { count, most, body } => {
             let count = drawn(tables.add_expr(alloc, count), *most);
-            inside(alloc, count, body, known, tables)
+            enclosed(alloc, count, body, known, tables)
         }
         What::Do { name } => called(known.phrase(name)),
         What::Par { branches } => outline_fork(alloc, branches, known, tables),
-        What::Warp { name, body } => inside(alloc, warped(known.shape(name)), body, known, tables),
+        What::Warp { name, body } => enclosed(
+            alloc,
+            deformed(known.shape(name)),
+            body,
+            known,
+            tables,
+        ),
         What::Channel { number, body } => {
             let number = number.value as u8;
-            inside(alloc, Ok(Opening::Channel { number }), body, known, tables)
+            enclosed(alloc, Ok(Shell::Channel { number }), body, known, tables)
         }
-        What::Volume { number, body } => { inside(alloc, volume(*number), body, known, tables) }
-        What::Gate { number, body } => { inside(alloc, gate(*number), body, known, tables) }
+        What::Volume { number, body } => { enclosed(alloc, volume(*number), body, known, tables) }
+        What::Gate { number, body } => { enclosed(alloc, gate(*number), body, known, tables) }
         What::Rhythm { list, body } => {
             let list = add_lengths(alloc, known.whole, list, tables);
-            inside(alloc, under(Quality::Duration, list), body, known, tables)
+            enclosed(alloc, under(Quality::Duration, list), body, known, tables)
         }
         What::Artic { list, body } => {
             let list = under(Quality::Articulation, add_numbers(alloc, list, tables));
-            inside(alloc, list, body, known, tables)
+            enclosed(alloc, list, body, known, tables)
         }
         What::Loud { list, body } => {
             let list = under(Quality::Loudness, add_numbers(alloc, list, tables));
-            inside(alloc, list, body, known, tables)
+            enclosed(alloc, list, body, known, tables)
         }
     }
 }
 
 // A statement with one block, behind what it says before that.
 #[cycle(statement)]
-fn inside(
+fn enclosed(
     alloc: Global,
-    opening: Result<Opening, CheckFault>,
+    shell: Result<Shell, CheckFault>,
     body: &[Item],
     known: &Known,
     tables: &mut Tables,
 ) -> Result<Instruction, CheckFault>
     ensures { (k : Catalogue) (look : Look) (s : tree.Stmt) (t : plain.Tables) →
         Knows known.now look k →
-        Opens k s (items_view body.now) t (tables_view tables.old) opening →
+        Opens k s (items_view body.now) t (tables_view tables.old) shell →
         Tells (stmt_faults (names_of k) s)
         (λ i. numbered (instruction_view look i) (tables_view tables.new) ≡ instruction_of k s t)
         result }
 {
-    match opening {
-        Ok(opening) => {
+    match shell {
+        Ok(shell) => {
             let body = outline_items(alloc, body, known, tables)?;
-            Ok(opening.round(body))
+            Ok(shell.round(body))
         }
         Err(fault) => Err(fault),
     }

@@ -4,6 +4,7 @@ ghost use Rattle.fm_strand.specs.Strand.{InCourse};
 
 mod cuts;
 mod overlaps;
+mod rich;
 
 use crate::note::plan_of_a_note;
 use crate::same::same_number;

@@ -13,15 +13,15 @@ use Rattle.fm_names.specs.Named.{named}
 use Rattle.fm_ranges.specs.Own.{own_faults}
 use Rattle.fm_rules.proofs.RangeLemmas.{none_first, none_second}
 use Rattle.fm_outline.specs.Knows.{names_of, shape_index, phrase_number}
-use Rattle.fm_outline.specs.Opening.{closed_behind}
+use Rattle.fm_outline.specs.Shell.{closed_behind}
 use Rattle.fm_outline.specs.View.{tables_view, block_view, instruction_view, step_view}
 use Rattle.fm_outline.specs.Growing.{followed}
-use Rattle.fm_outline.specs.declared.opening.Opening.TheVariants as opening
+use Rattle.fm_outline.specs.declared.shell.Shell.TheVariants as shell
 use Rattle.fm_outline.specs.declared.quality.Quality.TheVariants as quality
 use Rattle.fm_outline.specs.declared.step.Step.{Step}
 use Rattle.fm_outline.proofs.ItemLemmas.{note_what, play_what, rest_what, skip_what, control_what, program_what, bend_what, set_what, choice_what, repeat_what, again_what, call_what, par_what, warp_what, channel_what, volume_what, gate_what, rhythm_what, artic_what, loud_what}
 use Rattle.fm_outline.proofs.InsideLemmas.{own_clean, own_told, leaf_clean, behind_own}
-use Rattle.fm_outline.proofs.OpeningLemmas.{plain_opens, added_opens, warp_opens, call_tells}
+use Rattle.fm_outline.proofs.ShellLemmas.{plain_opens, added_opens, warp_opens, call_tells}
 use Rattle.fm_outline.proofs.RefusalLemmas.{handed_tells, checked_tells, before, behind, made_tells}
 use Rattle.fm_outline.proofs.SeenLemmas.{choice_seen, par_seen, skip_seen}
 use Rattle.fm_outline.proofs.GrowingLemmas.{joined_behind, items_from, arms_from, steps_more, arms_more, choice_numbered}
@@ -29,16 +29,16 @@ use Rattle.fm_outline.proofs.statement.+statement.Goals as goal
 
 -- ---- statements without blocks
 
-pub outline_item-note-requires-clause-pitches : goal.outline_item-note-requires-clause-pitches
-outline_item-note-requires-clause-pitches t c =
+pub outline_item-own_note-requires-clause-pitches : goal.outline_item-own_note-requires-clause-pitches
+outline_item-own_note-requires-clause-pitches t c =
     let ps = map pitch_view c.deref.result.now in
     let d = duration_view c.in-Note.duration in
     let seen : (item_view c.args.item.now).what ≡ tree.note ps d
     = note_what c.args.item.now c.in-Note.pitches c.in-Note.duration c.deref.result.now c.in-Note.is c.deref.ensures.value in
     none_first (pitches_faults ps) (duration_faults c.args.known.now.whole d) (own_clean c.args.known.now.whole seen c.requires)
 
-pub outline_item-note-requires-clause-duration : goal.outline_item-note-requires-clause-duration
-outline_item-note-requires-clause-duration t c =
+pub outline_item-own_note-requires-clause-duration : goal.outline_item-own_note-requires-clause-duration
+outline_item-own_note-requires-clause-duration t c =
     let ps = map pitch_view c.deref.result.now in
     let d = duration_view c.in-Note.duration in
     let seen : (item_view c.args.item.now).what ≡ tree.note ps d
@@ -49,7 +49,7 @@ pub outline_item-returns-in-Note : goal.outline_item-returns-in-Note
 outline_item-returns-in-Note t c = λ k look knows.
     let seen
     = note_what c.args.item.now c.in-Note.pitches c.in-Note.duration c.deref.result.now c.in-Note.is c.deref.ensures.value in
-    made_tells _ c.note.result c.made.ensures (leaf_clean k seen knows.whole refl c.requires) c.note.ensures
+    made_tells _ c.own_note.result c.made.ensures (leaf_clean k seen knows.whole refl c.requires) c.own_note.ensures
     (λ i is. rw (seen, knows.whole) (is look))
 
 pub outline_item-returns-in-Play : goal.outline_item-returns-in-Play
@@ -102,7 +102,8 @@ outline_item-returns-in-Do t c = λ k look knows.
     let name = name_view c.in-Do.name in
     let seen = call_what c.args.item.now c.in-Do.name c.in-Do.is in
     rw seen (call_tells k (tables_view c.args.tables.now) look name
-    (phrase_number (named c.args.known.now.names name.text)) c.phrase.result c.called.ensures c.phrase.ensures (knows.is_phrase name.text) (knows.phrases name.text))
+    (phrase_number (named c.args.known.now.names name.text)) c.phrase.result c.called.ensures c.phrase.ensures
+    (knows.is_phrase name.text) (knows.phrases name.text))
 
 -- ---- statements with one block
 
@@ -112,8 +113,8 @@ outline_item-returns-in-Repeat t c = λ k look knows.
     let n = c.in-Repeat.count in
     let u = tables_view c.args.tables.now in
     let seen = repeat_what c.args.item.now n c.in-Repeat.body b c.in-Repeat.is c.deref-in-Repeat.ensures.value in
-    c.inside.ensures k look (item_view c.args.item.now).what u knows
-    (plain_opens k _ (items_view b) u (opening.Loop (count.Fixed n.value)) c.repeated.ensures
+    c.enclosed.ensures k look (item_view c.args.item.now).what u knows
+    (plain_opens k _ (items_view b) u (shell.Loop (count.Fixed n.value)) c.repeated.ensures
     (behind_own k (body_faults (names_of k) (items_view b)) seen knows.whole refl c.requires)
     (ap (λ s. instruction_of k s u) seen))
 
@@ -125,8 +126,8 @@ outline_item-returns-in-Again t c = λ k look knows.
     let u = tables_view c.args.tables.now in
     let seen = again_what c.args.item.now c.in-Again.count n c.in-Again.body e b c.in-Again.is c.deref-in-Again.ensures
     c.deref-in-Again-2.ensures.value in
-    c.inside-in-Again.ensures k look (item_view c.args.item.now).what u knows
-    (added_opens k _ (items_view b) u _ (λ x. opening.Loop (count.Drawn x n.value)) c.add_expr.result (length u.exprs)
+    c.enclosed-in-Again.ensures k look (item_view c.args.item.now).what u knows
+    (added_opens k _ (items_view b) u _ (λ x. shell.Loop (count.Drawn x n.value)) c.add_expr.result (length u.exprs)
     (expr_added (expr_view e).nodes u) c.drawn-count.ensures c.add_expr.ensures.at c.add_expr.ensures.added
     (behind_own k (body_faults (names_of k) (items_view b)) seen knows.whole refl c.requires)
     (ap (λ s. instruction_of k s u) seen))
@@ -136,9 +137,9 @@ outline_item-returns-in-Warp t c = λ k look knows.
     let b = c.deref-in-Warp.result.now in
     let name = name_view c.in-Warp.name in
     let seen = warp_what c.args.item.now c.in-Warp.name c.in-Warp.body b c.in-Warp.is c.deref-in-Warp.ensures.value in
-    rw seen (c.inside-in-Warp.ensures k look (tree.warp name (items_view b)) (tables_view c.args.tables.now) knows
+    rw seen (c.enclosed-in-Warp.ensures k look (tree.warp name (items_view b)) (tables_view c.args.tables.now) knows
     (warp_opens k (items_view b) (tables_view c.args.tables.now) name
-    (shape_index (named c.args.known.now.names name.text)) c.shape.result c.warped.ensures c.shape.ensures
+    (shape_index (named c.args.known.now.names name.text)) c.shape.result c.deformed.ensures c.shape.ensures
     (knows.is_shape name.text) (knows.shapes name.text)))
 
 pub outline_item-returns-in-Channel : goal.outline_item-returns-in-Channel
@@ -147,8 +148,8 @@ outline_item-returns-in-Channel t c = λ k look knows.
     let n = c.in-Channel.number in
     let u = tables_view c.args.tables.now in
     let seen = channel_what c.args.item.now n c.in-Channel.body b c.in-Channel.is c.deref-in-Channel.ensures.value in
-    c.inside-in-Channel.ensures k look (item_view c.args.item.now).what u knows
-    (plain_opens k _ (items_view b) u (opening.Channel n.value) refl
+    c.enclosed-in-Channel.ensures k look (item_view c.args.item.now).what u knows
+    (plain_opens k _ (items_view b) u (shell.Channel n.value) refl
     (behind_own k (body_faults (names_of k) (items_view b)) seen knows.whole refl c.requires)
     (ap (λ s. instruction_of k s u) seen))
 
@@ -158,8 +159,8 @@ outline_item-returns-in-Volume t c = λ k look knows.
     let n = c.in-Volume.number in
     let u = tables_view c.args.tables.now in
     let seen = volume_what c.args.item.now n c.in-Volume.body b c.in-Volume.is c.deref-in-Volume.ensures.value in
-    c.inside-in-Volume.ensures k look (item_view c.args.item.now).what u knows
-    (plain_opens k _ (items_view b) u (opening.Steady quality.Loudness n.value) c.volume.ensures
+    c.enclosed-in-Volume.ensures k look (item_view c.args.item.now).what u knows
+    (plain_opens k _ (items_view b) u (shell.Steady quality.Loudness n.value) c.volume.ensures
     (behind_own k (body_faults (names_of k) (items_view b)) seen knows.whole refl c.requires)
     (ap (λ s. instruction_of k s u) seen))
 
@@ -169,8 +170,8 @@ outline_item-returns-in-Gate t c = λ k look knows.
     let n = c.in-Gate.number in
     let u = tables_view c.args.tables.now in
     let seen = gate_what c.args.item.now n c.in-Gate.body b c.in-Gate.is c.deref-in-Gate.ensures.value in
-    c.inside-in-Gate.ensures k look (item_view c.args.item.now).what u knows
-    (plain_opens k _ (items_view b) u (opening.Steady quality.Articulation n.value) c.gate.ensures
+    c.enclosed-in-Gate.ensures k look (item_view c.args.item.now).what u knows
+    (plain_opens k _ (items_view b) u (shell.Steady quality.Articulation n.value) c.gate.ensures
     (behind_own k (body_faults (names_of k) (items_view b)) seen knows.whole refl c.requires)
     (ap (λ s. instruction_of k s u) seen))
 
@@ -181,13 +182,13 @@ outline_item-returns-in-Rhythm t c = λ k look knows.
     let u = tables_view c.args.tables.now in
     let seen = rhythm_what c.args.item.now c.in-Rhythm.list c.in-Rhythm.body l b c.in-Rhythm.is c.deref-in-Rhythm.ensures.value
     c.deref-in-Rhythm-2.ensures.value in
-    c.inside-in-Rhythm.ensures k look (item_view c.args.item.now).what u knows
-    (added_opens k _ (items_view b) u _ (opening.Under quality.Duration) c.add_lengths-list.result (length u.lists)
+    c.enclosed-in-Rhythm.ensures k look (item_view c.args.item.now).what u knows
+    (added_opens k _ (items_view b) u _ (shell.Under quality.Duration) c.add_lengths-list.result (length u.lists)
     (list_added (map (length_ticks c.args.known.now.whole) l) u) c.under.ensures c.add_lengths-list.ensures.at
     c.add_lengths-list.ensures.added (behind_own k (body_faults (names_of k) (items_view b)) seen knows.whole refl c.requires)
     (ap (λ s. instruction_of k s u) seen
     ∙ ap
-    (λ w. closed_behind (opening.Under quality.Duration (length u.lists))
+    (λ w. closed_behind (shell.Under quality.Duration (length u.lists))
     (block_of k (items_view b) (list_added (map (length_ticks w) l) u)))
     knows.whole))
 
@@ -198,8 +199,8 @@ outline_item-returns-in-Artic t c = λ k look knows.
     let u = tables_view c.args.tables.now in
     let seen = artic_what c.args.item.now c.in-Artic.list c.in-Artic.body l b c.in-Artic.is c.deref-in-Artic.ensures.value
     c.deref-in-Artic-2.ensures.value in
-    c.inside-in-Artic.ensures k look (item_view c.args.item.now).what u knows
-    (added_opens k _ (items_view b) u _ (opening.Under quality.Articulation) c.add_numbers.result (length u.lists)
+    c.enclosed-in-Artic.ensures k look (item_view c.args.item.now).what u knows
+    (added_opens k _ (items_view b) u _ (shell.Under quality.Articulation) c.add_numbers.result (length u.lists)
     (list_added (map Number.value l) u)
     c.under-list.ensures c.add_numbers.ensures.at c.add_numbers.ensures.added
     (behind_own k (body_faults (names_of k) (items_view b)) seen knows.whole refl c.requires)
@@ -212,28 +213,28 @@ outline_item-returns-in-Loud t c = λ k look knows.
     let u = tables_view c.args.tables.now in
     let seen = loud_what c.args.item.now c.in-Loud.list c.in-Loud.body l b c.in-Loud.is c.deref-in-Loud.ensures.value
     c.deref-in-Loud-2.ensures.value in
-    c.inside-in-Loud.ensures k look (item_view c.args.item.now).what u knows
-    (added_opens k _ (items_view b) u _ (opening.Under quality.Loudness) c.add_numbers-in-Loud.result (length u.lists)
+    c.enclosed-in-Loud.ensures k look (item_view c.args.item.now).what u knows
+    (added_opens k _ (items_view b) u _ (shell.Under quality.Loudness) c.add_numbers-in-Loud.result (length u.lists)
     (list_added (map Number.value l) u) c.under-list-in-Loud.ensures c.add_numbers-in-Loud.ensures.at
     c.add_numbers-in-Loud.ensures.added
     (behind_own k (body_faults (names_of k) (items_view b)) seen knows.whole refl c.requires)
     (ap (λ s. instruction_of k s u) seen))
 
-pub inside-returns-in-Err : goal.inside-returns-in-Err
-inside-returns-in-Err t c = λ k look s u knows opens. rw c.in-Err.is at opens
+pub enclosed-returns-in-Err : goal.enclosed-returns-in-Err
+enclosed-returns-in-Err t c = λ k look s u knows opens. rw c.in-Err.is at opens
 
-pub inside-returns-in_err-body-in-Ok : goal.inside-returns-in_err-body-in-Ok
-inside-returns-in_err-body-in-Ok t c = λ k look s u knows opens.
+pub enclosed-returns-in_err-body-in-Ok : goal.enclosed-returns-in_err-body-in-Ok
+enclosed-returns-in_err-body-in-Ok t c = λ k look s u knows opens.
     handed_tells _ _ _ _ c.in_err-body-in-Ok.field-0.0 c.from_residual.ensures.1
     (c.in_err-body-in-Ok.ensures k look knows) (λ f told. (rw c.in-Ok.is at opens).0 ∙ told)
 
-pub inside-returns-in_ok-body-in-Ok : goal.inside-returns-in_ok-body-in-Ok
-inside-returns-in_ok-body-in-Ok t c = λ k look s u knows opens.
+pub enclosed-returns-in_ok-body-in-Ok : goal.enclosed-returns-in_ok-body-in-Ok
+enclosed-returns-in_ok-body-in-Ok t c = λ k look s u knows opens.
     let own = rw c.in-Ok.is at opens in
     let made = c.in_ok-body-in-Ok.ensures k look knows in (
       own.0 ∙ made.0,
       ap (λ i. numbered i (tables_view c.outline_items.new.tables)) (c.round.ensures look)
-          ∙ ap (closed_behind c.in-Ok.opening) made.1 ∙ sym own.1,
+          ∙ ap (closed_behind c.in-Ok.shell) made.1 ∙ sym own.1,
     )
 
 -- ---- choices and forks

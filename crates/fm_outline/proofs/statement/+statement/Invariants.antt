@@ -22,8 +22,8 @@ decreases-outline_step l = 4 * goal.size-outline_step l + 1
 abbrev pub decreases-outline_items : goal.decreases-outline_items
 decreases-outline_items l = 4 * goal.size-outline_items l + 2
 
-abbrev pub decreases-inside : goal.decreases-inside
-decreases-inside l = 4 * goal.size-inside l + 3
+abbrev pub decreases-enclosed : goal.decreases-enclosed
+decreases-enclosed l = 4 * goal.size-enclosed l + 3
 
 abbrev pub decreases-outline_choice : goal.decreases-outline_choice
 decreases-outline_choice l = 4 * max (most size-Item l.yes.now) (most size-Item l.no.now) + 3

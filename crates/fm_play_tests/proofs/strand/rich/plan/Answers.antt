@@ -1,5 +1,5 @@
 use Rattle.fm_strand.proofs.RichRows.{rich_of}
-use Rattle.fm_play_tests.proofs.strand.cuts.plan.Goals as goal
+use Rattle.fm_play_tests.proofs.strand.rich.plan.Goals as goal
 
 pub of-requires : goal.of-requires
 of-requires c =

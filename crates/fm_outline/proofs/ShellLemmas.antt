@@ -14,11 +14,11 @@ use Rattle.fm_meaning.specs.Ranges.{stmt_faults, body_faults, unknown_faults}
 use Rattle.fm_meaning.specs.Resolve.{meaning_of}
 use Rattle.fm_expansion.specs.Outline as plain
 use Rattle.fm_expansion.specs.Numbering.{Catalogue, numbered, instruction_of, block_of}
-use Rattle.fm_outline.specs.declared.opening.Opening.{Opening}
-use Rattle.fm_outline.specs.declared.opening.Opening.TheVariants as opening
+use Rattle.fm_outline.specs.declared.shell.Shell.{Shell}
+use Rattle.fm_outline.specs.declared.shell.Shell.TheVariants as shell
 use Rattle.fm_outline.specs.declared.step.Instruction.{Instruction}
 use Rattle.fm_outline.specs.Knows.{labels, names_of, number_or_told}
-use Rattle.fm_outline.specs.Opening.{closed_behind, opened, opened_warp, Opens}
+use Rattle.fm_outline.specs.Shell.{closed_behind, opened, opened_warp, Opens}
 use Rattle.fm_outline.specs.Refusal.{Tells, call_of}
 use Rattle.fm_outline.specs.View.{Look, phrase_at, instruction_view}
 use Rattle.fm_outline.proofs.NameLemmas.{number_clean}
@@ -26,14 +26,14 @@ use Rattle.fm_outline.proofs.RefusalLemmas.{before, behind}
 use Rattle.fm_outline.proofs.SeenLemmas.{call_seen}
 
 -- nothing is added to a table
-pub plain_opens : {r : Result Opening CheckFault} (k : Catalogue) (s : text.Stmt) (b : text.Body) (t : plain.Tables)
-    (o : Opening) → r ≡ Ok o → first_found (stmt_faults (names_of k) s) ≡ first_found (body_faults (names_of k) b)
+pub plain_opens : {r : Result Shell CheckFault} (k : Catalogue) (s : text.Stmt) (b : text.Body) (t : plain.Tables)
+    (o : Shell) → r ≡ Ok o → first_found (stmt_faults (names_of k) s) ≡ first_found (body_faults (names_of k) b)
     → instruction_of k s t ≡ closed_behind o (block_of k b t) → Opens k s b t t r
 plain_opens k s b t o is first made = subst (Opens k s b t t) (sym is) (first, made)
 
 -- an entry is added to a table, and the statement has its index
-pub added_opens : {r : Result Opening CheckFault} (k : Catalogue) (s : text.Stmt) (b : text.Body) (t u : plain.Tables)
-    (f : ℕ → Opening) (m : Result ℕ AllocError) (n : ℕ) (v : plain.Tables) → r ≡ opened f m
+pub added_opens : {r : Result Shell CheckFault} (k : Catalogue) (s : text.Stmt) (b : text.Body) (t u : plain.Tables)
+    (f : ℕ → Shell) (m : Result ℕ AllocError) (n : ℕ) (v : plain.Tables) → r ≡ opened f m
     → IfOk m (λ p. p ≡ n) → OnOk m (u ≡ v) → first_found (stmt_faults (names_of k) s) ≡ first_found (body_faults (names_of k) b)
     → instruction_of k s t ≡ closed_behind (f n) (block_of k b v) → Opens k s b t u r
 added_opens k s b t u f (Ok p) n v is at added first made =
@@ -47,7 +47,7 @@ unknown_first : (name : text.Leaf) (names : List (List ℕ)) → false ≡ list_
 unknown_first name names known = ap (λ b. first_found (fault_if (not b) name.spot unknown_name)) (sym known)
 
 -- a deformation, where the name is known
-pub warp_opens : {r : Result Opening CheckFault} (k : Catalogue) (b : text.Body) (t : plain.Tables) (name : text.Leaf)
+pub warp_opens : {r : Result Shell CheckFault} (k : Catalogue) (b : text.Body) (t : plain.Tables) (name : text.Leaf)
     (o : Option ℕ) (m : Result ℕ CheckFault) → r ≡ opened_warp m → m ≡ number_or_told name o
     → is_some o ≡ list_any (bytes_eq name.text) (labels k.shapes) → unwrap_or o 0 ≡ meaning_of name.text 0 k.shapes
     → Opens k (text.warp name b) b t t r
@@ -55,7 +55,7 @@ warp_opens k b t name (Some n) m is at known found =
     subst (Opens k (text.warp name b) b t t) (sym (is ∙ ap opened_warp at)) (
       behind (unknown_faults name (labels k.shapes)) (body_faults (names_of k) b)
           (number_clean name (labels k.shapes) (Some n) n known refl),
-      ap (λ x. closed_behind (opening.Warp x) (block_of k b t)) (sym found),
+      ap (λ x. closed_behind (shell.Warp x) (block_of k b t)) (sym found),
     )
 warp_opens k b t name None m is at known found =
     subst (Opens k (text.warp name b) b t t) (sym (is ∙ ap opened_warp at))

@@ -4,7 +4,7 @@ use Rattle.fm_tick.specs.declared.stretch.Stretch.{Stretch}
 use Rattle.fm_warp.specs.declared.part.Part.{Part}
 use Rattle.fm_warp.specs.declared.part.Part.TheVariants as part
 use Rattle.fm_strand.proofs.RichRows.{stretch-is}
-use Rattle.fm_play_tests.proofs.strand.cuts.outer_warp.Goals as goal
+use Rattle.fm_play_tests.proofs.strand.rich.outer_warp.Goals as goal
 
 pub returns : goal.returns
 returns c =
