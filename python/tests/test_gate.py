@@ -41,9 +41,9 @@ class Report(unittest.TestCase):
         more = {**share, "fm_crew": 2 * share["fm_crew"] + 20, "fm_new": 30.0, "fm_msg": share["fm_msg"] + 1}
         self.assertEqual(report.past_share(more), [f"fm_crew {more['fm_crew']:.0f} for {share['fm_crew']:.0f}", "fm_new 30 for 0"])
 
-    def test_a_new_table_of_shares_is_scaled(self) -> None:
+    def test_a_new_table_of_shares_divides_the_budget(self) -> None:
         lines = report.share_lines(report.by_crate(self.SECONDS))
-        self.assertEqual(lines[1:], ["fm_crew 126", "fm_msg 26"])
+        self.assertEqual(lines[1:], ["fm_crew 6963", "fm_msg 1437"])
 
     def test_without_its_measure_a_run_is_not_compared(self) -> None:
         lines = report.budget_table(report.by_crate({Task("fm_crew", "code"): 1.0}))

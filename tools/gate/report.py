@@ -13,7 +13,7 @@ MEASURE, MEASURE_SECONDS = "fm_msg", 26.0
 # How many processor minutes the gate may take there from nothing.
 BUDGET_MINUTES = 140
 
-# The share of each crate: the seconds that it took there in the run by which the budget was last compared.
+# The share of each crate, in seconds there: the budget, as one run of the gate divided it.
 SHARES = os.path.join(os.path.dirname(os.path.abspath(__file__)), "shares.txt")
 
 # A crate is past its share if it takes so many times as much, and so many seconds more.
@@ -97,8 +97,9 @@ def past_share(seconds: dict[str, float]) -> list[str]:
 
 def share_lines(rows: dict[str, Row]) -> list[str]:
     """Returns the lines of a new table of shares."""
-    head = f"# Seconds that each crate took in a run of the gate from nothing, where the code of {MEASURE} takes {MEASURE_SECONDS:.0f} s: its share of the budget."
-    return [head, *(f"{crate} {seconds:.0f}" for crate, seconds in sorted(scaled(rows).items()))]
+    head = f"# Seconds of each crate of the {BUDGET_MINUTES} processor minutes of the budget, as one run of the gate from nothing divided them."
+    scale = 60 * BUDGET_MINUTES / sum(totals(rows).values())
+    return [head, *(f"{crate} {sum(row.values()) * scale:.0f}" for crate, row in sorted(rows.items()))]
 
 
 def edit_names(crate: str) -> list[str]:
