@@ -1,10 +1,10 @@
 //! Plays a plan: alone, in rounds of threads, or by a crew of threads that run freely.
-ghost use Rattle.std.specs.Prelude.{◌≡◌, ◌*◌, nat_lt};
 ghost use Rattle.fm_edge.specs.Content.{IsNew};
 ghost use Rattle.fm_words.specs.View.{HasRanges, options_view};
 ghost use Rattle.fm_top.specs.Outcome.{Plays};
 
 use fm_edge::{Gate, Sink};
+use fm_effort::useful_workers;
 use fm_play::Played;
 use fm_program::Plan;
 use fm_round::Rounds;
@@ -14,14 +14,10 @@ use std::alloc::Global;
 use std::sync::Wait;
 use std::thread::Threads;
 
-/// How many processes free threads may have for each event of an outbox's room. With the usual
-/// room this is as many as a score may have.
-const MOST_FOR_AN_EVENT: u64 = 512;
-
 /// Writes the file of the plan's piece into a new sink, in the way that the options ask for, and
 /// gives its size. All memory is taken before the first byte. Without workers, and for a plan of one
 /// process, which has nothing to run beside it, no call is handed the runtime: none waits. Nor does
-/// one where free threads have too little room for the processes, unless rounds are asked for.
+/// one where no worker is worth its cost, unless rounds are asked for.
 pub fn play<R: Threads + Wait + Sync, G: Gate + Sync, K: Sink>(
     rt: &R,
     alloc: Global,
@@ -40,20 +36,9 @@ pub fn play<R: Threads + Wait + Sync, G: Gate + Sync, K: Sink>(
         conduct_only(alloc, plan, options, gate, sink)
     } else if options.rounds {
         play_in_rounds(rt, alloc, plan, options, gate, sink)
-    } else if is_crowded(plan.processes(), options.room) {
-        play_alone(alloc, plan, options, sink)
     } else {
         play_by_crew(rt, alloc, plan, options, gate, sink)
     }
-}
-
-// Whether so many processes have too little room for free threads. Where more events of a tick are
-// to come than an outbox holds, their conductor goes over all processes for each one that ends the
-// tick; one thread goes over them once.
-fn is_crowded(processes: u32, room: u32) -> bool
-    ensures { result ≡ nat_lt (MOST_FOR_AN_EVENT * room) processes }
-{
-    u64::from(room) * MOST_FOR_AN_EVENT < u64::from(processes)
 }
 
 // The same on this thread alone.
@@ -110,7 +95,8 @@ fn play_in_rounds<R: Threads + Sync, G: Gate + Sync, K: Sink>(
     Ok(rounds.play(rt, options.workers, gate, sink)?)
 }
 
-// The same by a crew: so many workers, and a conductor on this thread.
+// The same by a crew: the workers that are worth their cost, and a conductor on this thread. It
+// plays alone where none is.
 fn play_by_crew<R: Threads + Wait + Sync, G: Gate + Sync, K: Sink>(
     rt: &R,
     alloc: Global,
@@ -123,12 +109,16 @@ fn play_by_crew<R: Threads + Wait + Sync, G: Gate + Sync, K: Sink>(
     requires new { IsNew (K.seen.content sink.old) }
     ensures { Plays K.seen sink.old sink.new plan result }
 {
+    let workers = useful_workers(&plan, options.room, options.workers);
+    if workers == 0 {
+        return play_alone(alloc, plan, options, sink);
+    }
     let (board, mut conductor, others) = fm_crew::open(
         alloc,
         plan,
         options.room,
         options.lead,
-        options.workers,
+        workers,
     )?;
     Ok(fm_crew::play(rt, &board, &mut conductor, others, gate, sink)?)
 }

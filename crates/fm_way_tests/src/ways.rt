@@ -154,7 +154,7 @@ const TOTALS: &[(&[u8], Totals)] = &[
 type Totals = (u32, u64, u64, u64);
 
 // The plan of an accepted text, made by the calls of which the command is put together.
-fn plan_of(alloc: Global, text: &[u8]) -> Result<Plan, Fail> {
+pub fn plan_of(alloc: Global, text: &[u8]) -> Result<Plan, Fail> {
     if text.len() > MAX_TEXT {
         return Err(Fail::from("too much text"));
     }

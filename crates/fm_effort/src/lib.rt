@@ -1,0 +1,13 @@
+//! How many workers are worth their cost for a plan.
+//!
+//! A write costs more in a program of several threads, and each event that a worker computes goes
+//! from one processor to another. So workers save time only where computing is a fair part of the
+//! work. [`useful_workers`] makes a rough estimate, in which no play ever depends: every number of
+//! workers writes the same file.
+#![tactic(auto)]
+
+mod enclosing;
+mod load;
+mod useful;
+
+pub use useful::useful_workers;

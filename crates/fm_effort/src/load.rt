@@ -1,0 +1,117 @@
+//! What the processes of a plan compute, as far as their operations tell.
+ghost use Rattle.std.specs.Prelude.{◌≤◌};
+
+use crate::enclosing::Enclosing;
+use fm_program::{Op, Plan, Span};
+
+/// A plan of fewer events is over before the cost of workers counts.
+const MANY_EVENTS: u64 = 65_536;
+
+/// Of programs with more operations no estimate is made.
+const MOST_OPERATIONS: usize = 65_536;
+
+/// What an operation takes at least, in nanoseconds. This and the next three figures are rough.
+const OPERATION: u64 = 20;
+
+/// What a note or another message takes besides.
+const SOUND: u64 = 80;
+
+/// What a level of deformation adds to each onset and to each note-off.
+const LEVEL: u64 = 15;
+
+/// What an expression adds.
+const EXPRESSION: u64 = 100;
+
+/// What processes compute.
+#[derive(Clone, Copy, Drop)]
+pub struct Load {
+    /// How long that takes, in nanoseconds.
+    pub work: u64,
+    /// How many events they make at least.
+    pub events: u64,
+}
+
+/// What all processes of a plan compute. None where their programs are long, or make few events.
+pub fn load_of(plan: &Plan) -> Option<Load> {
+    let mut load = Load { work: 0, events: 0 };
+    let mut operations: usize = 0;
+    for process in 0..plan.processes() {
+        let program = plan.program(process);
+        operations = operations.saturating_add(program.ops.len());
+        if operations > MOST_OPERATIONS {
+            return None;
+        }
+        load = with_program(load, program.ops.as_slice(), program.levels.len() as u64);
+    }
+    if load.events < MANY_EVENTS {
+        None
+    } else {
+        Some(load)
+    }
+}
+
+// The load with that of a program, which starts in so many levels.
+fn with_program(load: Load, ops: &[Op], levels: u64) -> Load {
+    let mut whole = load;
+    let mut enclosing = Enclosing::new(levels);
+    for (at, op) in ops.iter().enumerate() {
+        whole = with_operation(whole, op, &enclosing, at < enclosing.sure);
+        enclosing.pass(op);
+    }
+    whole
+}
+
+// The load with that of an operation, in all rounds of the loops round it. One that may be
+// left out adds no events.
+fn with_operation(load: Load, op: &Op, enclosing: &Enclosing, is_left_out: bool) -> Load {
+    let rounds = enclosing.rounds();
+    let one = load_of_one(op, enclosing.levels);
+    let events = if is_left_out {
+        0
+    } else {
+        one.events.saturating_mul(rounds)
+    };
+    Load {
+        work: load.work.saturating_add(one.work.saturating_mul(rounds)),
+        events: load.events.saturating_add(events),
+    }
+}
+
+// What an operation takes once, in so many levels.
+fn load_of_one(op: &Op, levels: u64) -> Load {
+    let moves = levels.saturating_mul(LEVEL);
+    match op {
+        Op::Note { span, .. } => Load {
+            work: moves
+                .saturating_mul(2)
+                .saturating_add(OPERATION + SOUND + drawn(span)),
+            events: 2,
+        },
+        Op::Rest { span, .. } => Load {
+            work: moves.saturating_add(OPERATION + drawn(span)),
+            events: 0,
+        },
+        Op::Send { .. } => Load {
+            work: moves.saturating_add(OPERATION + SOUND + EXPRESSION),
+            events: 1,
+        },
+        Op::Set { .. } | Op::Test { .. } => Load {
+            work: OPERATION + EXPRESSION,
+            events: 0,
+        },
+        _ => Load {
+            work: OPERATION,
+            events: 0,
+        },
+    }
+}
+
+// What the expression of a duration takes, if it has one.
+fn drawn(span: &Span) -> u64
+    ensures { result ≤ EXPRESSION }
+{
+    match span {
+        Span::Drawn { .. } => EXPRESSION,
+        Span::Ticks { .. } | Span::Cycle { .. } => 0,
+    }
+}
