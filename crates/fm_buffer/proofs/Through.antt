@@ -1,99 +1,46 @@
 -- The longest prefix with no event past the key, one event at a time.
-use Rattle.std.proofs.Common.{◌≡◌, ℕ, ◌+◌, ◌<◌, ◌≤◌, Bool, true, false, Option, Some, None, List, [], ◌∷◌, ◌++◌, length, take, drop, slice_get, refl, sym, ap, ◌∙◌, arith, add-one, append_assoc, suc, zero, append-nil, length-append, IsTrue, if◌then◌else◌}
-use Rattle.std.proofs.lemmas.List.{drop_all}
+use Rattle.std.proofs.Common.{◌≡◌, ℕ, ◌+◌, ◌<◌, ◌≤◌, Bool, true, false, Option, List, [], ◌∷◌, ◌++◌, length, take, drop, refl, ap, arith, suc, IsTrue, if◌then◌else◌}
+use Rattle.std.proofs.lemmas.List.{take_all}
+use Rattle.std.proofs.Math.Seq.{take-append-add}
 use Rattle.std.proofs.lemmas.List.Elements.{All-cons, All-nil}
 use Rattle.fm_msg.specs.Event.{TimedMessage}
-use Rattle.fm_buffer.specs.Outbox.{EventQueue, IsLongestThrough, is_through, count_through}
+use Rattle.fm_buffer.specs.Outbox.{IsLongestThrough, is_through, count_through}
 use Rattle.fm_buffer.specs.Gather.{EventGather}
 
--- without a first event nothing goes
-pub count_through-empty : (key : Option (ℕ × ℕ)) (events : List TimedMessage) → slice_get events 0 ≡ None → count_through key events ≡ 0
-count_through-empty key [] none = refl
-count_through-empty key (event ∷ events) none = cc
-
--- where the first event is past the key nothing goes
-pub count_through-past : (key : Option (ℕ × ℕ)) (events : List TimedMessage) (event : TimedMessage)
-    → slice_get events 0 ≡ Some event → is_through key event ≡ false → count_through key events ≡ 0
-count_through-past key [] event here past = refl
-count_through-past key (first ∷ events) event here past =
-    let same : first ≡ event = cc in
-    ap (λ b. if b then suc (count_through key events) else 0) (ap (is_through key) same ∙ past)
-
--- an event in front that is at most the key counts once
-pub count_through-cons : (key : Option (ℕ × ℕ)) (event : TimedMessage) (events : List TimedMessage)
-    → is_through key event ≡ true → count_through key (event ∷ events) ≡ suc (count_through key events)
-count_through-cons key event events through = ap (λ b. if b then suc (count_through key events) else 0) through
-
--- the events from the index on begin with this one, and these follow
-pub record IsNext (events : List TimedMessage) (index : ℕ) (event : TimedMessage) (pastr : List TimedMessage) : Type 0 where
-  pub within : index < length events
-  pub dropped : drop (index + 1) events ≡ pastr
-  pub taken : take (index + 1) events ≡ take index events ++ event ∷ []
-
--- one event more
-pub next_at : (events : List TimedMessage) (index : ℕ) (event : TimedMessage) (pastr : List TimedMessage)
-    → drop index events ≡ event ∷ pastr → IsNext events index event pastr
-next_at [] zero event pastr here = cc
-next_at [] (suc index) event pastr here = cc
-next_at (first ∷ events) zero event pastr here = record {
-  within = omega arith;
-  dropped = cc;
-  taken = cc;
-}
-next_at (first ∷ events) (suc index) event pastr here =
-    let next = next_at events index event pastr here in record {
-      within = let w = next.within in omega arith;
-      dropped = rw add-one (rw add-one at next.dropped);
-      taken = rw add-one (ap (λ xs. first ∷ xs) (rw add-one at next.taken));
-    }
-
--- the first so many events of the outbox went to the gather's end, and each was at most the key
-pub record IsMoved (key : Option (ℕ × ℕ)) (from from' : EventQueue) (to to' : EventGather) (moved : ℕ) : Type 0 where
-  pub count : moved + count_through key from'.events ≡ count_through key from.events
-  pub rest : from' ≡ record from { events = drop moved from.events }
-  pub gathered : to' ≡ record to { events = to.events ++ take moved from.events }
-  pub many : length to'.events ≡ length to.events + moved
+-- the first so many events of a list went to the gather's end, and each was at most the key
+pub record IsGathered (key : Option (ℕ × ℕ)) (events : List TimedMessage) (to to' : EventGather) (taken : ℕ) : Type 0 where
+  pub count : taken + count_through key (drop taken events) ≡ count_through key events
+  pub gathered : to' ≡ record to { events = to.events ++ take taken events }
+  pub many : length to'.events ≡ length to.events + taken
   pub same : to'.capacity ≡ to.capacity
 
--- at first nothing moved
-pub none_moved : (key : Option (ℕ × ℕ)) (from : EventQueue) (to : EventGather) → IsMoved key from from to to 0
-none_moved key from to = record {
-  count = omega arith;
-  rest = refl;
-  gathered = ap (λ xs. record to { events = xs }) (sym (append-nil to.events));
-  many = omega arith;
-  same = refl;
-}
+-- of two lists, where an event of the first one is past the key
+part-cons : (key : Option (ℕ × ℕ)) (xs ys : List TimedMessage) (goes : Bool)
+    → (count_through key xs < length xs → count_through key (xs ++ ys) ≡ count_through key xs)
+    → (if goes then suc (count_through key xs) else 0) < suc (length xs)
+    → (if goes then suc (count_through key (xs ++ ys)) else 0) ≡ (if goes then suc (count_through key xs) else 0)
+part-cons key xs ys true same early = ap suc (same (omega arith))
+part-cons key xs ys false same early = refl
 
--- an event in front that is at most the key moves too
-pub one_moved : (key : Option (ℕ × ℕ)) (from from' from'' : EventQueue) (to to' to'' : EventGather) (moved : ℕ) (event : TimedMessage)
-    → IsMoved key from from' to to' moved → is_through key event ≡ true
-    → from'.events ≡ event ∷ from''.events → from''.room ≡ from'.room
-    → to'' ≡ record to' { events = to'.events ++ event ∷ [] }
-    → IsMoved key from from'' to to'' (moved + 1)
-one_moved key from from' from'' to to' to'' moved event done through first room put =
-    let next = next_at from.events moved event from''.events (sym (ap (λ (o : EventQueue). o.events) done.rest) ∙ first) in record {
-      count =
-          let once : count_through key from'.events ≡ suc (count_through key from''.events) =
-          ap (count_through key) first ∙ count_through-cons key event from''.events through in
-          let before = done.count in omega arith;
-      rest =
-          let same : from''.room ≡ from.room = room ∙ ap (λ (o : EventQueue). o.room) done.rest in
-          rw (next.dropped, ← same) refl;
-      gathered = rw (put, done.gathered, next.taken) (ap (λ xs. record to { events = xs }) (append_assoc to.events _ _));
-      many =
-          let longer : length to''.events ≡ length to'.events + 1 = rw put (length-append to'.events (event ∷ [])) in
-          let before = done.many in omega arith;
-      same = ap (λ (g : EventGather). g.capacity) put ∙ done.same;
-    }
+pub count_through-part : (key : Option (ℕ × ℕ)) (xs ys : List TimedMessage)
+    → count_through key xs < length xs → count_through key (xs ++ ys) ≡ count_through key xs
+count_through-part key [] ys early = omega arith
+count_through-part key (x ∷ xs) ys early =
+    part-cons key xs ys (is_through key x) (count_through-part key xs ys) early
 
--- once all events moved, all were at most the key
-pub all_moved : (key : Option (ℕ × ℕ)) (from from' : EventQueue) (to to' : EventGather) (moved : ℕ)
-    → IsMoved key from from' to to' moved → length from.events ≤ moved → moved ≡ count_through key from.events
-all_moved key from from' to to' moved done all =
-    let empty : from'.events ≡ [] = ap (λ (o : EventQueue). o.events) done.rest ∙ drop_all moved from.events all in
-    let none : count_through key from'.events ≡ 0 = ap (count_through key) empty in
-    let count = done.count in omega arith
+-- of two lists, where each event of the first one is at most the key
+whole-cons : (key : Option (ℕ × ℕ)) (xs ys : List TimedMessage) (goes : Bool)
+    → (count_through key xs ≡ length xs → count_through key (xs ++ ys) ≡ length xs + count_through key ys)
+    → (if goes then suc (count_through key xs) else 0) ≡ suc (length xs)
+    → (if goes then suc (count_through key (xs ++ ys)) else 0) ≡ suc (length xs) + count_through key ys
+whole-cons key xs ys true same all = let rest = same (omega arith) in omega arith
+whole-cons key xs ys false same all = omega arith
+
+pub count_through-whole : (key : Option (ℕ × ℕ)) (xs ys : List TimedMessage)
+    → count_through key xs ≡ length xs → count_through key (xs ++ ys) ≡ length xs + count_through key ys
+count_through-whole key [] ys all = omega arith
+count_through-whole key (x ∷ xs) ys all =
+    whole-cons key xs ys (is_through key x) (count_through-whole key xs ys) all
 
 -- the same with one event more in front
 longest-cons : (key : Option (ℕ × ℕ)) (event : TimedMessage) (events : List TimedMessage) (count : ℕ) (goes : Bool)
@@ -120,3 +67,20 @@ count_through_is_longest key [] = record {
 }
 count_through_is_longest key (event ∷ events) =
     longest-cons key event events (count_through key events) (is_through key event) refl (count_through_is_longest key events)
+
+-- no more than there are
+pub count_through-within : (key : Option (ℕ × ℕ)) (events : List TimedMessage) → count_through key events ≤ length events
+count_through-within key events = (count_through_is_longest key events).within
+
+-- of two lists, where all of the first one went
+pub both_counted : (key : Option (ℕ × ℕ)) (xs ys : List TimedMessage) (first second : ℕ)
+    → first ≡ count_through key xs → length xs ≤ first → second ≡ count_through key ys
+    → first + second ≡ count_through key (xs ++ ys)
+both_counted key xs ys first second one all two =
+    let within = count_through-within key xs in
+    let both = count_through-whole key xs ys (omega arith) in omega arith
+
+pub both_taken : (xs ys : List TimedMessage) (first second : ℕ) → first ≡ length xs
+    → take first xs ++ take second ys ≡ take (first + second) (xs ++ ys)
+both_taken xs ys first second all =
+    rw (all, take-append-add xs ys second) (ap (λ zs. zs ++ take second ys) (take_all (length xs) xs (omega arith)))

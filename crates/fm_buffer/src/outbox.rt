@@ -1,5 +1,5 @@
 //! The events that a process has computed ahead.
-ghost use Rattle.std.specs.Prelude.{◌≡◌, ◌+◌, ◌<◌, ◌≤◌, ◌↔◌, ◌++◌, ◌∷◌, [], length, take, drop, IsTrue, IfOk, IfSome, IfNone};
+ghost use Rattle.std.specs.Prelude.{◌≡◌, ◌+◌, ◌<◌, ◌≤◌, ◌↔◌, ◌++◌, ◌∷◌, [], length, take, drop, IsTrue, IfOk};
 ghost use Rattle.fm_buffer.specs.Outbox.{EventQueue, IsWithinRoom, IsLongestThrough, is_through, count_through};
 
 use crate::Gather;
@@ -70,35 +70,51 @@ impl Outbox {
         ensures taken { gather.new
             ≡ record gather.old { events = gather.old.events ++ take result self.old.events } }
     {
-        let waiting = self.len();
-        for taken in 0..waiting {
-            match self.take_next(key) {
-                Some(event) => gather.put(event),
-                None => return taken,
-            }
-        }
-        waiting
+        let (front, back) = self.ring.as_slices();
+        let taken = gather_both(key, front, back, gather);
+        let left = self.ring.len() - taken;
+        self.ring.truncate_front(left);
+        taken as u32
     }
+}
 
-    // Removes the first event where it is not past the key.
-    fn take_next(&mut self, key: Option<(u64, u32)>) -> Option<Event>
-        ensures through { IfSome result (λ event. IsTrue (is_through key event)) }
-        ensures first { IfSome result (λ event. self.old.events ≡ event ∷ self.new.events) }
-        ensures none { IfNone result (count_through key self.old.events ≡ 0) }
-        ensures same { IfNone result (self.new ≡ self.old) }
-        ensures room { self.new.room ≡ self.old.room }
-    {
-        let event = match self.ring.front() {
-            Some(event) => *event,
-            None => return None,
-        };
-        if is_at_most(key, &event) {
-            self.ring.pop_front();
-            Some(event)
-        } else {
-            None
-        }
+// Appends the longest prefix of two lists, one behind the other, with no event past the key, and
+// says how many these are.
+fn gather_both(
+    key: Option<(u64, u32)>,
+    front: &[Event],
+    back: &[Event],
+    gather: &mut Gather,
+) -> usize
+    requires room { length (front.now ++ back.now) + length gather.old.events
+        ≤ gather.old.capacity }
+    requires few { length (front.now ++ back.now) ≤ MAX_ROOM }
+    ensures count { result ≡ count_through key (front.now ++ back.now) }
+    ensures taken { gather.new ≡ record gather.old {
+      events = gather.old.events ++ take result (front.now ++ back.now);
+    } }
+{
+    let taken = gather_through(key, front, gather);
+    if taken < front.len() {
+        return taken;
     }
+    taken + gather_through(key, back, gather)
+}
+
+// Appends the longest prefix of a list with no event past the key, and says how many these are.
+fn gather_through(key: Option<(u64, u32)>, events: &[Event], gather: &mut Gather) -> usize
+    requires { length events.now + length gather.old.events ≤ gather.old.capacity }
+    ensures count { result ≡ count_through key events.now }
+    ensures taken { gather.new
+        ≡ record gather.old { events = gather.old.events ++ take result events.now } }
+{
+    for index in 0..events.len() {
+        if !is_at_most(key, &events[index]) {
+            return index;
+        }
+        gather.put(events[index]);
+    }
+    events.len()
 }
 
 // Whether the event's (time, process) is at most the key.

@@ -24,16 +24,17 @@ use fm_program::{Count, Draw, Op, Plan, Point, Span, Turn};
 
 impl Player {
     /// Does the operation that comes next.
-    pub(crate) fn operate(&mut self, plan: &Plan, op: Op) -> Stepped
+    #[inline(never)]
+    pub(crate) fn operate(&mut self, plan: &Plan, op: &Op) -> Stepped
         ghost state: { Standing }
-        requires can { CanDo plan.now self.old state (action_of plan.now.stock op) }
+        requires can { CanDo plan.now self.old state (action_of plan.now.stock op.now) }
         requires op { let size = length (process_program plan.now self.old.process).ops in
-            op_fits plan.now.stock size self.old.operation op ≡ true }
-        ensures does { Does plan.now self.old self.new state (action_of plan.now.stock op) }
+            op_fits plan.now.stock size self.old.operation op.now ≡ true }
+        ensures does { Does plan.now self.old self.new state (action_of plan.now.stock op.now) }
         ensures note { (self.new.note ≡ self.old.note) ⊎ (self.new.note.given ≡ 0) }
-        ensures answer { Answers (done (action_of plan.now.stock op) state) result }
+        ensures answer { Answers (done (action_of plan.now.stock op.now) state) result }
     {
-        match op {
+        match *op {
             Op::Send {
                 point,
                 channel,

@@ -1,5 +1,6 @@
 //! A process of a plan as it runs.
 ghost use Rattle.std.specs.Prelude.{◌≡◌, ℕ, ◌+◌, ◌^◌, ◌<◌, ◌≤◌, length, slice_get, true, false, Some, None, IfSome, IfNone};
+ghost use Rattle.std.specs.Option.{option_copied};
 ghost use Rattle.fm_msg.specs.Event.{TimedMessage};
 ghost use Rattle.fm_line.specs.Line.{line, start};
 ghost use Rattle.fm_line.specs.Sounds.{come_out, most_waiting, numbered};
@@ -97,6 +98,7 @@ impl Player {
     }
 
     /// Makes one step.
+    #[inline(always)]
     pub fn step(&mut self, plan: &Plan) -> Stepped
         requires { InCourse plan.now self.old }
         ensures step { MakesStep plan.now self.old result self.new }
@@ -156,15 +158,15 @@ impl Player {
     }
 
     // The operation that comes next.
-    fn next_op(&self, plan: &Plan) -> Option<Op>
+    fn next_op<'a>(&self, plan: &'a Plan) -> Option<&'a Op>
         requires { self.now.process < length plan.now.programs }
-        ensures op { result
+        ensures op { option_copied result
             ≡ slice_get (process_program plan.now self.now.process).ops self.now.operation }
         ensures small { IfSome result (λ _. self.now.operation + 1 < 2 ^ 64) }
     {
         let ops = plan.program(self.process).ops.as_slice();
         if self.operation < ops.len() {
-            Some(ops[self.operation])
+            Some(&ops[self.operation])
         } else {
             None
         }
@@ -195,7 +197,7 @@ impl Player {
         match self.note.time() {
             Some(_) => true,
             None => match self.next_op(plan) {
-                Some(op) => sends(op),
+                Some(op) => sends(*op),
                 None => false,
             },
         }

@@ -1,33 +1,22 @@
--- So many events moved, each of them at most the key, until one is past it or none is left.
+-- The two slices of the ring are the events that wait.
 use Rattle.std.proofs.Common.{arith}
-use Rattle.fm_buffer.proofs.Through.{none_moved, one_moved, all_moved, count_through_is_longest}
+use Rattle.fm_buffer.proofs.Through.{count_through-within, count_through_is_longest}
 use Rattle.fm_buffer.proofs.outbox.Outbox.take_through.Goals as goal
 
-pub loop-taken-init : goal.loop-taken-init
-loop-taken-init c = none_moved _ _ _
+pub overflow_sub-left : goal.overflow_sub-left
+overflow_sub-left c =
+    let within = count_through-within c.args.key c.self.inside.ring.items in
+    let count = rw c.as_slices.ensures at c.gather_both-taken.ensures.count in
+    let waiting = c.len.ensures.len in omega arith
 
-pub put-requires : goal.put-requires
-put-requires c =
-    let moved = c.loop-taken.invariant in
-    let waiting = c.len-waiting.ensures.value in omega arith
-
-pub returns-in-None-clause-count : goal.returns-in-None-clause-count
-returns-in-None-clause-count c =
-    let none = c.in-None.ensures.none in
-    let count = c.loop-taken.invariant.count in omega arith
-
-pub loop-taken-preserved : goal.loop-taken-preserved
-loop-taken-preserved c =
-    let found = c.in-Some.ensures in
-    one_moved _ _ _ _ _ _ _ _ c.in-Some.event c.loop-taken.invariant found.through found.first found.room c.put.ensures
-
-pub returns-clause-count : goal.returns-clause-count
-returns-clause-count c =
-    let waiting = c.len-waiting.ensures.value in
-    let count = all_moved _ _ _ _ _ _ c.loop-taken.invariant (omega arith) in omega arith
+pub overflow_cast-result : goal.overflow_cast-result
+overflow_cast-result c =
+    let within = count_through-within c.args.key c.self.inside.ring.items in
+    let count = rw c.as_slices.ensures at c.gather_both-taken.ensures.count in
+    let few = c.self.invariant.within in
+    let most = c.self.invariant.most in omega arith
 
 pub returns-clause-longest : goal.returns-clause-longest
-returns-clause-longest c = rw (returns-clause-count c) (count_through_is_longest _ _)
-
-pub returns-in-None-clause-longest : goal.returns-in-None-clause-longest
-returns-in-None-clause-longest c = rw (returns-in-None-clause-count c) (count_through_is_longest _ _)
+returns-clause-longest c =
+    rw (c.gather_both-taken.ensures.count, c.as_slices.ensures, ← c.self.view_is)
+    (count_through_is_longest c.args.key c.self.inside.ring.items)

@@ -1,4 +1,5 @@
-use Rattle.std.proofs.Common.{◌≡◌, ◌*◌, length, refl, arith, sym, ◌∙◌, inl, inr}
+use Rattle.std.proofs.Common.{◌≡◌, ◌*◌, length, refl, arith, sym, ap, ◌∙◌, inl, inr}
+use Rattle.std.specs.Option.{option_copied}
 use Rattle.fm_player.proofs.CourseLemmas.{steps-most}
 use Rattle.fm_player.proofs.StepLemmas.{step-done, step-can, step-ended, step-due}
 use Rattle.fm_player.proofs.ReadLemmas.{none-ended}
@@ -10,9 +11,9 @@ overflow_add-self c =
 
 pub operate-stepped-requires : goal.operate-stepped-requires
 operate-stepped-requires c =
-    let can = step-can c.args.plan.now c.args.self.now c.in-Some.op c.requires
+    let can = step-can c.args.plan.now c.args.self.now c.in-Some.op.now c.requires
     (c.is_left.ensures.none c.if-is_left.false c.args.self.now.process)
-    (sym c.in-Some.is ∙ c.next_op.ensures.op) c.in-Some.ensures.small in
+    (sym (ap option_copied c.in-Some.is) ∙ c.next_op.ensures.op) c.in-Some.ensures.small in
     (can.can, can.fits)
 
 pub overflow_add-self-in-Some : goal.overflow_add-self-in-Some
@@ -33,14 +34,14 @@ pub returns-in-None-clause-step : goal.returns-in-None-clause-step
 returns-in-None-clause-step c =
     step-ended c.args.plan.now c.args.self.now c.requires
     (none-ended c.args.plan.now c.args.self.now c.requires (c.is_left.ensures.none c.if-is_left.false c.args.self.now.process)
-    (sym c.in-None.is ∙ c.next_op.ensures.op))
+    (sym (ap option_copied c.in-None.is) ∙ c.next_op.ensures.op))
 
 pub returns-in-Some-clause-step : goal.returns-in-Some-clause-step
 returns-in-Some-clause-step c =
-    let can = step-can c.args.plan.now c.args.self.now c.in-Some.op c.requires
+    let can = step-can c.args.plan.now c.args.self.now c.in-Some.op.now c.requires
     (c.is_left.ensures.none c.if-is_left.false c.args.self.now.process)
-    (sym c.in-Some.is ∙ c.next_op.ensures.op) c.in-Some.ensures.small in
-    step-done c.args.plan.now c.args.self.now c.operate-stepped.new.self c.in-Some.op c.operate-stepped.result c.requires can
+    (sym (ap option_copied c.in-Some.is) ∙ c.next_op.ensures.op) c.in-Some.ensures.small in
+    step-done c.args.plan.now c.args.self.now c.operate-stepped.new.self c.in-Some.op.now c.operate-stepped.result c.requires can
     c.operate-stepped.ensures.does c.operate-stepped.ensures.answer
 
 pub returns-then-is_left-clause-note : goal.returns-then-is_left-clause-note
