@@ -5,8 +5,7 @@ pub mod PhraseLemmas
 pub mod SaturationLemmas
 pub mod SumsLemmas
 pub mod WeightLemmas
-pub mod LongestLemmas
 pub mod LimitLemmas
 pub mod WalkLemmas
 mod Numerals
-mod ListLemmas
+mod FaultLemmas

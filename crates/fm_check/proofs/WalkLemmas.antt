@@ -12,17 +12,22 @@ use Rattle.fm_meaning.proofs.Versions.{few_processes, some_processes}
 use Rattle.fm_meaning.specs.Fault.{NumberedFault}
 use Rattle.fm_meaning.specs.Faults.{first_found}
 use Rattle.fm_meaning.specs.Resolved.{Play, Passage, done, item}
-use Rattle.fm_meaning.specs.Resolve.{resolved}
+use Rattle.fm_meaning.specs.Resolve.{resolved, seed_of}
+use Rattle.fm_rules.specs.View.{rules_view}
 use Rattle.fm_meaning.specs.Bounds.{Totals, totals, plus, score_totals, score_bounds, bounds_of}
 use Rattle.fm_meaning.specs.Bounds.{bounds_in, forks, limit_faults, sums_faults, fourth_walk}
 use Rattle.fm_expansion.specs.Outline.{Tables, play_in, passage_in}
+use Rattle.fm_expansion.specs.Numbering.{outline}
+use Rattle.fm_expansion.proofs.Longest.{longest_told}
+use Rattle.fm_outline.specs.declared.outline.Outline.{Outline}
 use Rattle.fm_outline.specs.declared.step.Step.{Step}
-use Rattle.fm_outline.specs.View.{Look, Placed, step_view, block_view}
+use Rattle.fm_outline.specs.View.{Look, Placed, step_view, block_view, tables_view, outline_view}
+use Rattle.fm_outline.specs.OfScore.{passage_of_outline}
 use Rattle.fm_outline.proofs.SeenLemmas.{step_seen}
 use Rattle.fm_outline.proofs.RefusalLemmas.{before as stays_first}
 use Rattle.fm_check.specs.declared.totals.sums.Sums.{Sums}
-use Rattle.fm_check.specs.Saturation.{saturated}
-use Rattle.fm_check.specs.Reached.{Reached}
+use Rattle.fm_check.specs.Saturation.{capped, saturated}
+use Rattle.fm_check.specs.Reached.{IsSoundOutline, Reached}
 use Rattle.fm_check.proofs.SaturationLemmas.{capped_below}
 use Rattle.fm_check.proofs.SumsLemmas.{none_saturated, sums}
 use Rattle.fm_check.proofs.WeightLemmas.{same_totals, plus_plus}
@@ -59,6 +64,17 @@ play_refused score before spot play rest f r found =
     (sums_faults (score_rules score) (resolved score).longest (after r) rest) f found
 
 -- ---- the beginning and the end
+
+-- what makes an outline that of a score without a fault of names and numbers
+pub is_sound : (score : tree.Score) (o : Outline) → outline_view o ≡ outline score → o.seed ≡ seed_of score.seed
+    → rules_view o.rules ≡ score_rules score → passage_of_outline o ≡ (resolved score).passage → IsSoundOutline o score
+is_sound score o view seed rules passage =
+    record { is = record { view = view; seed = seed; rules = rules }; passage = passage }
+
+-- the greatest entry of all rhythms of a score is that of its outline
+pub longest_kept : (score : tree.Score) (o : Outline) {longest : ℕ} → outline_view o ≡ outline score
+    → longest ≡ capped (tables_view o.tables).longest → longest ≡ capped (resolved score).longest
+longest_kept score o of is = is ∙ ap (λ v. capped v.tables.longest) of ∙ ap capped (longest_told score)
 
 -- nothing was gone over yet
 pub begun : (score : tree.Score) (p : Passage) → p ≡ (resolved score).passage

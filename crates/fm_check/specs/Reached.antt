@@ -6,10 +6,17 @@ use Rattle.fm_grammar.specs.Score.{Score}
 use Rattle.fm_meaning.specs.Rules.{score_rules, most_operations, most_steps}
 use Rattle.fm_meaning.specs.Resolved.{Passage}
 use Rattle.fm_meaning.specs.Resolve.{resolved}
+use Rattle.fm_outline.specs.declared.outline.Outline.{Outline}
+use Rattle.fm_outline.specs.OfScore.{IsOutlineOf, passage_of_outline}
 use Rattle.fm_meaning.specs.Bounds.{Totals, plus, score_totals, bounds_in, sums_faults, fourth_walk}
 use Rattle.fm_check.specs.declared.totals.bounds.Bounds.{Bounds}
 use Rattle.fm_check.specs.declared.totals.sums.Sums.{Sums}
 use Rattle.fm_check.specs.Saturation.{saturated}
+
+-- the outline of a score whose names and numbers have no fault: it stands for what the score plays
+pub record IsSoundOutline (o : Outline) (s : Score) : Type 0 where
+  pub is : IsOutlineOf o s
+  pub passage : passage_of_outline o ≡ (resolved s).passage
 
 -- the totals as a contract sees them
 abbrev pub totals_of : Bounds → Totals

@@ -6,36 +6,30 @@
 ghost use Rattle.std.specs.Prelude.{◌≡◌, ℕ, [], map, vec_items, OnOk, IfOk, Some, Err};
 ghost use Rattle.fm_lex.specs.declared.spot.Spot.{Spot};
 ghost use Rattle.fm_grammar.specs.Score.{Score as Tree};
-ghost use Rattle.fm_grammar.specs.View.{score_view};
 ghost use Rattle.fm_meaning.specs.Rules.{score_rules};
 ghost use Rattle.fm_meaning.specs.Resolved.{Play, Passage, done, item};
 ghost use Rattle.fm_meaning.specs.Resolve.{resolved};
 ghost use Rattle.fm_meaning.specs.Bounds.{score_bounds, fourth_walk};
 ghost use Rattle.fm_meaning.specs.Faults.{first_found};
-ghost use Rattle.fm_expansion.specs.Numbering.{outline as outline_of};
-ghost use Rattle.fm_outline.specs.View.{outline_view, tables_view, look_in, phrases_view};
-ghost use Rattle.fm_outline.specs.OfScore.{passage_of_outline};
+ghost use Rattle.fm_outline.specs.View.{tables_view, look_in, phrases_view};
 ghost use Rattle.fm_rules.specs.Why.{fault_at};
 ghost use Rattle.fm_rules.specs.declared.why.Why.{Why};
 ghost use Rattle.fm_check.specs.Saturation.{capped};
 ghost use Rattle.fm_check.specs.Weight.{KnowsWeights, weight_of};
-ghost use Rattle.fm_check.specs.Reached.{Reached, totals_of};
+ghost use Rattle.fm_check.specs.Reached.{IsSoundOutline, Reached, totals_of};
 
 pub(crate) mod bounds;
 mod excess;
-mod longest;
 mod sums;
 mod weigh;
 
 use crate::totals::bounds::Bounds;
 use crate::totals::excess::first_excess;
-use crate::totals::longest::longest_rhythm;
 use crate::totals::sums::Sums;
 use crate::totals::weigh::{weigh_step, weigh_steps};
-use fm_grammar::Score;
 use fm_lex::Spot;
 use fm_outline::{Outline, Step, Tables};
-use fm_rules::{CheckFault, rules_of};
+use fm_rules::CheckFault;
 use std::alloc::{AllocError, Global};
 
 // What each phrase adds at most, found once.
@@ -92,43 +86,32 @@ fn finish(before: Sums) -> Bounds
     }
 }
 
-// The greatest entry of all rhythm lists. A score whose outline has no list at all has none, and is
-// not searched.
-fn longest_entry(whole: u32, score: &Score, outline: &Outline) -> u64
-    requires whole { whole ≡ (score_rules (score_view score.now)).whole_note }
-    requires outline { outline_view outline.now ≡ outline_of (score_view score.now) }
-    ensures { result ≡ capped (resolved (score_view score.now)).longest }
+// The greatest entry of all rhythms, in ticks up to the ceiling.
+#[tactic(auto, unfolding(crate::specs::Saturation::capped))]
+fn longest_entry(tables: &Tables) -> u64
+    ensures { result ≡ capped (tables_view tables.now).longest }
 {
-    if outline.tables.lists.is_empty() {
-        return 0;
-    }
-    longest_rhythm(whole, &score.entries)
+    u64::from(tables.longest)
 }
 
-/// The static totals of a score for which an outline stands, or the first statement with which one
-/// of them passes its limit.
-pub(crate) fn find_bounds(
-    alloc: Global,
-    score: &Score,
-    outline: &Outline,
-) -> Result<Bounds, CheckFault>
-    requires outline { outline_view outline.now ≡ outline_of (score_view score.now) }
-    requires passage { passage_of_outline outline.now ≡ (resolved (score_view score.now)).passage }
-    ensures bounds { IfOk result
-        (λ b. totals_of b ≡ score_bounds (resolved (score_view score.now))) }
-    ensures faultless { OnOk result
-        (let s = score_view score.now in fourth_walk (score_rules s) (resolved s) ≡ []) }
-    ensures refused { (why : Why) (spot : Spot) → result ≡ Err (CheckFault.Refused why spot) →
-        let s = score_view score.now in
+/// The static totals of the score that has an outline, or the first statement with which one of
+/// them passes its limit.
+pub(crate) fn find_bounds(alloc: Global, outline: &Outline) -> Result<Bounds, CheckFault>
+    requires { (s : Tree) × IsSoundOutline outline.now s }
+    ensures bounds { (s : Tree) → IsSoundOutline outline.now s →
+        IfOk result (λ b. totals_of b ≡ score_bounds (resolved s)) }
+    ensures faultless { (s : Tree) → IsSoundOutline outline.now s →
+        OnOk result (fourth_walk (score_rules s) (resolved s) ≡ []) }
+    ensures refused { (s : Tree) → IsSoundOutline outline.now s →
+        (why : Why) (spot : Spot) → result ≡ Err (CheckFault.Refused why spot) →
         first_found (fourth_walk (score_rules s) (resolved s)) ≡ Some (fault_at spot why) }
 {
-    let rules = rules_of(score);
-    let longest = longest_entry(rules.whole_note, score, outline);
+    let longest = longest_entry(&outline.tables);
     let phrases = weigh_phrases(alloc, &outline.tables, longest, &outline.phrases)?;
     let mut before = Sums::NONE;
     for step in &outline.block {
         let weight = weigh_step(&outline.tables, &phrases, longest, step);
-        before = add(rules.most_processes, before, weight, step.spot)?;
+        before = add(outline.rules.most_processes, before, weight, step.spot)?;
     }
     Ok(finish(before))
 }

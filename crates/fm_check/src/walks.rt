@@ -41,7 +41,7 @@ pub fn check_outline(alloc: Global, score: &Score) -> Result<Checked, CheckFault
     if let Some(fault) = first_place_fault(alloc, &outline)? {
         return Err(refused(fault));
     }
-    let bounds = find_bounds(alloc, score, &outline)?;
+    let bounds = find_bounds(alloc, &outline)?;
     Ok(Checked { outline, bounds })
 }
 

@@ -14,7 +14,7 @@ use Rattle.fm_meaning.specs.Rules.{score_rules}
 use Rattle.fm_meaning.specs.Resolve.{length_ticks, part_of, named_as}
 use Rattle.fm_promise.specs.Lists.{ListsKept, ListsKeptIn, ListsKeptAmong, EntryListsKept}
 use Rattle.fm_expansion.specs.Outline.{Tables, Lasting, beat}
-use Rattle.fm_expansion.specs.Numbering.{Catalogue, Numbered, numbered, no_tables, expr_added, list_added, chord_added, warp_added, draw_numbered, key_numbered, keys_numbered, span_numbered, note_numbered, instruction_of, block_of, arms_of, outline_from, outline}
+use Rattle.fm_expansion.specs.Numbering.{Catalogue, Numbered, numbered, no_tables, expr_added, list_added, rhythm_added, chord_added, warp_added, draw_numbered, key_numbered, keys_numbered, span_numbered, note_numbered, instruction_of, block_of, arms_of, outline_from, outline}
 use Rattle.fm_fidelity.proofs.Making.{all_more}
 
 -- the lists and the chords of tables
@@ -30,6 +30,11 @@ as_long most xs ys same is = ap (λ n. nat_lt 0 n && nat_le n most) same ∙ is
 -- a list more
 list_listed : (t : Tables) (l : List ℕ) → has_up_to MAX_ENTRIES l ≡ true → Listed t → Listed (list_added l t)
 list_listed t l good a =
+    record { lists = all_more (has_up_to MAX_ENTRIES) t.lists l a.lists good; chords = a.chords }
+
+-- a rhythm more
+rhythm_listed : (t : Tables) (l : List ℕ) → has_up_to MAX_ENTRIES l ≡ true → Listed t → Listed (rhythm_added l t)
+rhythm_listed t l good a =
     record { lists = all_more (has_up_to MAX_ENTRIES) t.lists l a.lists good; chords = a.chords }
 
 -- a chord more
@@ -106,8 +111,8 @@ mutual
   stmt_listed c (text.gate number body) t kept a = body_listed c body t kept a
   stmt_listed c (text.rhythm lengths body) t kept a =
       let l = map (length_ticks c.whole) lengths in
-      body_listed c body (list_added l t) kept.1
-      (list_listed t l (as_long MAX_ENTRIES lengths l (length-map lengths (length_ticks c.whole)) kept.0) a)
+      body_listed c body (rhythm_added l t) kept.1
+      (rhythm_listed t l (as_long MAX_ENTRIES lengths l (length-map lengths (length_ticks c.whole)) kept.0) a)
   stmt_listed c (text.artic numbers body) t kept a =
       let l = map Number.value numbers in
       body_listed c body (list_added l t) kept.1

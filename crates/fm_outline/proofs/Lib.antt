@@ -11,3 +11,4 @@ pub mod LookLemmas
 pub mod WalkLemmas
 pub mod MapLemmas
 pub mod ShellLemmas
+pub mod GreatestLemmas

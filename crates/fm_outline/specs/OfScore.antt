@@ -1,9 +1,10 @@
 -- What an outline stands for: statements in turn, and the score that it is made of.
 use Rattle.std.specs.Prelude.{◌≡◌}
 use Rattle.fm_grammar.specs.Score as text
-use Rattle.fm_meaning.specs.Rules.{profile_of}
+use Rattle.fm_meaning.specs.Rules.{score_rules}
 use Rattle.fm_meaning.specs.Resolved.{Passage}
 use Rattle.fm_meaning.specs.Resolve.{seed_of}
+use Rattle.fm_rules.specs.View.{rules_view}
 use Rattle.fm_expansion.specs.Outline.{passage_in}
 use Rattle.fm_expansion.specs.Numbering.{outline}
 use Rattle.fm_outline.specs.declared.outline.Outline.{Outline}
@@ -13,8 +14,8 @@ use Rattle.fm_outline.specs.View.{outline_view}
 abbrev pub passage_of_outline : Outline → Passage
 passage_of_outline o = passage_in (outline_view o).tables (outline_view o).value
 
--- the outline is that of a score: its statements and tables, the seed of its draws, and how its file is written
+-- the outline is that of a score: its statements and tables, the seed of its draws, and what its version fixes
 pub record IsOutlineOf (o : Outline) (s : text.Score) : Type 0 where
   pub view : outline_view o ≡ outline s
   pub seed : o.seed ≡ seed_of s.seed
-  pub profile : o.profile ≡ profile_of s
+  pub rules : rules_view o.rules ≡ score_rules s

@@ -120,6 +120,7 @@ tables_view t = record {
   lists = map vec_items t.lists.items;
   chords = map vec_items t.chords.items;
   warps = t.warps.items;
+  longest = t.longest;
 }
 
 -- what a phrase of the outline stands for, by its number

@@ -5,7 +5,7 @@ ghost use Rattle.fm_pattern.specs.declared.cursor.TheConstants.{MAX_ENTRIES};
 ghost use Rattle.fm_grammar.specs.declared.number.Number.{Number};
 ghost use Rattle.fm_meaning.specs.Resolve.{length_ticks};
 ghost use Rattle.fm_meaning.specs.Ranges.{each_faults, length_faults, length_spot};
-ghost use Rattle.fm_expansion.specs.Numbering.{list_added};
+ghost use Rattle.fm_expansion.specs.Numbering.{list_added, rhythm_added};
 ghost use Rattle.fm_outline.specs.View.{tables_view};
 
 use crate::tables::Tables;
@@ -47,10 +47,10 @@ pub(crate) fn add_lengths(
     requires { each_faults (length_faults whole) length_spot MAX_ENTRIES list.now ≡ [] }
     ensures at { IfOk result (λ p. p ≡ length (tables_view tables.old).lists) }
     ensures added { OnOk result (tables_view tables.new
-        ≡ list_added (map (length_ticks whole) list.now) (tables_view tables.old)) }
+        ≡ rhythm_added (map (length_ticks whole) list.now) (tables_view tables.old)) }
 {
     let entries = lengths(alloc, whole, list)?;
-    tables.add_list(entries)
+    tables.add_rhythm(entries)
 }
 
 /// Appends a list of numbers and gives its index.

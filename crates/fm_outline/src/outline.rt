@@ -2,7 +2,7 @@
 
 use crate::step::Step;
 use crate::tables::Tables;
-use fm_msg::Profile;
+use fm_rules::Rules;
 
 /// A score with its tables. Each phrase names only phrases before it.
 #[derive(Drop)]
@@ -14,6 +14,6 @@ pub struct Outline {
     pub block: Vec<Step>,
     /// The seed of the score's draws, 0 where the text has none.
     pub seed: u32,
-    /// How the file of the score is written.
-    pub profile: Profile,
+    /// What the version of the score fixes.
+    pub rules: Rules,
 }

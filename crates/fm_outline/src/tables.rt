@@ -2,7 +2,9 @@
 
 ghost use Rattle.std.specs.Prelude.{◌≡◌, [], ◌∷◌, ◌++◌, length, IfOk, OnOk};
 ghost use Rattle.fm_program.specs.Parts.{expr_nodes};
-ghost use Rattle.fm_expansion.specs.Numbering.{no_tables, expr_added, list_added, chord_added, warp_added};
+ghost use Rattle.fm_line.specs.Line.{greatest as greatest_of};
+ghost use Rattle.fm_expansion.specs.Numbering.{no_tables, expr_added, list_added};
+ghost use Rattle.fm_expansion.specs.Numbering.{rhythm_added, chord_added, warp_added};
 ghost use Rattle.fm_outline.specs.View.{tables_view};
 
 use fm_program::Draw;
@@ -21,6 +23,8 @@ pub struct Tables {
     pub chords: Vec<Vec<Draw>>,
     /// Deformations.
     pub warps: Vec<Warp>,
+    /// The greatest entry of all rhythms, in ticks, 0 where there is none.
+    pub longest: u32,
 }
 
 /// The index of the next entry of a table with so many entries. A table that outgrows `u32` counts
@@ -54,6 +58,17 @@ fn nodes_alone(alloc: Global, expr: &Expr) -> Result<Expr, AllocError>
     })
 }
 
+// The greatest of these entries, 0 of none.
+fn greatest(entries: &[u32]) -> u32
+    ensures { result ≡ greatest_of entries.now }
+{
+    let mut most = 0u32;
+    for entry in entries {
+        most = most.max(*entry);
+    }
+    most
+}
+
 impl Tables {
     /// Tables without entries.
     pub(crate) fn new(alloc: Global) -> Tables
@@ -64,6 +79,7 @@ impl Tables {
             lists: Vec::new(alloc),
             chords: Vec::new(alloc),
             warps: Vec::new(alloc),
+            longest: 0,
         }
     }
 
@@ -86,6 +102,18 @@ impl Tables {
     {
         let index = next_index(self.lists.len())?;
         self.lists.push(list)?;
+        Ok(index)
+    }
+
+    /// Appends a rhythm and gives its index.
+    pub(crate) fn add_rhythm(&mut self, list: Vec<u32>) -> Result<u32, AllocError>
+        ensures at { IfOk result (λ p. p ≡ length (tables_view self.old).lists) }
+        ensures added { OnOk result
+            (tables_view self.new ≡ rhythm_added list.items (tables_view self.old)) }
+    {
+        let longest = self.longest.max(greatest(&list));
+        let index = self.add_list(list)?;
+        self.longest = longest;
         Ok(index)
     }
 

@@ -7,7 +7,8 @@ ghost use Rattle.fm_grammar.specs.View.{entry_view, items_view, name_view, score
 ghost use Rattle.fm_meaning.specs.Faults.{first_found};
 ghost use Rattle.fm_meaning.specs.Ranges.{second_walk};
 ghost use Rattle.fm_meaning.specs.Resolve.{resolved, seed_of};
-ghost use Rattle.fm_meaning.specs.Rules.{profile_of};
+ghost use Rattle.fm_meaning.specs.Rules.{score_rules};
+ghost use Rattle.fm_rules.specs.View.{rules_view};
 ghost use Rattle.fm_rules.specs.Why.{fault_at};
 ghost use Rattle.fm_rules.specs.declared.why.Why.{Why as Reason};
 ghost use Rattle.fm_expansion.specs.Numbering.{outline};
@@ -125,7 +126,7 @@ pub fn outline_of(alloc: Global, score: &Score) -> Result<Outline, CheckFault>
         passage_of_outline o ≡ (resolved (score_view score.now)).passage) }
     ensures phrases { IfOk result PhrasesStand }
     ensures seed { IfOk result (λ o. o.seed ≡ seed_of (score_view score.now).seed) }
-    ensures profile { IfOk result (λ o. o.profile ≡ profile_of (score_view score.now)) }
+    ensures rules { IfOk result (λ o. rules_view o.rules ≡ score_rules (score_view score.now)) }
     ensures faultless { OnOk result (second_walk (score_view score.now) ≡ []) }
     ensures refused { (why : Reason) (spot : Spot) → result ≡ Err (CheckFault.Refused why spot) →
         first_found (second_walk (score_view score.now)) ≡ Some (fault_at spot why) }
@@ -152,6 +153,6 @@ pub fn outline_of(alloc: Global, score: &Score) -> Result<Outline, CheckFault>
         phrases: walk.phrases,
         block: walk.block,
         seed,
-        profile: rules.profile,
+        rules,
     })
 }

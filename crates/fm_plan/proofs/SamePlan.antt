@@ -5,6 +5,7 @@ use Rattle.fm_grammar.specs.Score.{Score}
 use Rattle.fm_expansion.specs.Expansion.{expansion}
 use Rattle.fm_expansion.specs.Numbering.{outline, score_plan}
 use Rattle.fm_meaning.specs.Resolve.{seed_of}
+use Rattle.fm_meaning.specs.Rules.{VersionRules, profile_of}
 use Rattle.fm_outline.specs.declared.outline.Outline.{Outline}
 use Rattle.fm_outline.specs.OfScore.{IsOutlineOf}
 use Rattle.fm_plan.specs.Seen.{outline_plan}
@@ -16,6 +17,7 @@ followed (Err e) P Q f p = p
 
 -- the plan of the outline is the plan of the score
 pub same_plan : (o : Outline) (s : Score) → IsOutlineOf o s → outline_plan o ≡ score_plan s
+unfolding profile_of
 same_plan o s is =
-    ap₂ (λ v n. expansion v.tables n o.profile v.value) is.view is.seed
-    ∙ ap (λ p. expansion (outline s).tables (seed_of s.seed) p (outline s).value) is.profile
+    ap₂ (λ v n. expansion v.tables n o.rules.profile v.value) is.view is.seed
+    ∙ ap (λ r. expansion (outline s).tables (seed_of s.seed) (VersionRules.profile r) (outline s).value) is.rules

@@ -80,4 +80,4 @@ IsKnown e = e.forks.now ≡ map forks_in (phrases_view (map vec_items e.bodies.n
 
 -- the plan of an outline
 abbrev pub outline_plan : Outline → PlanParts
-outline_plan o = let v = outline_view o in expansion v.tables o.seed o.profile v.value
+outline_plan o = let v = outline_view o in expansion v.tables o.seed o.rules.profile v.value

@@ -30,7 +30,7 @@ fn put_together(alloc: Global, outline: Outline, processes: u32) -> Result<Plan,
     let Outline {
         tables,
         seed,
-        profile,
+        rules,
         ..
     } = outline;
     let Tables {
@@ -38,6 +38,7 @@ fn put_together(alloc: Global, outline: Outline, processes: u32) -> Result<Plan,
         lists,
         chords,
         warps,
+        ..
     } = tables;
     let stock = Stock {
         exprs,
@@ -46,7 +47,7 @@ fn put_together(alloc: Global, outline: Outline, processes: u32) -> Result<Plan,
         scopes,
         warps,
     };
-    Ok(Plan::of(stock, programs, u64::from(seed), profile))
+    Ok(Plan::of(stock, programs, u64::from(seed), rules.profile))
 }
 
 /// The plan of a score that is accepted, from its outline and its static totals.

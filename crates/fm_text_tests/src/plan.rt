@@ -5,6 +5,7 @@ use fm_msg::Profile;
 use fm_outline::{Instruction, Lasting, Outline, Step, Tables};
 use fm_plan::{Expanded, expand};
 use fm_program::{Count, Op, Program, Span, Turn};
+use fm_rules::Rules;
 use std::alloc::{AllocError, Global};
 
 // A statement of which so many of its block stand before the first that forks. Its place in the
@@ -63,11 +64,16 @@ fn outline(alloc: Global, phrases: Vec<Vec<Step>>, block: Vec<Step>) -> Outline 
             lists: Vec::new(alloc),
             chords: Vec::new(alloc),
             warps: Vec::new(alloc),
+            longest: 0,
         },
         phrases,
         block,
         seed: 0,
-        profile: Profile::first(),
+        rules: Rules {
+            profile: Profile::first(),
+            whole_note: 1_920,
+            most_processes: 4_096,
+        },
     }
 }
 

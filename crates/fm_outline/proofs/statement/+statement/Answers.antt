@@ -8,7 +8,7 @@ use Rattle.fm_meaning.specs.Faults.{first_found}
 use Rattle.fm_meaning.specs.Ranges.{body_faults, branches_faults, duration_faults, expr_faults, pitches_faults, stmt_faults}
 use Rattle.fm_meaning.specs.Resolve.{length_ticks}
 use Rattle.fm_expansion.specs.Outline as plain
-use Rattle.fm_expansion.specs.Numbering.{numbered, instruction_of, block_of, arms_of, expr_added, list_added}
+use Rattle.fm_expansion.specs.Numbering.{numbered, instruction_of, block_of, arms_of, expr_added, list_added, rhythm_added}
 use Rattle.fm_names.specs.Named.{named}
 use Rattle.fm_ranges.specs.Own.{own_faults}
 use Rattle.fm_rules.proofs.RangeLemmas.{none_first, none_second}
@@ -184,12 +184,12 @@ outline_item-returns-in-Rhythm t c = λ k look knows.
     c.deref-in-Rhythm-2.ensures.value in
     c.enclosed-in-Rhythm.ensures k look (item_view c.args.item.now).what u knows
     (added_opens k _ (items_view b) u _ (shell.Under quality.Duration) c.add_lengths-list.result (length u.lists)
-    (list_added (map (length_ticks c.args.known.now.whole) l) u) c.under.ensures c.add_lengths-list.ensures.at
+    (rhythm_added (map (length_ticks c.args.known.now.whole) l) u) c.under.ensures c.add_lengths-list.ensures.at
     c.add_lengths-list.ensures.added (behind_own k (body_faults (names_of k) (items_view b)) seen knows.whole refl c.requires)
     (ap (λ s. instruction_of k s u) seen
     ∙ ap
     (λ w. closed_behind (shell.Under quality.Duration (length u.lists))
-    (block_of k (items_view b) (list_added (map (length_ticks w) l) u)))
+    (block_of k (items_view b) (rhythm_added (map (length_ticks w) l) u)))
     knows.whole))
 
 pub outline_item-returns-in-Artic : goal.outline_item-returns-in-Artic

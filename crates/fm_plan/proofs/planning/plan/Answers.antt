@@ -15,7 +15,7 @@ its_outline : (c : goal.After-plan_outline) → IsOutlineOf c.in-Ok.outline (sco
 its_outline c = record {
   view = c.in-Ok.ensures.outline;
   seed = c.in-Ok.ensures.seed;
-  profile = c.in-Ok.ensures.profile;
+  rules = c.in-Ok.ensures.rules;
 }
 
 pub plan_outline-requires : goal.plan_outline-requires
@@ -26,7 +26,7 @@ plan_outline-requires c = (
   record {
     view = c.in-Ok.ensures.outline;
     seed = c.in-Ok.ensures.seed;
-    profile = c.in-Ok.ensures.profile;
+    rules = c.in-Ok.ensures.rules;
   },
   c.requires.bounds,
 )
