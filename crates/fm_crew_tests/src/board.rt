@@ -1,17 +1,18 @@
 //! Worked runs of a board of two seats, call by call.
-ghost use Rattle.std.specs.Prelude.{◌≡◌, ◌<◌, ◌≤◌, [], IfOk, length};
+ghost use Rattle.std.specs.Prelude.{◌≡◌, ◌<◌, [], ◌∷◌, IfOk, length};
 ghost use Rattle.fm_core.specs.declared.due.Due.TheVariants.{Nothing};
 ghost use Rattle.fm_core.specs.declared.floor.Floor.TheVariants.{At};
-ghost use Rattle.fm_core.specs.declared.limits.TheConstants.{MAX_LEAD};
 ghost use Rattle.fm_core.specs.declared.tag.Tag.TheVariants.{Home};
+ghost use Rattle.fm_program.proofs.Rows.{first_program, one_key, quarter_note};
+ghost use Rattle.fm_program.specs.Parts.{program_parts, stock_parts};
 ghost use Rattle.fm_board.specs.Answers.{Claims};
 ghost use Rattle.fm_board.specs.Quantum.{HasMade, MayAdvance};
 ghost use Rattle.fm_board.specs.Seats.{IsIdle, IsOurs};
 
 mod births;
 mod floors;
-mod taking;
 
+use crate::same::same;
 use fm_board::{Berth, Board, BoardSeat, Claim, Seen};
 use fm_core::Tag;
 use fm_msg::Profile;
@@ -32,23 +33,36 @@ const NOTE: Op = Op::Note {
     scope: 0,
 };
 
-// A plan of one note.
-fn plan_of_a_note(alloc: Global) -> Result<Plan, AllocError> {
+// Tables with a chord of one key.
+fn one_chord(alloc: Global) -> Result<Stock, AllocError>
+    ensures { IfOk result (λ s. stock_parts s ≡ one_key) }
+{
     let chord = vec![in alloc; Draw::Fixed { value: 60 }]?;
-    let stock = Stock {
+    Ok(Stock {
         exprs: Vec::new(alloc),
         lists: Vec::new(alloc),
         chords: vec![in alloc; chord]?,
         scopes: Scopes::new(alloc),
         warps: Vec::new(alloc),
-    };
-    let program = Program {
+    })
+}
+
+// A program of one note.
+fn one_note(alloc: Global) -> Result<Program, AllocError>
+    ensures { IfOk result (λ p. program_parts p ≡ first_program (quarter_note ∷ [])) }
+{
+    Ok(Program {
         ops: vec![in alloc; NOTE]?,
         cycles: Vec::new(alloc),
         levels: Vec::new(alloc),
         predecessors: Vec::new(alloc),
-    };
-    let programs = vec![in alloc; program]?;
+    })
+}
+
+// A plan of one note.
+fn plan_of_a_note(alloc: Global) -> Result<Plan, AllocError> {
+    let stock = one_chord(alloc)?;
+    let programs = vec![in alloc; one_note(alloc)?]?;
     Ok(Plan::of(stock, programs, 0, Profile::first()))
 }
 
@@ -61,26 +75,7 @@ fn opened<R: Abort + AllocGlobal>(rt: &R, plan: Plan) -> Result<(Board, BoardSea
     ensures number { IfOk result (λ r. r.2.mind.view.number ≡ 1) }
     ensures paced { IfOk result (λ r. r.2.mind.view.paced ≡ At 0) }
 {
-    opened_with(rt, plan, 0)
-}
-
-// The same with this lead.
-fn opened_with<R: Abort + AllocGlobal>(
-    rt: &R,
-    plan: Plan,
-    lead: u64,
-) -> Result<(Board, BoardSeat, BoardSeat), Fail>
-    requires lead { lead ≤ MAX_LEAD }
-    ensures room { IfOk result (λ r. r.0.about.room ≡ 8) }
-    ensures zero { IfOk result (λ r. IsIdle r.0.table.shared.table_id r.0.about r.1) }
-    ensures conductor { IfOk result (λ r. r.1.mind.view.number ≡ 0) }
-    ensures settled { IfOk result (λ r. r.1.mind.view.due ≡ Nothing) }
-    ensures none { IfOk result (λ r. r.1.mind.view.gathered ≡ []) }
-    ensures one { IfOk result (λ r. IsIdle r.0.table.shared.table_id r.0.about r.2) }
-    ensures number { IfOk result (λ r. r.2.mind.view.number ≡ 1) }
-    ensures paced { IfOk result (λ r. r.2.mind.view.paced ≡ At 0) }
-{
-    let (board, zero, mut others) = Board::open(rt.alloc(), plan, 8, lead, 1)?;
+    let (board, zero, mut others) = Board::open(rt.alloc(), plan, 8, 0, 1)?;
     match others.pop() {
         Some(one) => Ok((board, zero, one)),
         None => panic!(rt; "one worker has one seat"),
@@ -94,11 +89,10 @@ fn sees<R: Abort>(rt: &R, board: &Board, seat: &mut BoardSeat, wanted: (Tag, u64
     ensures number { seat.new.mind.view.number ≡ seat.old.mind.view.number }
     ensures paced { seat.new.mind.view.paced ≡ seat.old.mind.view.paced }
     ensures due { seat.new.mind.view.due ≡ seat.old.mind.view.due }
-    ensures gathered { seat.new.mind.view.gathered ≡ seat.old.mind.view.gathered }
 {
     assert!(rt; 0 < board.plan().processes());
     let seen = board.look(seat, 0);
-    assert_eq!(rt; (seen.tag, seen.clock, seen.seat), wanted);
+    same(rt, &(seen.tag, seen.clock, seen.seat), &wanted);
     seen
 }
 
@@ -138,7 +132,7 @@ fn is_busy<R: Abort>(
 {
     match claims(rt, board, seat, seen) {
         Claim::Held(_) => panic!(rt; "the process is in other hands"),
-        Claim::Busy { found } => assert_eq!(rt; (found.tag, found.clock, found.seat), wanted),
+        Claim::Busy { found } => same(rt, &(found.tag, found.clock, found.seat), &wanted),
     }
 }
 
@@ -176,22 +170,6 @@ fn give_back(board: &Board, seat: &mut BoardSeat, berth: Berth, answer: Quantum)
     }
 }
 
-#[test]
-fn a_process_is_held_by_the_first_that_claims_it(rt: HostRuntime) -> Result<(), Fail> {
-    let (board, mut zero, mut one) = opened(&rt, plan_of_a_note(rt.alloc())?)?;
-    let seen = sees(&rt, &board, &mut zero, (Tag::Home, 0, 0));
-    let same = sees(&rt, &board, &mut one, (Tag::Home, 0, 0));
-    match claims(&rt, &board, &mut one, &same) {
-        Claim::Held(berth) => {
-            is_busy(&rt, &board, &mut zero, &seen, (Tag::Out, 0, 1));
-            plays(&rt, &board, &mut one, berth, 0, Quantum::Limit);
-        }
-        Claim::Busy { .. } => panic!(&rt; "nobody else has claimed it"),
-    }
-    sees(&rt, &board, &mut zero, (Tag::Home, 432, 0));
-    Ok(())
-}
-
 // Both seats claim process 0 at once: one has it, and the other finds out who.
 fn both_claim<R: Abort + Threads + Sync>(
     rt: &R,
@@ -218,7 +196,7 @@ fn both_claim<R: Abort + Threads + Sync>(
         (Claim::Busy { found }, Claim::Held(_)) => (found.tag, found.clock, found.seat, 1),
         _ => panic!(rt; "exactly one seat holds the process"),
     };
-    assert_eq!(rt; (seat.0, seat.1, seat.2), (Tag::Out, 0, seat.3));
+    same(rt, &(seat.0, seat.1, seat.2), &(Tag::Out, 0, seat.3));
 }
 
 #[test]

@@ -11,4 +11,6 @@ mod crew;
 #[cfg(test)]
 mod round;
 #[cfg(test)]
+mod same;
+#[cfg(test)]
 mod voices;

@@ -1,5 +1,6 @@
 //! Three voices that start together and end at different times, played in both ways.
 
+use crate::same::same;
 use crate::voices::{FILE, plan_of_three_voices};
 use fm_edge::{MeetGate, MemorySink};
 use fm_round::{Played, Rounds};
@@ -9,10 +10,9 @@ use std::thread::Threads;
 
 // Compares what is told of the piece and what the sink holds.
 fn has_played<R: Abort>(rt: &R, played: Option<Played>, sink: &MemorySink) {
-    assert_eq!(rt;
-        (played.map(|p| (p.events, p.last, p.bytes)), sink.content()),
-        (Some((6, 960, 60)), FILE.as_slice())
-    );
+    let numbers = played.map(|p| (p.events, p.last, p.bytes));
+    let wanted = (Some((6, 960, 60)), FILE.as_slice());
+    same(rt, &(numbers, sink.content()), &wanted);
 }
 
 #[test]

@@ -1,5 +1,6 @@
 //! Three voices that start together and end at different times: their plan and its file.
-ghost use Rattle.std.specs.Prelude.{◌≡◌, [], ◌∷◌, IfOk, pos};
+ghost use Rattle.std.specs.Prelude.{◌≡◌, [], ◌∷◌, IfOk, map, pos, take};
+ghost use Rattle.fm_program.proofs.Voices.{three_voices};
 ghost use Rattle.fm_program.specs.Parts.{program_parts, stock_parts};
 ghost use Rattle.fm_program.specs.declared.op.Draw.TheVariants as draw;
 
@@ -98,14 +99,30 @@ fn voice(alloc: Global, note: Op) -> Result<Program, AllocError>
     Ok(behind(alloc, vec![in alloc; 0]?, ops))
 }
 
-// Three voices between two empty processes.
-pub fn plan_of_three_voices(alloc: Global) -> Result<Plan, AllocError> {
+// An empty process, and three voices behind it.
+fn voices(alloc: Global) -> Result<Vec<Program>, AllocError>
+    ensures { IfOk result (λ ps. map program_parts ps.items ≡ take 4 three_voices.programs) }
+{
     let root = behind(alloc, Vec::new(alloc), Vec::new(alloc));
     let quarter = voice(alloc, QUARTER)?;
     let eighth = voice(alloc, EIGHTH)?;
     let half = voice(alloc, HALF)?;
+    Ok(vec![in alloc; root, quarter, eighth, half]?)
+}
+
+// The voices, and an empty process behind them.
+fn programs(alloc: Global) -> Result<Vec<Program>, AllocError>
+    ensures { IfOk result (λ ps. map program_parts ps.items ≡ three_voices.programs) }
+{
     let close = behind(alloc, vec![in alloc; 1, 2, 3]?, Vec::new(alloc));
-    let programs = vec![in alloc; root, quarter, eighth, half, close]?;
+    let mut programs = voices(alloc)?;
+    programs.push(close)?;
+    Ok(programs)
+}
+
+// Three voices between two empty processes.
+pub fn plan_of_three_voices(alloc: Global) -> Result<Plan, AllocError> {
+    let programs = programs(alloc)?;
     let stock = three_chords(alloc)?;
     Ok(Plan::of(stock, programs, 0, Profile::first()))
 }

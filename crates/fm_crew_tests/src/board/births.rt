@@ -1,8 +1,11 @@
 //! Three voices between two empty processes: one seat ends the first process, and then both start
 //! a voice, the same one.
+ghost use Rattle.std.specs.Prelude.{◌≡◌};
+ghost use Rattle.fm_core.specs.declared.floor.Floor.TheVariants.{At};
 ghost use Rattle.fm_board.specs.Seats.{IsIdle};
 
 use super::{claims, is_busy, opened, plays, sees};
+use crate::same::same;
 use crate::voices::plan_of_three_voices;
 use fm_board::{Board, BoardSeat, Claim, Recalled, Started};
 use fm_core::Tag;
@@ -24,7 +27,11 @@ fn is_not_yet<R: Abort>(
     assert!(rt; process < board.plan().processes());
     match board.start(seat, process) {
         Started::NotYet { predecessor, found } => {
-            assert_eq!(rt; (predecessor, found.tag, found.clock, found.seat), wanted);
+            same(
+                rt,
+                &(predecessor, found.tag, found.clock, found.seat),
+                &wanted,
+            );
         }
         Started::Held(_) | Started::Busy { .. } => panic!(rt; "a predecessor is not at its end"),
     }
@@ -36,7 +43,7 @@ fn starts<R: Abort>(rt: &R, board: &Board, seat: &mut BoardSeat, process: u32)
 {
     assert!(rt; process < board.plan().processes());
     match board.start(seat, process) {
-        Started::Held(berth) => assert_eq!(rt; (berth.process, berth.strand.clock()), (process, 0)),
+        Started::Held(berth) => same(rt, &(berth.process, berth.strand.clock()), &(process, 0)),
         Started::NotYet { .. } | Started::Busy { .. } => panic!(rt; "nobody else has started it"),
     }
 }
@@ -54,7 +61,7 @@ fn is_started<R: Abort>(
 {
     assert!(rt; process < board.plan().processes());
     match board.start(seat, process) {
-        Started::Busy { found } => assert_eq!(rt; (found.tag, found.clock, found.seat), wanted),
+        Started::Busy { found } => same(rt, &(found.tag, found.clock, found.seat), &wanted),
         Started::Held(_) | Started::NotYet { .. } => panic!(rt; "the process is in other hands"),
     }
 }
@@ -65,27 +72,45 @@ fn ended_at<R: Abort>(rt: &R, board: &Board, seat: &mut BoardSeat, process: u32,
 {
     assert!(rt; process < board.plan().processes());
     match board.recall(seat, process) {
-        Recalled::There(place) => assert_eq!(rt; (place.depth, place.position), (0, position)),
+        Recalled::There(place) => same(rt, &(place.depth, place.position), &(0, position)),
         Recalled::NotYet { .. } => panic!(rt; "the process ended"),
     }
+}
+
+// One seat ends the first process while the other finds it busy, and then both start a voice.
+fn start_in_turn<R: Abort>(rt: &R, board: &Board, zero: &mut BoardSeat, one: &mut BoardSeat)
+    requires zero { IsIdle board.now.table.shared.table_id board.now.about zero.old }
+    requires one { IsIdle board.now.table.shared.table_id board.now.about one.old }
+    requires number { one.old.mind.view.number ≡ 1 }
+    requires paced { one.old.mind.view.paced ≡ At 0 }
+{
+    let seen = sees(rt, board, zero, (Tag::Home, 0, 0));
+    let also = sees(rt, board, one, (Tag::Home, 0, 0));
+    match claims(rt, board, one, &also) {
+        Claim::Held(berth) => {
+            is_busy(rt, board, zero, &seen, (Tag::Out, 0, 1));
+            is_not_yet(rt, board, zero, 1, (0, Tag::Out, 0, 1));
+            plays(rt, board, one, berth, 0, Quantum::Ended);
+        }
+        Claim::Busy { .. } => panic!(rt; "nobody else has claimed it"),
+    }
+    start_again(rt, board, zero, one);
+}
+
+// Both start a voice, the same one, once the first process has ended.
+fn start_again<R: Abort>(rt: &R, board: &Board, zero: &mut BoardSeat, one: &mut BoardSeat)
+    requires zero { IsIdle board.now.table.shared.table_id board.now.about zero.old }
+    requires one { IsIdle board.now.table.shared.table_id board.now.about one.old }
+{
+    sees(rt, board, zero, (Tag::Drained, 0, 0));
+    starts(rt, board, zero, 1);
+    is_started(rt, board, one, 1, (Tag::Out, 0, 0));
+    ended_at(rt, board, one, 0, 0);
 }
 
 #[test]
 fn a_voice_starts_once_the_first_process_ended(rt: HostRuntime) -> Result<(), Fail> {
     let (board, mut zero, mut one) = opened(&rt, plan_of_three_voices(rt.alloc())?)?;
-    let seen = sees(&rt, &board, &mut zero, (Tag::Home, 0, 0));
-    let same = sees(&rt, &board, &mut one, (Tag::Home, 0, 0));
-    match claims(&rt, &board, &mut one, &same) {
-        Claim::Held(berth) => {
-            is_busy(&rt, &board, &mut zero, &seen, (Tag::Out, 0, 1));
-            is_not_yet(&rt, &board, &mut zero, 1, (0, Tag::Out, 0, 1));
-            plays(&rt, &board, &mut one, berth, 0, Quantum::Ended);
-        }
-        Claim::Busy { .. } => panic!(&rt; "nobody else has claimed it"),
-    }
-    sees(&rt, &board, &mut zero, (Tag::Drained, 0, 0));
-    starts(&rt, &board, &mut zero, 1);
-    is_started(&rt, &board, &mut one, 1, (Tag::Out, 0, 0));
-    ended_at(&rt, &board, &mut one, 0, 0);
+    start_in_turn(&rt, &board, &mut zero, &mut one);
     Ok(())
 }

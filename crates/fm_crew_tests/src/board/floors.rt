@@ -6,6 +6,7 @@ ghost use Rattle.fm_core.specs.declared.floor.Floor.TheVariants.{At};
 ghost use Rattle.fm_board.specs.Seats.{IsIdle};
 
 use super::{claims, opened, plan_of_a_note, plays, sees};
+use crate::same::same;
 use fm_board::{Board, BoardSeat, Claim, Sweep};
 use fm_core::{Floor, Tag};
 use fm_strand::Quantum;
@@ -31,7 +32,7 @@ fn publishes<R: Abort>(rt: &R, board: &Board, seat: &mut BoardSeat, wanted: Swee
     ensures number { seat.new.mind.view.number ≡ 0 }
 {
     let sweep = seat.sweep();
-    assert_eq!(rt; sweep, wanted);
+    same(rt, &sweep, &wanted);
     assert!(rt; sweep.next == board.plan().processes());
     board.publish(seat, floor_at(sweep.least));
 }
@@ -42,7 +43,7 @@ fn paces<R: Abort>(rt: &R, board: &Board, seat: &mut BoardSeat, wanted: Floor)
     ensures idle { IsIdle board.now.table.shared.table_id board.now.about seat.new }
     ensures number { seat.new.mind.view.number ≡ seat.old.mind.view.number }
 {
-    assert_eq!(rt; board.pace(seat), wanted);
+    same(rt, &board.pace(seat), &wanted);
 }
 
 // A load of the halt word.
@@ -50,7 +51,7 @@ fn heeds<R: Abort>(rt: &R, board: &Board, seat: &mut BoardSeat, wanted: bool)
     requires idle { IsIdle board.now.table.shared.table_id board.now.about seat.old }
     ensures idle { IsIdle board.now.table.shared.table_id board.now.about seat.new }
 {
-    assert_eq!(rt; board.heed(seat), wanted);
+    same(rt, &board.heed(seat), &wanted);
 }
 
 // A quantum of process 0 up to tick 0, by a worker.
@@ -67,20 +68,32 @@ fn works<R: Abort>(rt: &R, board: &Board, seat: &mut BoardSeat)
     }
 }
 
-#[test]
-fn a_worker_sees_the_floor_and_the_halt(rt: HostRuntime) -> Result<(), Fail> {
-    let (board, mut zero, mut one) = opened(&rt, plan_of_a_note(rt.alloc())?)?;
-    works(&rt, &board, &mut one);
-    sees(&rt, &board, &mut zero, (Tag::Home, 432, 0));
+// A worker's quantum, a publish and a halt, and what the worker sees of them.
+fn pace_and_halt<R: Abort>(rt: &R, board: &Board, zero: &mut BoardSeat, one: &mut BoardSeat)
+    requires zero { IsIdle board.now.table.shared.table_id board.now.about zero.old }
+    requires conductor { zero.old.mind.view.number ≡ 0 }
+    requires settled { zero.old.mind.view.due ≡ Nothing }
+    requires one { IsIdle board.now.table.shared.table_id board.now.about one.old }
+    requires number { one.old.mind.view.number ≡ 1 }
+    requires paced { one.old.mind.view.paced ≡ At 0 }
+{
+    works(rt, board, one);
+    sees(rt, board, zero, (Tag::Home, 432, 0));
     let swept = Sweep {
         next: 1,
         least: Some((432, 0)),
     };
-    paces(&rt, &board, &mut one, Floor::At(0));
-    publishes(&rt, &board, &mut zero, swept);
-    paces(&rt, &board, &mut one, Floor::At(432));
-    heeds(&rt, &board, &mut one, false);
-    board.halt(&mut zero);
-    heeds(&rt, &board, &mut one, true);
+    paces(rt, board, one, Floor::At(0));
+    publishes(rt, board, zero, swept);
+    paces(rt, board, one, Floor::At(432));
+    heeds(rt, board, one, false);
+    board.halt(zero);
+    heeds(rt, board, one, true);
+}
+
+#[test]
+fn a_worker_sees_the_floor_and_the_halt(rt: HostRuntime) -> Result<(), Fail> {
+    let (board, mut zero, mut one) = opened(&rt, plan_of_a_note(rt.alloc())?)?;
+    pace_and_halt(&rt, &board, &mut zero, &mut one);
     Ok(())
 }
