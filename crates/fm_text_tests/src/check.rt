@@ -5,10 +5,11 @@ mod places;
 mod totals;
 mod words;
 
-use crate::texts::read;
+use crate::same::same;
+use crate::texts::{Times, joined, read};
 use fm_check::{Bounds, CheckFault, check};
 use fm_grammar::Score;
-use std::alloc::Global;
+use std::alloc::{AllocError, Global};
 use std::process::Abort;
 
 /// The number of a fault with its line and column, or zeros.
@@ -46,13 +47,24 @@ fn verdict(alloc: Global, text: &str) -> Verdict {
 }
 
 // Compares the verdict of a text with this one.
-fn check_row<R: Abort>(rt: &R, alloc: Global, text: &str, want: Verdict) {
-    assert_eq!(rt; verdict(alloc, text), want, "{text}");
+fn check_row<R: Abort + AllocGlobal>(rt: &R, text: &str, want: Verdict) {
+    same(rt, &(text, verdict(rt.alloc(), text)), &(text, want));
 }
 
 // Compares the verdict of each text with the one that stands beside it.
-fn check_rows<R: Abort>(rt: &R, alloc: Global, rows: &[Row]) {
+fn check_rows<R: Abort + AllocGlobal>(rt: &R, rows: &[Row]) {
     for (text, want) in rows {
-        check_row(rt, alloc, text, *want);
+        check_row(rt, text, *want);
     }
+}
+
+// Compares the verdict of a text of these parts with this one.
+fn check_joined<R: Abort + AllocGlobal>(
+    rt: &R,
+    parts: &[Times],
+    want: Verdict,
+) -> Result<(), AllocError> {
+    let text = joined(rt.alloc(), parts)?;
+    check_row(rt, &text, want);
+    Ok(())
 }

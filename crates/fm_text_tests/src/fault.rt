@@ -1,8 +1,8 @@
-//! The numbers of faults, and their words.
+//! The numbers of faults.
 
+use crate::same::same;
 use fm_lex::Spot;
 use fm_rules::{CheckFault, Fault, Why, refused};
-use std::alloc::{AllocError, Global};
 
 const NUMBERS: &[(Why, u8)] = &[
     (Why::DoubleName, 5),
@@ -14,25 +14,11 @@ const NUMBERS: &[(Why, u8)] = &[
 ];
 
 #[test]
-fn numbers(rt: HostRuntime) {
+fn faults_have_their_numbers(rt: HostRuntime) {
     for (why, number) in NUMBERS {
-        assert_eq!(rt; why.number(), *number);
+        same(&rt, &why.number(), number);
     }
-}
-
-/// What a fault says.
-pub fn said(alloc: Global, fault: &CheckFault) -> Result<String, AllocError> {
-    format!(in alloc; "{fault}")
-}
-
-#[test]
-fn words(rt: HostRuntime) -> Result<(), AllocError> {
-    let fault = refused(Fault {
-        why: Why::TooLong,
-        spot: Spot { line: 3, column: 7 },
-    });
-    assert_eq!(rt; said(rt.alloc(), &fault)?.as_str(), "3:7: too long");
-    let memory = CheckFault::from(AllocError);
-    assert_eq!(rt; said(rt.alloc(), &memory)?.as_str(), "out of memory");
-    Ok(())
+    let spot = Spot { line: 3, column: 7 };
+    let why = Why::TooLong;
+    assert!(rt; refused(Fault { why, spot }) == CheckFault::Refused { why, spot });
 }

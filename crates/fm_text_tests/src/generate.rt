@@ -1,5 +1,6 @@
 //! One whole score, the length of the longest, and two lines.
 
+use crate::same::same;
 use fm_gen::{MAX_NUMBER, MAX_SCORE, Summary, generate};
 use std::alloc::AllocError;
 
@@ -32,14 +33,14 @@ branch { channel 15 { warp a { warp b { repeat 1000 { note key (36 + pick(60)) 1
 #[test]
 fn the_score_of_0_is_the_stated_text(rt: HostRuntime) -> Result<(), AllocError> {
     let text = generate(rt.alloc(), 0)?;
-    assert_eq!(rt; text.as_slice(), SCORE_OF_0.as_bytes());
+    same(&rt, &text.as_slice(), &SCORE_OF_0.as_bytes());
     Ok(())
 }
 
 #[test]
 fn the_greatest_number_has_the_longest_score(rt: HostRuntime) -> Result<(), AllocError> {
     let text = generate(rt.alloc(), MAX_NUMBER)?;
-    assert_eq!(rt; text.len(), MAX_SCORE);
+    same(&rt, &text.len(), &MAX_SCORE);
     Ok(())
 }
 
@@ -67,6 +68,6 @@ const LINES: &[(Summary, &str)] = &[
 #[test]
 fn the_line_names_its_numbers(rt: HostRuntime) {
     for (summary, line) in LINES {
-        assert_eq!(rt; summary.line().as_str(), *line);
+        same(&rt, &summary.line().as_str(), line);
     }
 }

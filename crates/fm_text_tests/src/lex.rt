@@ -1,7 +1,9 @@
 //! One line of tokens, and three faults.
 
+use crate::same::same;
 use fm_lex::{Keyword, Kind, Lexer, MAX_TEXT, Spot, tokens_stand};
 use std::alloc::{AllocError, Global};
+use std::process::Abort;
 
 /// The tokens of a line, with their columns.
 const TOKENS: &[(Kind, &str, u32)] = &[
@@ -49,7 +51,7 @@ fn is_token(lexer: &mut Lexer, kind: Kind, text: &str, column: u32) -> bool {
 fn gives_the_tokens_of_a_line(rt: HostRuntime) {
     let mut lexer = Lexer::new(b"a_1 r8 n16 bb3 c10");
     for (kind, text, column) in TOKENS {
-        assert!(rt; is_token(&mut lexer, *kind, text, *column), "{text}");
+        assert!(rt; is_token(&mut lexer, *kind, text, *column));
     }
 }
 
@@ -61,17 +63,28 @@ fn said(alloc: Global, lexer: &mut Lexer) -> Result<String, AllocError> {
     }
 }
 
+// Behind so many tokens a text gives its fault, and gives it again.
+fn has_fault<R: Abort + AllocGlobal>(
+    rt: &R,
+    text: &str,
+    before: usize,
+    fault: &str,
+) -> Result<(), AllocError> {
+    assert!(rt; text.len() <= MAX_TEXT);
+    let mut lexer = Lexer::new(text.as_bytes());
+    for _ in 0..before {
+        assert!(rt; lexer.next().is_ok());
+    }
+    for _ in 0..2 {
+        same(rt, &said(rt.alloc(), &mut lexer)?.as_str(), &fault);
+    }
+    Ok(())
+}
+
 #[test]
 fn gives_a_fault_again(rt: HostRuntime) -> Result<(), AllocError> {
     for (text, before, fault) in FAULTS {
-        assert!(rt; text.len() <= MAX_TEXT);
-        let mut lexer = Lexer::new(text.as_bytes());
-        for _ in 0..*before {
-            assert!(rt; lexer.next().is_ok(), "{text}");
-        }
-        for _ in 0..2 {
-            assert_eq!(rt; said(rt.alloc(), &mut lexer)?.as_str(), *fault);
-        }
+        has_fault(&rt, text, *before, fault)?;
     }
     Ok(())
 }

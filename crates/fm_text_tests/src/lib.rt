@@ -22,6 +22,8 @@ mod parse;
 #[cfg(test)]
 mod plan;
 #[cfg(test)]
+mod same;
+#[cfg(test)]
 mod texts;
 #[cfg(test)]
 mod value;

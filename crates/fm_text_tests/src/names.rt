@@ -1,7 +1,9 @@
 //! Names that are defined again, and names of one key.
 
+use crate::same::same;
 use fm_names::Names;
 use std::alloc::{AllocError, Global};
+use std::process::Abort;
 
 /// A name and what it stands for from here on.
 type Definition = (&'static [u8], u32);
@@ -27,16 +29,6 @@ fn defined(
     Ok(names)
 }
 
-// What a name stands for behind these definitions.
-fn found(
-    alloc: Global,
-    definitions: &'static [Definition],
-    name: &[u8],
-) -> Result<Option<u32>, AllocError> {
-    let names = defined(alloc, definitions)?;
-    Ok(names.get(name).copied())
-}
-
 /// A name and what it stands for, if it was defined.
 type Asked = (&'static [u8], Option<u32>);
 
@@ -48,18 +40,25 @@ const IN_CHORUSES: &[Asked] = &[
     (b"third_chorus", None),
 ];
 
-#[test]
-fn latest_definition_counts(rt: HostRuntime) -> Result<(), AllocError> {
-    for (name, want) in IN_VERSES {
-        assert_eq!(rt; found(rt.alloc(), VERSES, name)?, *want);
+// Behind these definitions names stand for this.
+fn stand_for<R: Abort + AllocGlobal>(
+    rt: &R,
+    definitions: &'static [Definition],
+    asked: &[Asked],
+) -> Result<(), AllocError> {
+    let names = defined(rt.alloc(), definitions)?;
+    for (name, want) in asked {
+        same(rt, &names.get(name).copied(), want);
     }
     Ok(())
 }
 
 #[test]
+fn latest_definition_counts(rt: HostRuntime) -> Result<(), AllocError> {
+    stand_for(&rt, VERSES, IN_VERSES)
+}
+
+#[test]
 fn names_of_one_key_are_told_apart(rt: HostRuntime) -> Result<(), AllocError> {
-    for (name, want) in IN_CHORUSES {
-        assert_eq!(rt; found(rt.alloc(), CHORUSES, name)?, *want);
-    }
-    Ok(())
+    stand_for(&rt, CHORUSES, IN_CHORUSES)
 }

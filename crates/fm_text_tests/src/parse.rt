@@ -1,5 +1,6 @@
 //! Texts that the parser reads or refuses.
 
+use crate::same::same;
 use crate::texts::{joined, read};
 use fm_grammar::{Entry, Name, Score};
 use fm_lex::{LexFault, Spot};
@@ -109,11 +110,6 @@ const DEEPEST: &[(&str, u32, &str, &str)] = &[
     ("same(1,", 12, "2", ")"),
 ];
 
-const SAID: &[(&str, &str)] = &[
-    ("formula 1; Note", "1:12: no token begins with this byte"),
-    ("formula", "1:8: this token can't stand here"),
-];
-
 /// A fault and its column.
 type Told = (&'static str, u32);
 
@@ -141,7 +137,7 @@ fn told(alloc: Global, text: &str) -> Told {
 
 // Compares what the parser tells of a text with this.
 fn check_told<R: Abort>(rt: &R, alloc: Global, text: &str, want: Told) {
-    assert_eq!(rt; told(alloc, text), want, "at {text}");
+    same(rt, &(text, told(alloc, text)), &(text, want));
 }
 
 // The version of a score, its seed, and how many entries it has.
@@ -228,22 +224,6 @@ fn the_deepest_texts(rt: HostRuntime) -> Result<(), AllocError> {
         let deep = joined(alloc, &[begins, middle, ends])?;
         let text = deepest(alloc, &deep)?;
         check_told(&rt, alloc, &text, READS);
-    }
-    Ok(())
-}
-
-/// What a fault says.
-pub fn said(alloc: Global, fault: &ParseFault) -> Result<String, AllocError> {
-    format!(in alloc; "{fault}")
-}
-
-#[test]
-fn texts_of_faults(rt: HostRuntime) -> Result<(), AllocError> {
-    for (text, words) in SAID {
-        match fault_of(rt.alloc(), text) {
-            None => assert!(rt; false, "{text}"),
-            Some(fault) => assert_eq!(rt; said(rt.alloc(), &fault)?.as_str(), *words),
-        }
     }
     Ok(())
 }

@@ -5,6 +5,9 @@ use fm_lex::MAX_TEXT;
 use fm_parse::{ParseFault, parse};
 use std::alloc::{AllocError, Global};
 
+/// A text, and how often it stands.
+pub type Times = (&'static str, u32);
+
 /// These texts one behind the other, each so many times.
 pub fn joined(alloc: Global, parts: &[(&str, u32)]) -> Result<String, AllocError> {
     let mut text = String::new(alloc);

@@ -3,10 +3,10 @@ ghost use Rattle.std.specs.Prelude.{[], ◌∷◌, IsTrue};
 ghost use Rattle.fm_value.specs.Value.{is_expr};
 ghost use Rattle.fm_value.specs.declared.node.Node.TheVariants.{Register};
 
+use crate::same::same;
 use fm_value::{Dice, Expr, Node, Registers, Spot2, value};
 use std::alloc::{AllocError, Global};
 use std::process::Abort;
-use std::test::Fail;
 
 const SPOT: Spot2 = Spot2 { line: 1, column: 1 };
 
@@ -73,15 +73,44 @@ const PRODUCTS: &[Row] = &[
     (0, -1_000_000, 0),
 ];
 
-/// Two numbers, the least and the greatest of them, and whether the first is less or the same.
-const COMPARISONS: &[(i64, i64, (i64, i64, i64, i64))] = &[
-    (-1, 0, (-1, 0, 1, 0)),
-    (0, -1, (-1, 0, 0, 0)),
-    (3, 3, (3, 3, 0, 1)),
-    (-1, 1, (-1, 1, 1, 0)),
-    (0, 0, (0, 0, 0, 1)),
-    (1_000_000, -1_000_000, (-1_000_000, 1_000_000, 0, 0)),
-    (-1_000_000, -1_000_000, (-1_000_000, -1_000_000, 0, 1)),
+const LEAST: &[Row] = &[
+    (-1, 0, -1),
+    (0, -1, -1),
+    (3, 3, 3),
+    (-1, 1, -1),
+    (0, 0, 0),
+    (1_000_000, -1_000_000, -1_000_000),
+    (-1_000_000, -1_000_000, -1_000_000),
+];
+
+const GREATEST: &[Row] = &[
+    (-1, 0, 0),
+    (0, -1, 0),
+    (3, 3, 3),
+    (-1, 1, 1),
+    (0, 0, 0),
+    (1_000_000, -1_000_000, 1_000_000),
+    (-1_000_000, -1_000_000, -1_000_000),
+];
+
+const LESS: &[Row] = &[
+    (-1, 0, 1),
+    (0, -1, 0),
+    (3, 3, 0),
+    (-1, 1, 1),
+    (0, 0, 0),
+    (1_000_000, -1_000_000, 0),
+    (-1_000_000, -1_000_000, 0),
+];
+
+const SAME: &[Row] = &[
+    (-1, 0, 0),
+    (0, -1, 0),
+    (3, 3, 1),
+    (-1, 1, 0),
+    (0, 0, 1),
+    (1_000_000, -1_000_000, 0),
+    (-1_000_000, -1_000_000, 1),
 ];
 
 // Compares what an operation gives with each row.
@@ -89,43 +118,31 @@ fn check_rows<R: Abort>(rt: &R, alloc: Global, node: Node, rows: &[Row]) -> Resu
     requires { IsTrue (is_expr 0 (Register 0 ∷ Register 1 ∷ node ∷ [])) }
 {
     for (x, y, want) in rows {
-        assert_eq!(rt;
-            on_two(rt, alloc, node, *x, *y)?,
-            *want,
-            "{node:?} at {x} and {y}"
-        );
+        let found = on_two(rt, alloc, node, *x, *y)?;
+        same(rt, &(*x, *y, found), &(*x, *y, *want));
     }
     Ok(())
 }
 
 #[test]
-fn quotients_are_floors_and_0_at_0(rt: HostRuntime) -> Result<(), Fail> {
+fn quotients_are_floors_and_0_at_0(rt: HostRuntime) -> Result<(), AllocError> {
     check_rows(&rt, rt.alloc(), Node::Divide, QUOTIENTS)?;
-    check_rows(&rt, rt.alloc(), Node::Remain, REMAINDERS)?;
-    Ok(())
+    check_rows(&rt, rt.alloc(), Node::Remain, REMAINDERS)
 }
 
 #[test]
-fn results_are_clamped_to_one_million(rt: HostRuntime) -> Result<(), Fail> {
+fn results_are_clamped_to_one_million(rt: HostRuntime) -> Result<(), AllocError> {
     check_rows(&rt, rt.alloc(), Node::Add, SUMS)?;
     check_rows(&rt, rt.alloc(), Node::Subtract, DIFFERENCES)?;
-    check_rows(&rt, rt.alloc(), Node::Multiply, PRODUCTS)?;
-    Ok(())
+    check_rows(&rt, rt.alloc(), Node::Multiply, PRODUCTS)
 }
 
 #[test]
-fn comparisons_at_the_signs(rt: HostRuntime) -> Result<(), Fail> {
-    let alloc = rt.alloc();
-    for (x, y, want) in COMPARISONS {
-        let found = (
-            on_two(&rt, alloc, Node::Min, *x, *y)?,
-            on_two(&rt, alloc, Node::Max, *x, *y)?,
-            on_two(&rt, alloc, Node::Less, *x, *y)?,
-            on_two(&rt, alloc, Node::Same, *x, *y)?,
-        );
-        assert_eq!(rt; found, *want, "{x} and {y}");
-    }
-    Ok(())
+fn comparisons_at_the_signs(rt: HostRuntime) -> Result<(), AllocError> {
+    check_rows(&rt, rt.alloc(), Node::Min, LEAST)?;
+    check_rows(&rt, rt.alloc(), Node::Max, GREATEST)?;
+    check_rows(&rt, rt.alloc(), Node::Less, LESS)?;
+    check_rows(&rt, rt.alloc(), Node::Same, SAME)
 }
 
 /// What a register holds, and 20 less it.
@@ -149,9 +166,9 @@ fn negated<R: Abort>(rt: &R, alloc: Global, x: i64) -> Result<(i64, i64), AllocE
 }
 
 #[test]
-fn a_negated_register_and_an_index(rt: HostRuntime) -> Result<(), Fail> {
+fn a_negated_register_and_an_index(rt: HostRuntime) -> Result<(), AllocError> {
     for (x, want) in NEGATED {
-        assert_eq!(rt; negated(&rt, rt.alloc(), *x)?, (*x, *want), "at {x}");
+        same(&rt, &negated(&rt, rt.alloc(), *x)?, &(*x, *want));
     }
     Ok(())
 }
@@ -165,12 +182,12 @@ fn drawn(alloc: Global, dice: &mut Dice) -> Result<i64, AllocError> {
 }
 
 #[test]
-fn a_draw_below_1_steps_the_generator(rt: HostRuntime) -> Result<(), Fail> {
+fn a_draw_below_1_steps_the_generator(rt: HostRuntime) -> Result<(), AllocError> {
     let mut dice = Dice::new(0);
     let sum = drawn(rt.alloc(), &mut dice)?;
     let first = Dice::new(0).pick(12);
     // The first three draws show 167951807, 218396424 and 1299921937.
     let draws = (dice.pick(-5), dice.pick(1_000));
-    assert_eq!(rt; (sum, first, draws), (71, 11, (0, 937)));
+    same(&rt, &(sum, first, draws), &(71, 11, (0, 937)));
     Ok(())
 }

@@ -1,5 +1,6 @@
 //! The rules of both versions, and lengths in ticks.
 
+use crate::same::same;
 use fm_grammar::{Length, Number, Score};
 use fm_lex::Spot;
 use fm_msg::Profile;
@@ -36,14 +37,14 @@ fn rules(alloc: Global, version: u32, division: Option<Number>) -> (bool, u16, u
 #[test]
 fn first_version(rt: HostRuntime) {
     let found = rules(rt.alloc(), FIRST_VERSION, None);
-    assert_eq!(rt; found, (false, 480, 1_920, 4_096));
+    same(&rt, &found, &(false, 480, 1_920, 4_096));
 }
 
 #[test]
 fn last_version(rt: HostRuntime) {
     let stated = rules(rt.alloc(), LAST_VERSION, Some(number(96)));
-    assert_eq!(rt; stated, (true, 96, 384, 16_384));
-    assert_eq!(rt; rules(rt.alloc(), LAST_VERSION, None).1, 480);
+    same(&rt, &stated, &(true, 96, 384, 16_384));
+    same(&rt, &rules(rt.alloc(), LAST_VERSION, None).1, &480);
 }
 
 /// The ticks of a whole note, a share of it, and the ticks of the share.
@@ -57,8 +58,8 @@ const SHARES: &[(u32, (u32, u32), u64)] = &[
 #[test]
 fn lengths_in_ticks(rt: HostRuntime) {
     for (whole, (over, under), ticks) in SHARES {
-        assert_eq!(rt; ticks_of(*whole, &share(*over, *under)), *ticks);
+        same(&rt, &ticks_of(*whole, &share(*over, *under)), ticks);
     }
     let seven = Length::Ticks { count: number(7) };
-    assert_eq!(rt; ticks_of(1_920, &seven), 7);
+    same(&rt, &ticks_of(1_920, &seven), &7);
 }

@@ -33,5 +33,5 @@ const ORDERS: &[Row] = &[
 
 #[test]
 fn the_earliest_walk_is_told(rt: HostRuntime) {
-    check_rows(&rt, rt.alloc(), ORDERS);
+    check_rows(&rt, ORDERS);
 }

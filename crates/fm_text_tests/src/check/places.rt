@@ -1,11 +1,8 @@
 //! Faults of names, numbers and places of texts, both sides of each limit.
 
-use super::{Row, Verdict, check_row, check_rows};
-use crate::texts::joined;
+use super::{Row, Verdict, check_joined, check_rows};
+use crate::texts::Times;
 use std::alloc::AllocError;
-
-/// A text, and how often it stands.
-type Times = (&'static str, u32);
 
 /// Names, of which each is defined once, before it is used.
 const NAMES: &[Row] = &[
@@ -175,164 +172,214 @@ const STATEMENTS: &[Row] = &[
     ("formula 1; set r0 = n0; skip;", (11, 1, 12)),
 ];
 
-/// A head, blocks so many times, inside them others so many times, what stands inside, and the
-/// verdict.
-const BLOCKS: &[(&str, Times, Times, &str, Verdict)] = &[
-    ("formula 1; ", ("repeat 1 {", 16), ("", 0), "", (0, 0, 0)),
-    ("formula 1; ", ("repeat 1 {", 17), ("", 0), "", (12, 1, 172)),
+/// Texts in parts: a head, blocks so many times, inside them others, what stands inside, and the
+/// ends; and the verdict.
+const BLOCKS: &[(&[Times], Verdict)] = &[
     (
-        "formula 1; ",
-        ("artic [1] {", 8),
-        ("repeat 1 {", 8),
-        "",
+        &[("formula 1; ", 1), ("repeat 1 {", 16), ("}", 16)],
         (0, 0, 0),
     ),
     (
-        "formula 1; ",
-        ("artic [1] {", 8),
-        ("repeat 1 {", 9),
-        "",
-        (12, 1, 180),
-    ),
-    (
-        "formula 1; ",
-        ("loud [1] {", 16),
-        ("rhythm [1/1] {", 1),
-        "",
+        &[("formula 1; ", 1), ("repeat 1 {", 17), ("}", 17)],
         (12, 1, 172),
     ),
     (
-        "formula 1; ",
-        ("gate 1 {", 30),
-        ("volume 1 {", 34),
-        "",
+        &[
+            ("formula 1; ", 1),
+            ("artic [1] {", 8),
+            ("repeat 1 {", 8),
+            ("}", 16),
+        ],
         (0, 0, 0),
     ),
     (
-        "formula 1; shape w = pause ticks 1; ",
-        ("warp w {", 8),
-        ("", 0),
-        "",
+        &[
+            ("formula 1; ", 1),
+            ("artic [1] {", 8),
+            ("repeat 1 {", 9),
+            ("}", 17),
+        ],
+        (12, 1, 180),
+    ),
+    (
+        &[
+            ("formula 1; ", 1),
+            ("loud [1] {", 16),
+            ("rhythm [1/1] {", 1),
+            ("}", 17),
+        ],
+        (12, 1, 172),
+    ),
+    (
+        &[
+            ("formula 1; ", 1),
+            ("gate 1 {", 30),
+            ("volume 1 {", 34),
+            ("}", 64),
+        ],
         (0, 0, 0),
     ),
     (
-        "formula 1; shape w = pause ticks 1; ",
-        ("warp w {", 8),
-        ("warp w {", 1),
-        "",
+        &[
+            ("formula 1; shape w = pause ticks 1; ", 1),
+            ("warp w {", 8),
+            ("}", 8),
+        ],
+        (0, 0, 0),
+    ),
+    (
+        &[
+            ("formula 1; shape w = pause ticks 1; ", 1),
+            ("warp w {", 8),
+            ("warp w {", 1),
+            ("}", 9),
+        ],
         (12, 1, 101),
     ),
     (
-        "formula 1; ",
-        ("artic [1] {", 16),
-        ("repeat (n0) max 1 {", 1),
-        "",
+        &[
+            ("formula 1; ", 1),
+            ("artic [1] {", 16),
+            ("repeat (n0) max 1 {", 1),
+            ("}", 17),
+        ],
         (11, 1, 188),
     ),
     (
-        "formula 1; phrase p { channel 0 { channel 0 { channel 0 { channel 0 { } } } } } ",
-        ("gate 1 {", 59),
-        ("", 0),
-        "do p;",
+        &[
+            (
+                "formula 1; phrase p { channel 0 { channel 0 { channel 0 { channel 0 { } } } } } ",
+                1,
+            ),
+            ("gate 1 {", 59),
+            ("do p;", 1),
+            ("}", 59),
+        ],
         (0, 0, 0),
     ),
     (
-        "formula 1; phrase p { channel 0 { channel 0 { channel 0 { channel 0 { } } } } } ",
-        ("gate 1 {", 60),
-        ("", 0),
-        "do p;",
+        &[
+            (
+                "formula 1; phrase p { channel 0 { channel 0 { channel 0 { channel 0 { } } } } } ",
+                1,
+            ),
+            ("gate 1 {", 60),
+            ("do p;", 1),
+            ("}", 60),
+        ],
         (12, 1, 561),
     ),
     (
-        "formula 1; phrase p { par { branch { } } } ",
-        ("gate 1 {", 61),
-        ("", 0),
-        "do p;",
+        &[
+            ("formula 1; phrase p { par { branch { } } } ", 1),
+            ("gate 1 {", 61),
+            ("do p;", 1),
+            ("}", 61),
+        ],
         (0, 0, 0),
     ),
     (
-        "formula 1; phrase p { par { branch { } } } ",
-        ("gate 1 {", 62),
-        ("", 0),
-        "do p;",
+        &[
+            ("formula 1; phrase p { par { branch { } } } ", 1),
+            ("gate 1 {", 62),
+            ("do p;", 1),
+            ("}", 62),
+        ],
         (12, 1, 540),
     ),
     (
-        "formula 1; shape w = pause ticks 1; phrase p { warp w { } } ",
-        ("warp w {", 7),
-        ("", 0),
-        "do p;",
+        &[
+            (
+                "formula 1; shape w = pause ticks 1; phrase p { warp w { } } ",
+                1,
+            ),
+            ("warp w {", 7),
+            ("do p;", 1),
+            ("}", 7),
+        ],
         (0, 0, 0),
     ),
     (
-        "formula 1; shape w = pause ticks 1; phrase p { warp w { } } ",
-        ("warp w {", 8),
-        ("", 0),
-        "do p;",
+        &[
+            (
+                "formula 1; shape w = pause ticks 1; phrase p { warp w { } } ",
+                1,
+            ),
+            ("warp w {", 8),
+            ("do p;", 1),
+            ("}", 8),
+        ],
         (12, 1, 125),
     ),
 ];
 
-/// A head, an entry so many times and a tail, and the verdict.
-const LISTS: &[(&str, &str, u32, &str, Verdict)] = &[
-    ("formula 1; artic [", "1, ", 255, "1] { }", (0, 0, 0)),
-    ("formula 1; artic [", "1, ", 256, "1] { }", (7, 1, 787)),
-    ("formula 1; loud [", "1, ", 256, "1] { }", (7, 1, 786)),
-    ("formula 1; rhythm [", "1/1, ", 255, "1/1] { }", (0, 0, 0)),
+/// The same of a head, an entry so many times and a tail.
+const LISTS: &[(&[Times], Verdict)] = &[
     (
-        "formula 1; rhythm [",
-        "1/1, ",
-        256,
-        "1/0] { }",
-        (7, 1, 1300),
-    ),
-    (
-        "formula 1; shape a = ",
-        "pause 1/1, ",
-        255,
-        "pause 1/1;",
+        &[("formula 1; artic [", 1), ("1, ", 255), ("1] { }", 1)],
         (0, 0, 0),
     ),
     (
-        "formula 1; shape a = ",
-        "pause 1/1, ",
-        256,
-        "pause 1/0;",
+        &[("formula 1; artic [", 1), ("1, ", 256), ("1] { }", 1)],
+        (7, 1, 787),
+    ),
+    (
+        &[("formula 1; loud [", 1), ("1, ", 256), ("1] { }", 1)],
+        (7, 1, 786),
+    ),
+    (
+        &[("formula 1; rhythm [", 1), ("1/1, ", 255), ("1/1] { }", 1)],
+        (0, 0, 0),
+    ),
+    (
+        &[("formula 1; rhythm [", 1), ("1/1, ", 256), ("1/0] { }", 1)],
+        (7, 1, 1300),
+    ),
+    (
+        &[
+            ("formula 1; shape a = ", 1),
+            ("pause 1/1, ", 255),
+            ("pause 1/1;", 1),
+        ],
+        (0, 0, 0),
+    ),
+    (
+        &[
+            ("formula 1; shape a = ", 1),
+            ("pause 1/1, ", 256),
+            ("pause 1/0;", 1),
+        ],
         (7, 1, 2844),
     ),
 ];
 
 #[test]
 fn names_are_defined_once_and_before(rt: HostRuntime) {
-    check_rows(&rt, rt.alloc(), NAMES);
+    check_rows(&rt, NAMES);
 }
 
 #[test]
 fn numbers_keep_their_ranges(rt: HostRuntime) {
-    check_rows(&rt, rt.alloc(), NUMBERS);
+    check_rows(&rt, NUMBERS);
 }
 
 #[test]
 fn statements_stand_where_they_may(rt: HostRuntime) {
-    check_rows(&rt, rt.alloc(), STATEMENTS);
+    check_rows(&rt, STATEMENTS);
 }
 
 #[test]
 fn blocks_lie_so_deep_and_no_deeper(rt: HostRuntime) -> Result<(), AllocError> {
-    for (before, outer, inner, inside, want) in BLOCKS {
-        let (before, inside) = ((*before, 1), (*inside, 1));
-        let (ends, rest) = (("}", outer.1), ("}", inner.1));
-        let text = joined(rt.alloc(), &[before, *outer, *inner, inside, ends, rest])?;
-        check_row(&rt, rt.alloc(), &text, *want);
+    for (parts, want) in BLOCKS {
+        check_joined(&rt, parts, *want)?;
     }
     Ok(())
 }
 
 #[test]
 fn lists_have_so_many_entries_and_no_more(rt: HostRuntime) -> Result<(), AllocError> {
-    for (head, entry, times, tail, want) in LISTS {
-        let text = joined(rt.alloc(), &[(*head, 1), (*entry, *times), (*tail, 1)])?;
-        check_row(&rt, rt.alloc(), &text, *want);
+    for (parts, want) in LISTS {
+        check_joined(&rt, parts, *want)?;
     }
     Ok(())
 }

@@ -1,10 +1,11 @@
 //! The totals of texts, and both sides of each of their limits. The numbers were worked out by
 //! hand.
 
-use super::{Row, check_row, check_rows, judged};
-use crate::texts::joined;
+use super::{Row, check_joined, check_rows, judged};
+use crate::same::same;
 use fm_check::Bounds;
 use std::alloc::{AllocError, Global};
+use std::process::Abort;
 
 /// Processes, operations, length, events and steps.
 type Totals = (u32, u32, u64, u32, u32);
@@ -142,17 +143,22 @@ fn accepted(alloc: Global, text: &str) -> Option<Bounds> {
     }
 }
 
+// Compares the totals of a text with these.
+fn has_totals<R: Abort + AllocGlobal>(rt: &R, text: &str, totals: &Totals) {
+    let wanted = Some(bounds_of(totals));
+    same(rt, &(text, accepted(rt.alloc(), text)), &(text, wanted));
+}
+
 #[test]
 fn totals_are_counted(rt: HostRuntime) {
     for (text, want) in TOTALS {
-        let found = accepted(rt.alloc(), text);
-        assert_eq!(rt; found, Some(bounds_of(want)), "{text}");
+        has_totals(&rt, text, want);
     }
 }
 
 #[test]
 fn each_limit_is_kept_and_passed(rt: HostRuntime) {
-    check_rows(&rt, rt.alloc(), LIMITS);
+    check_rows(&rt, LIMITS);
 }
 
 /// Sixteen phrases, each of which brings in the one before twice, from one that is empty: `q16` has
@@ -169,47 +175,12 @@ phrase q16 { do q15; do q15; }
 /// What makes as many operations of the sixteen phrases as there may be.
 const MOST: &str = "do q16; do q16; rest ticks 0;";
 
-// How many operations a text has that is accepted, and else 0.
-fn operations(alloc: Global, text: &str) -> u32 {
-    match judged(alloc, text) {
-        Ok(bounds) => bounds.operations,
-        Err(_) => 0,
-    }
-}
-
 #[test]
 fn as_many_operations_as_may_be_and_one_more(rt: HostRuntime) -> Result<(), AllocError> {
-    let alloc = rt.alloc();
-    let most = joined(alloc, &[(DOUBLED, 1), (MOST, 1)])?;
-    assert_eq!(rt; operations(alloc, &most), 262_144);
-    let more = joined(alloc, &[(&most, 1), (" rest ticks 0;", 1)])?;
-    check_row(&rt, alloc, &more, (14, 8, 31));
-    Ok(())
-}
-
-// Adds the phrase of the number `j + 1`, which brings in the one of the number `j` twice.
-fn push_phrase(alloc: Global, text: &mut String, j: u32) -> Result<(), AllocError> {
-    let k = j.saturating_add(1);
-    let phrase = format!(in alloc; " phrase q{k} {{ do q{j}; do q{j}; }}")?;
-    text.push_str(&phrase)?;
-    Ok(())
-}
-
-// Phrases of the numbers 0 to 40, each of which but the first brings in the one before twice.
-fn forty_phrases(alloc: Global) -> Result<String, AllocError> {
-    let mut text = String::from_str(alloc, "formula 1; phrase q0 { }")?;
-    for j in 0..40 {
-        push_phrase(alloc, &mut text, j)?;
-    }
-    Ok(text)
-}
-
-#[test]
-fn forty_phrases_each_of_two_before(rt: HostRuntime) -> Result<(), AllocError> {
-    let alloc = rt.alloc();
-    let phrases = forty_phrases(alloc)?;
-    let text = joined(alloc, &[(&phrases, 1), (" do q40;", 1)])?;
-    let column = u32::try_from(phrases.len() + 2).unwrap_or(0);
-    check_row(&rt, alloc, &text, (14, 1, column));
-    Ok(())
+    check_joined(&rt, &[(DOUBLED, 1), (MOST, 1)], (0, 0, 0))?;
+    check_joined(
+        &rt,
+        &[(DOUBLED, 1), (MOST, 1), (" rest ticks 0;", 1)],
+        (14, 8, 31),
+    )
 }

@@ -1,8 +1,8 @@
 //! What the faults of the crates below and of the check say, with expected texts by hand.
 
-use crate::{fault, parse};
+use crate::same::says;
 use fm_check::{CheckFault, Why};
-use fm_lex::Spot;
+use fm_lex::{LexFault, Spot};
 use fm_parse::ParseFault;
 use std::alloc::AllocError;
 
@@ -12,6 +12,10 @@ const SPOT: Spot = Spot {
 };
 
 const PARSES: &[(ParseFault, &str)] = &[
+    (
+        ParseFault::Lex(LexFault::BadByte { spot: SPOT }),
+        "2:31: no token begins with this byte",
+    ),
     (
         ParseFault::Expected { spot: SPOT },
         "2:31: this token can't stand here",
@@ -31,16 +35,23 @@ const CHECKS: &[(CheckFault, &str)] = &[
         },
         "2:31: the length is no whole number of ticks",
     ),
+    (
+        CheckFault::Refused {
+            why: Why::TooLong,
+            spot: SPOT,
+        },
+        "2:31: too long",
+    ),
     (CheckFault::Memory, "out of memory"),
 ];
 
 #[test]
 fn faults_say_their_spot_and_why(rt: HostRuntime) -> Result<(), AllocError> {
     for (fault, text) in PARSES {
-        assert_eq!(rt; parse::said(rt.alloc(), fault)?.as_str(), *text);
+        says(&rt, fault, text)?;
     }
     for (fault, text) in CHECKS {
-        assert_eq!(rt; fault::said(rt.alloc(), fault)?.as_str(), *text);
+        says(&rt, fault, text)?;
     }
     Ok(())
 }
