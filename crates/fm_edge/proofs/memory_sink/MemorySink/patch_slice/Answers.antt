@@ -2,13 +2,13 @@ use Rattle.std.proofs.Common.{◌≡◌, ◌∙◌, sym, ap, arith, take, length
 use Rattle.std.specs.Prelude.{is_some}
 use Rattle.fm_edge.specs.Content.{overwritten}
 use Rattle.fm_edge.proofs.SinkMemoryLemmas.{patch_breaks, listed_untold}
-use Rattle.fm_edge.proofs.memory_sink.MemorySinkSink.patch.Goals as goal
+use Rattle.fm_edge.proofs.memory_sink.MemorySink.patch_slice.Goals as goal
 
 pub returns-then-is_some-clause-err : goal.returns-then-is_some-clause-err
 returns-then-is_some-clause-err c =
     let called = c.self.view_is ∙ c.begin_call-listed.ensures.state in
     let ended = c.fail.ensures in
-    let four : length c.args.bytes.now ≡ 4 = omega arith in
+    let four : length c.args.bytes.now ≡ 4 = c.requires.four in
     let front = c.listed_front-front.ensures ∙ ap (λ k. take (unwrap_or c.begin_call-listed.result k) c.args.bytes.now) four in
     patch_breaks c.args.self.now c.fail.new.self c.begin_call-listed.result c.args.at c.args.bytes.now
     four
