@@ -5,7 +5,6 @@ use Rattle.std.proofs.lemmas.Bool.{cases_lt}
 use Rattle.std.proofs.lemmas.List.{ext_get_or, length-drop, length-take}
 use mathlib.Core.Option.{some, some-ne-none, some-injective}
 use lib.ListN.{get_elem?}
-use Rattle.atomic_table.specs.Seated.{TableId}
 use Rattle.fm_msg.specs.Event.{TimedMessage}
 use Rattle.fm_line.specs.Line.{line}
 use Rattle.fm_line.specs.Piece.{piece}
@@ -28,7 +27,7 @@ use Rattle.fm_board.specs.declared.view.Hold.{Hold}
 use Rattle.fm_board.specs.declared.view.Mind.{Mind}
 use Rattle.fm_board.specs.Laws.{StandsAtFirst}
 use Rattle.fm_board.specs.Runs.{by_seat, seat_of}
-use Rattle.fm_board.specs.Seats.{AreOthers, SeatState, first_sight}
+use Rattle.fm_board.specs.Seats.{SeatState}
 use Rattle.fm_board.specs.StandsFor.{AtHome, HoldsIn, IsHoldOf, StandsFor, StandsForSome, StrandAt, Table, beginning, setting}
 use Rattle.fm_board.proofs.Claims.{same_some}
 use Rattle.fm_board.proofs.Looks.{few, lined, says, valid_of}
@@ -239,9 +238,3 @@ stands_at_first a first others empty each s k views =
     both_empty : (j : ℕ) (d : SeatState) → j < length (first ∷ others) → (get_or (first ∷ others) j d).mind.log.mine ≡ []
     both_empty zero d lt = empty
     both_empty (suc j) d lt = each j d (omega arith)
-
-pub new_seats : (t : TableId) (a : About) (n : ℕ) (first : SeatState) (others : List SeatState) → first ≡ first_sight t a n → AreOthers t a n others
-    → StandsAtFirst a first others
-new_seats t a n first others is are =
-    stands_at_first a first others (ap (λ (x : SeatState). x.mind.log.mine) is)
-    (λ j d lt. ap (λ (x : SeatState). x.mind.log.mine) (are.each j d lt))

@@ -12,7 +12,7 @@ use Rattle.fm_board.specs.declared.view.Mind.{Mind}
 use Rattle.fm_board.specs.declared.view.View.{View}
 use Rattle.fm_board.specs.Minds.{spotted}
 use Rattle.fm_board.specs.Plays.{Holder}
-use Rattle.fm_board.specs.Seats.{IsSwept, carried}
+use Rattle.fm_board.specs.Seats.{carried}
 use Rattle.fm_board.specs.View.{InTurn, entered, is_over, looked}
 use Rattle.fm_board.proofs.Steps.{Tidy}
 
@@ -56,13 +56,3 @@ looked_tidy n o xs xs' lent c c' p k r t m m' y pl x made ps tidy is turn plan n
         few = let was = old.few in omega (arith, was, many);
       },
     )
-
--- after a publish
-pub published_swept : (xs xs' sweep sweep' : List Look) (c c' n n' : ℕ) → IsSwept xs c sweep n → xs' ≡ [] → sweep' ≡ [] → c' ≡ c → n' ≡ n
-    → IsSwept xs' c' sweep' n'
-published_swept xs xs' sweep sweep' c c' n n' old empty now space many = record {
-  same = empty ∙ sym now;
-  space = let was = old.space in omega (arith, was, space, many);
-  within = omega (arith, ap length now);
-  few = let was = old.few in omega (arith, was, many);
-}

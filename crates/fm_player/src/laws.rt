@@ -42,9 +42,8 @@ pub fn processes_start_where_ends_meet()
         (end.depth ≡ (start_place p j).depth) × (end.origins ≡ (start_place p j).origins) }
 {}
 
-/// Each place that a player reaches is within the limits, and so is where a process starts and
-/// where it ends: ticks, at most 2^40, in at most eight levels. So a place can be kept in a few
-/// words.
+/// Each place that a player reaches, and where a process starts and ends, is within the limits:
+/// ticks, at most 2^40, in at most eight levels. So a place can be kept in a few words.
 pub fn places_fit()
     ensures reached { (p : PlanParts) (s : Player) → InCourse p s → PlaceFits (place_reached p s) }
     ensures start { (p : PlanParts) (j : ℕ) → PartsFit p → j < length p.programs

@@ -100,11 +100,7 @@ impl Pending {
         ensures none { result ≡ false → (j : ℕ) → pending_events j self.now ≡ [] }
         ensures past { result ≡ false → 2 * length self.now.keys.items ≤ self.now.given }
     {
-        if self.given < 2 * self.keys.len() {
-            true
-        } else {
-            false
-        }
+        self.given < 2 * self.keys.len()
     }
 
     /// The tick of the note-ons.

@@ -210,17 +210,7 @@ fn sends(op: Op) -> bool
 {
     match op {
         Op::Send { .. } => true,
-        Op::Note { .. } => false,
-        Op::Rest { .. } => false,
-        Op::Set { .. } => false,
-        Op::Test { .. } => false,
-        Op::Jump { .. } => false,
-        Op::Loop { .. } => false,
-        Op::Again { .. } => false,
-        Op::Begin { .. } => false,
-        Op::Close => false,
-        Op::Enter { .. } => false,
-        Op::Leave => false,
+        _ => false,
     }
 }
 

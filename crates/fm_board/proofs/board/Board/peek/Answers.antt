@@ -1,4 +1,4 @@
-use Rattle.std.proofs.Common.{ap, arith, ◌∙◌, sym}
+use Rattle.std.proofs.Common.{ap, arith}
 use Rattle.fm_board.specs.Seats.{SeatState}
 use Rattle.fm_board.specs.declared.view.Mind.{Mind}
 use Rattle.fm_board.specs.declared.view.View.{View}
