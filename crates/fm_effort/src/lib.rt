@@ -2,8 +2,9 @@
 //!
 //! A write costs more in a program of several threads, and each event that a worker computes goes
 //! from one processor to another. So workers save time only where computing is a fair part of the
-//! work. [`useful_workers`] makes a rough estimate, in which no play ever depends: every number of
-//! workers writes the same file.
+//! work. [`useful_workers`] makes a rough estimate, which is defined in `specs/Effort`: it returns
+//! what the definition says (`value`). That the figures fit a machine is not claimed, and no play
+//! depends on them: every number of workers writes the same file.
 #![tactic(auto)]
 
 mod enclosing;

@@ -1,8 +1,13 @@
 //! What the processes of a plan compute, as far as their operations tell.
-ghost use Rattle.std.specs.Prelude.{◌≤◌};
+ghost use Rattle.std.specs.Prelude.{◌≡◌, ◌≤◌, IfSome};
+ghost use Rattle.std.specs.Option.{is_some};
+ghost use Rattle.fm_program.specs.Parts.{program_parts};
+ghost use Rattle.fm_effort.specs.Effort.{Surroundings, all_effort, effort_at, is_estimated};
+ghost use Rattle.fm_effort.specs.Effort.{op_events, op_work, program_effort, span_work};
+ghost use Rattle.fm_effort.specs.Kept.{Encloses, load_for, with_effort};
 
 use crate::enclosing::Enclosing;
-use fm_program::{Op, Plan, Span};
+use fm_program::{Op, Plan, Program, Span};
 
 /// A plan of fewer events is over before the cost of workers counts.
 const MANY_EVENTS: u64 = 65_536;
@@ -32,7 +37,10 @@ pub struct Load {
 }
 
 /// What all processes of a plan compute. None where their programs are long, or make few events.
-pub fn load_of(plan: &Plan) -> Option<Load> {
+pub fn load_of(plan: &Plan) -> Option<Load>
+    ensures some { IfSome result (λ load. load ≡ load_for (all_effort plan.now.programs)) }
+    ensures exact { is_some result ≡ is_estimated plan.now.programs }
+{
     let mut load = Load { work: 0, events: 0 };
     let mut operations: usize = 0;
     for process in 0..plan.processes() {
@@ -41,7 +49,7 @@ pub fn load_of(plan: &Plan) -> Option<Load> {
         if operations > MOST_OPERATIONS {
             return None;
         }
-        load = with_program(load, program.ops.as_slice(), program.levels.len() as u64);
+        load = with_program(load, program);
     }
     if load.events < MANY_EVENTS {
         None
@@ -50,10 +58,13 @@ pub fn load_of(plan: &Plan) -> Option<Load> {
     }
 }
 
-// The load with that of a program, which starts in so many levels.
-fn with_program(load: Load, ops: &[Op], levels: u64) -> Load {
+// The load with that of a program.
+fn with_program(load: Load, program: &Program) -> Load
+    ensures { result ≡ with_effort load (program_effort (program_parts program.now)) }
+{
+    let ops = program.ops.as_slice();
     let mut whole = load;
-    let mut enclosing = Enclosing::new(levels);
+    let mut enclosing = Enclosing::new(program.levels.len() as u64);
     for (at, op) in ops.iter().enumerate() {
         whole = with_operation(whole, op, &enclosing, at < enclosing.sure);
         enclosing.pass(op);
@@ -63,7 +74,10 @@ fn with_program(load: Load, ops: &[Op], levels: u64) -> Load {
 
 // The load with that of an operation, in all rounds of the loops round it. One that may be
 // left out adds no events.
-fn with_operation(load: Load, op: &Op, enclosing: &Enclosing, is_left_out: bool) -> Load {
+fn with_operation(load: Load, op: &Op, enclosing: &Enclosing, is_left_out: bool) -> Load
+    ensures { (a : Surroundings) → Encloses enclosing.now a →
+        result ≡ with_effort load (effort_at is_left_out a op.now) }
+{
     let rounds = enclosing.rounds();
     let one = load_of_one(op, enclosing.levels);
     let events = if is_left_out {
@@ -78,7 +92,11 @@ fn with_operation(load: Load, op: &Op, enclosing: &Enclosing, is_left_out: bool)
 }
 
 // What an operation takes once, in so many levels.
-fn load_of_one(op: &Op, levels: u64) -> Load {
+#[tactic(auto, unfolding(crate::specs::Effort::counted))]
+fn load_of_one(op: &Op, levels: u64) -> Load
+    ensures { result
+        ≡ load_for (record { work = op_work levels op.now; events = op_events op.now }) }
+{
     let moves = levels.saturating_mul(LEVEL);
     match op {
         Op::Note { span, .. } => Load {
@@ -108,7 +126,8 @@ fn load_of_one(op: &Op, levels: u64) -> Load {
 
 // What the expression of a duration takes, if it has one.
 fn drawn(span: &Span) -> u64
-    ensures { result ≤ EXPRESSION }
+    ensures value { result ≡ span_work span.now }
+    ensures few { result ≤ EXPRESSION }
 {
     match span {
         Span::Drawn { .. } => EXPRESSION,

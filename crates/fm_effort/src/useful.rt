@@ -1,5 +1,6 @@
 //! How many workers are worth their cost.
-ghost use Rattle.std.specs.Prelude.{◌≡◌, ◌*◌, ◌<◌, ◌≤◌, length, nat_lt};
+ghost use Rattle.std.specs.Prelude.{◌≡◌, ◌*◌, ◌/◌, ◌<◌, ◌≤◌, length, max};
+ghost use Rattle.fm_effort.specs.Effort.{busy, is_too_many, workers_of};
 
 use crate::load::{Load, load_of};
 use fm_program::Plan;
@@ -19,6 +20,7 @@ const SHARE_OF_A_WORKER: u64 = 300;
 /// where free threads have too little room for the processes. It is all of them where no estimate
 /// is made: for plans of few events, and for long programs.
 pub fn useful_workers(plan: &Plan, room: u32, most: u32) -> u32
+    ensures value { result ≡ workers_of plan.now room most }
     ensures most { result ≤ most }
     ensures crowded { MOST_FOR_AN_EVENT * room < length plan.now.programs → result ≡ 0 }
 {
@@ -35,14 +37,15 @@ pub fn useful_workers(plan: &Plan, room: u32, most: u32) -> u32
 // to come than an outbox holds, their conductor goes over all processes for each one that ends the
 // tick; one thread goes over them once.
 fn is_crowded(processes: u32, room: u32) -> bool
-    ensures { result ≡ nat_lt (MOST_FOR_AN_EVENT * room) processes }
+    ensures { result ≡ is_too_many processes room }
 {
     u64::from(room) * MOST_FOR_AN_EVENT < u64::from(processes)
 }
 
 // How many of at most so many workers such a load keeps busy.
 fn busy_workers(load: Load, most: u32) -> u32
-    ensures { result ≤ most }
+    ensures value { result ≡ busy (load.work / max load.events 1) most }
+    ensures most { result ≤ most }
 {
     let share = load.work / load.events.max(1);
     if share < LEAST_FOR_AN_EVENT {

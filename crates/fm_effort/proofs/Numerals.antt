@@ -1,0 +1,31 @@
+-- The figures of the policy: nanoseconds, events, operations and processes.
+use Rattle.std.proofs.Common.{◌≡◌, refl}
+use Rattle.fm_effort.specs.declared.load.TheConstants.{OPERATION, SOUND, LEVEL, EXPRESSION, MANY_EVENTS, MOST_OPERATIONS}
+use Rattle.fm_effort.specs.declared.useful.TheConstants.{MOST_FOR_AN_EVENT, LEAST_FOR_AN_EVENT, SHARE_OF_A_WORKER}
+
+operation : OPERATION ≡ 20
+operation = refl
+
+sound : SOUND ≡ 80
+sound = refl
+
+level : LEVEL ≡ 15
+level = refl
+
+expression : EXPRESSION ≡ 100
+expression = refl
+
+many_events : MANY_EVENTS ≡ 65536
+many_events = refl
+
+most_operations : MOST_OPERATIONS ≡ 65536
+most_operations = refl
+
+most_for_an_event : MOST_FOR_AN_EVENT ≡ 512
+most_for_an_event = refl
+
+least_for_an_event : LEAST_FOR_AN_EVENT ≡ 100
+least_for_an_event = refl
+
+share_of_a_worker : SHARE_OF_A_WORKER ≡ 300
+share_of_a_worker = refl

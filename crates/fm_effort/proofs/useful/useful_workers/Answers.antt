@@ -1,0 +1,20 @@
+use Rattle.std.proofs.Common.{◌∙◌, sym}
+use Rattle.fm_effort.proofs.PolicyLemmas.{none_where_crowded, all_unestimated, some_estimated}
+use Rattle.fm_effort.proofs.useful.useful_workers.Goals as goal
+
+pub returns-then-is_crowded-clause-value : goal.returns-then-is_crowded-clause-value
+returns-then-is_crowded-clause-value c =
+    none_where_crowded c.args.plan.now c.args.room c.args.most c.processes.result c.processes.ensures.value
+    (sym c.is_crowded.ensures ∙ c.if-is_crowded.true)
+
+pub returns-in-Some-clause-value : goal.returns-in-Some-clause-value
+returns-in-Some-clause-value c =
+    c.busy_workers.ensures.value
+    ∙ some_estimated c.args.plan.now c.args.room c.args.most c.processes.result c.in-Some.load
+    c.processes.ensures.value (sym c.is_crowded.ensures ∙ c.if-is_crowded.false) c.in-Some.ensures.exact
+    c.in-Some.ensures.some
+
+pub returns-in-None-clause-value : goal.returns-in-None-clause-value
+returns-in-None-clause-value c =
+    all_unestimated c.args.plan.now c.args.room c.args.most c.processes.result c.processes.ensures.value
+    (sym c.is_crowded.ensures ∙ c.if-is_crowded.false) c.in-None.ensures.exact

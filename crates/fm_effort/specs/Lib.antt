@@ -1,0 +1,2 @@
+pub mod Effort
+pub mod Kept
