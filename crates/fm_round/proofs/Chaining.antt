@@ -97,10 +97,6 @@ module _ (ns : List ℕ) (at x : ℕ) (chain : IsChain ns) (on : 0 < link ns at)
     kept = joined_kept;
   }
 
--- it is in the chain already
-pub joins_nothing : (ns : List ℕ) (x : ℕ) → IsChain ns → 0 < link ns x → Joins x ns ns
-joins_nothing ns x chain on = record { chain = chain; size = refl; joined = on; kept = λ k was. was }
-
 -- ---- what is behind `at` is taken out
 
 module _ (ns : List ℕ) (at a : ℕ) (chain : IsChain ns) (on : 0 < link ns at) (is : link ns at ≡ a) (there : a < length ns) where

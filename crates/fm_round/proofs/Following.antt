@@ -24,18 +24,6 @@ waiting_kept p j old new ended waits = record {
   live = ended (get_or (predecessors p j) waits.at 0) ∙ waits.live;
 }
 
--- one process more has started or waits
-pub started_more : (p : PlanParts) (j : ℕ) (old new : List Lane) → Begins p j old new
-    → ((lane new j).strand ≡ None → IsWaiting p new j) → AllStarted p old j → AllStarted p new (j + 1)
-started_more p j old new begins own before i below unborn = by_index (cases_eq i j)
-  where
-    by_index : (i ≡ j) ⊎ (i ≡ j → ⊥) → IsWaiting p new i
-    by_index (inl same) =
-        subst (IsWaiting p new) (sym same) (own (sym (ap (λ (k : ℕ). (lane new k).strand) same) ∙ unborn))
-    by_index (inr apart) =
-        waiting_kept p i old new begins.some.ended
-        (before i (omega arith) (sym (ap (λ (s : Lane). s.strand) (begins.others i apart)) ∙ unborn))
-
 -- one was taken out of a list, and has started or waits
 pub await_more : (p : PlanParts) (w v : Watch) (fs : Vec (Vec ℕ Global) Global) (q x : ℕ) (old new : List Lane) → Begins p x old new
     → ((lane new x).strand ≡ None → IsWaiting p new x) → length new ≡ length old

@@ -1,5 +1,6 @@
 -- What is written and watched in a turn, from process to process.
 use Rattle.std.proofs.Common.{◌≡◌, ◌⊎◌, ℕ, ◌+◌, ◌<◌, ◌≤◌, List, length, map, Bool, true, false, Some, None, Result, Ok, Err, refl, sym, ap, ◌∙◌, subst, inl, inr, arith, length-append}
+use Rattle.std.proofs.Common.{Fits, w32, w64}
 use Rattle.std.specs.Prelude.{IfOk, IsErr, OnOk}
 use Rattle.std.proofs.lemmas.Bool.{cases_eq}
 use Rattle.fm_edge.specs.Seen.{SinkSeen}
@@ -43,6 +44,10 @@ no_ok P (Err e) is = tt
 pub no_value : {T E : Type 0} (P : T → Type 0) (r : Result T E) → IsErr r → IfOk r P
 no_value P (Ok x) is = absurd (cc)
 no_value P (Err e) is = tt
+
+-- a number that fits 32 bits fits 64
+pub wider : (n : ℕ) → Fits w32 n → Fits w64 n
+wider n fits = omega (arith, fits)
 
 pub no_less : (n : ℕ) → n ≤ n
 no_less n = omega arith

@@ -228,20 +228,3 @@ cut_from ns first end head mid enters cuts up = by_end (cases_lt mid end)
     by_end : (mid < end) ⊎ (end ≤ mid) → first ≤ mid
     by_end (inl less) = let from = enters.from in let behind = cuts.from less in omega arith
     by_end (inr more) = omega arith
-
--- the chain enters the part in front of it where it entered the whole
-pub enters_front : (ns : List ℕ) (first end head mid : ℕ) → Enters ns first end head → Cuts ns head end mid → Enters ns first mid head
-enters_front ns first end head mid enters cuts =
-    let within = cuts.within in record {
-      from = enters.from;
-      there = λ less. enters.there (omega arith);
-      passed = λ k above below inside. enters.passed k above below (omega arith);
-    }
-
--- and the part behind it at the cut
-pub enters_back : (ns : List ℕ) (end head mid : ℕ) → Cuts ns head end mid → Enters ns mid end mid
-enters_back ns end head mid cuts = record {
-  from = omega arith;
-  there = cuts.there;
-  passed = λ k above below inside. absurd (omega arith);
-}

@@ -1,8 +1,10 @@
 -- One round: what the hands may be given, and what is watched after it.
-use Rattle.std.proofs.Common.{◌≡◌, ℕ, ◌+◌, ◌-◌, ◌^◌, List, length, map, min, All, Option, sym, ap, ◌∙◌, subst, arith}
+use Rattle.std.proofs.Common.{◌≡◌, ℕ, ◌+◌, ◌-◌, ◌^◌, ◌<◌, List, length, map, min, All, Option, sym, ap, ◌∙◌, subst, arith}
 use Rattle.std.proofs.lemmas.List.{length-map}
 use Rattle.fm_edge.specs.Seen.{SinkSeen}
+use Rattle.fm_program.specs.Fit.{PartsFit}
 use Rattle.fm_program.specs.Parts.{PlanParts}
+use Rattle.fm_round.specs.Chain.{AreChained}
 use Rattle.fm_round.specs.Hands.{IsRound, MayRun}
 use Rattle.fm_round.specs.Lanes.{AllStarted, IsLeast, RunsAll, live_clock, without_due}
 use Rattle.fm_round.specs.Watching.{AllAwait, AreWatched, Watched}
@@ -24,6 +26,17 @@ first_watched p stage ss are = record {
   };
   watch = are.watched;
 }
+
+-- a plan has few processes
+pub few_lanes : (p : PlanParts) (ss : List Lane) → PartsFit p → length ss ≡ length p.programs → length ss < 2 ^ 32
+few_lanes p ss fits count = let few = fits.few in omega (arith, count, few)
+
+-- the chain of what is watched
+pub watch_chained : (p : PlanParts) (w : Watch) (ss : List Lane) (next : List ℕ) → Watched p w ss → length ss ≡ length p.programs
+    → next ≡ w.next.items → AreChained next ss
+watch_chained p w ss next watched count is =
+    subst (λ (ns : List ℕ). AreChained ns ss) (sym is)
+    (record { chain = watched.chain; size = watched.size ∙ sym count; idle = watched.idle })
 
 -- a process that is the least is so without its events that are due
 least_without : (p : PlanParts) (key : Option (ℕ × ℕ)) (ss : List Lane) (c m : ℕ) → IsLeast p ss (length ss) c m

@@ -1,5 +1,5 @@
 -- What is watched stays so from step to step.
-use Rattle.std.proofs.Common.{◌≡◌, ◌⊎◌, ℕ, zero, suc, ◌<◌, List, [], length, map, drop, Bool, true, false, Option, refl, sym, ap, ◌∙◌, subst, inl, inr, arith}
+use Rattle.std.proofs.Common.{◌≡◌, ◌⊎◌, ℕ, zero, suc, ◌+◌, ◌<◌, List, [], length, map, drop, Bool, true, false, Option, None, slice_index_or, refl, sym, ap, ◌∙◌, subst, inl, inr, arith}
 use Rattle.std.specs.Prelude.{Contains}
 use Rattle.std.proofs.lemmas.Bool.{cases_eq}
 use Rattle.std.proofs.lemmas.List.{length-map}
@@ -52,6 +52,21 @@ some_more p old now new before one = record {
   rooms = one.rooms ∙ before.rooms;
   loads = one.loads ∙ before.loads;
 }
+
+-- those in front of the next one have been asked
+pub started_next : (p : PlanParts) (now new : List Lane) (j : ℕ) → Begins p j now new
+    → ((lane new j).strand ≡ None → IsWaiting p new j) → AllStarted p now j → AllStarted p new (j + 1)
+started_next p now new j begins waits before k below none = by_place (cases_eq k j)
+  where
+    by_place : (k ≡ j) ⊎ (k ≡ j → ⊥) → IsWaiting p new k
+    by_place (inl same) =
+        subst (IsWaiting p new) (sym same) (waits (subst (λ (n : ℕ). (lane new n).strand ≡ None) same none))
+    by_place (inr apart) =
+        let was = before k (omega (arith, below, apart)) (ap (λ (s : Lane). s.strand) (sym (begins.others k apart)) ∙ none) in record {
+          at = was.at;
+          there = was.there;
+          live = begins.some.ended (slice_index_or (predecessors p k) was.at 0) ∙ was.live;
+        }
 
 -- none behind has
 pub behind_nothing : (p : PlanParts) (before : ℕ) (ss : List Lane) → AllLanes p ss → StartsBehind p before ss ss

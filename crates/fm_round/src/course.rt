@@ -15,6 +15,7 @@ use crate::least::least;
 use crate::release::release;
 use crate::stage::Stage;
 use crate::turn::take_turn;
+use crate::watch::Watch;
 use fm_edge::Sink;
 use fm_smf::{SinkFault, Writer};
 use fm_strand::Plan;
@@ -43,14 +44,12 @@ pub fn play_rounds<H: Fn(&Plan, u64, &[u32], &mut [Lane]), K: Sink>(
     let mut events = 0;
     begin_first(plan, &mut stage.watch, lanes);
     while let Some(next) = least(plan, &stage.watch.next, lanes) {
-        let gather = &mut stage.gather;
-        events += release(Some(next), &stage.watch.next, lanes, gather, writer, sink)?;
+        events += release(Some(next), stage, lanes, writer, sink)?;
         let limit = next.0.saturating_add(stage.lead);
-        run_round(hands, plan, limit, &stage.watch.next, lanes);
+        run_round(hands, plan, limit, &stage.watch, lanes);
         events += take_turn(plan, next.0, stage, lanes, writer, sink)?;
     }
-    let gather = &mut stage.gather;
-    events += release(None, &stage.watch.next, lanes, gather, writer, sink)?;
+    events += release(None, stage, lanes, writer, sink)?;
     Ok(events)
 }
 
@@ -59,11 +58,11 @@ fn run_round<H: Fn(&Plan, u64, &[u32], &mut [Lane])>(
     hands: &H,
     plan: &Plan,
     limit: u64,
-    next: &[u32],
+    watch: &Watch,
     lanes: &mut [Lane],
 )
-    requires { CanRound H.Fn hands.now plan.now limit next.now lanes.old }
+    requires { CanRound H.Fn hands.now plan.now limit watch.now.next.items lanes.old }
     ensures { RunsAll plan.now limit lanes.old lanes.new }
 {
-    hands(plan, limit, next, lanes);
+    hands(plan, limit, &watch.next, lanes);
 }

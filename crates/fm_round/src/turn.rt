@@ -10,6 +10,7 @@ use crate::chain::leave;
 use crate::lane::{Lane, clock, run_lane};
 use crate::release::release_own;
 use crate::stage::Stage;
+use crate::watch::after;
 use fm_buffer::Gather;
 use fm_edge::{OpenGate, Sink};
 use fm_smf::{SinkFault, Writer};
@@ -59,7 +60,7 @@ pub fn take_turn<K: Sink>(
         events += count;
         whole = all;
         visit(plan, at, &mut stage.watch, lanes);
-        at = stage.watch.next[at as usize];
+        at = after(&stage.watch, at);
     }
     leave(&mut stage.watch.next, lanes);
     Ok(events)

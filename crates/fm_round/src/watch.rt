@@ -1,6 +1,7 @@
 //! Which processes a round looks at.
 ghost use Rattle.std.specs.Prelude.{◌≡◌, ◌<◌, ◌+◌, length, IfOk, OnOk};
 ghost use Rattle.fm_program.specs.Fit.{PartsFit};
+ghost use Rattle.fm_round.specs.Chain.{link};
 ghost use Rattle.fm_round.specs.Watching.{AllLater, AllListed, AreEmpty, IsOpenWatch, Lists, Takes};
 
 use crate::chain::first_chain;
@@ -94,4 +95,12 @@ pub fn take_follower(before: u32, lists: &mut Vec<Vec<u32>>) -> Option<u32>
     ensures { Takes before lists.old.items result lists.new.items }
 {
     lists[before as usize].pop()
+}
+
+/// The number behind a process in the chain, or 0 where it is not in it.
+pub fn after(watch: &Watch, process: u32) -> u32
+    requires { process < length watch.now.next.items }
+    ensures { result ≡ link watch.now.next.items process }
+{
+    watch.next[process as usize]
 }

@@ -7,8 +7,7 @@ use Rattle.fm_round.specs.Turns.{GoesOn}
 use Rattle.fm_round.specs.Watching.{AllAwait}
 use Rattle.fm_round.proofs.Chaining.{chained_within}
 use Rattle.fm_round.proofs.Following.{await_next, await_none}
-use Rattle.fm_round.proofs.Goings.{await_served, few_between, goes_more, goes_none, goes_started, goes_stops, less_next, no_less, no_ok, no_value, playing_on, reached_next, watched_served}
-use Rattle.fm_round.proofs.Running.{any_default}
+use Rattle.fm_round.proofs.Goings.{await_served, few_between, goes_more, goes_none, goes_started, goes_stops, less_next, no_less, no_ok, no_value, playing_on, reached_next, watched_served, wider}
 use Rattle.fm_round.proofs.Reaching.{Reached, less_same, reached_none}
 use Rattle.fm_round.proofs.turn.take_turn.Goals as goal
 
@@ -88,8 +87,7 @@ pub loop-at-smaller : goal.loop-at-smaller
 loop-at-smaller g c =
     let chain = c.visit.ensures.watched.watch.chain in
     let on = c.visit.ensures.chained in
-    let within = chained_within c.visit.new.watch.next.items chain c.loop-at.at on in
-    let is = c.index-at.ensures ∙ any_default c.visit.new.watch.next.items c.loop-at.at c.index-at.result.now 0 within in
+    let is = c.after-at.ensures in
     let rises = chain.rises c.loop-at.at on in
     let test : c.loop-at.at < length c.loop-at.lanes = c.loop-at-test.true in
     let served = c.serve.auto.lanes in
@@ -100,8 +98,7 @@ pub loop-at-preserved : goal.loop-at-preserved
 loop-at-preserved g c =
     let chain = c.visit.ensures.watched.watch.chain in
     let on = c.visit.ensures.chained in
-    let within = chained_within c.visit.new.watch.next.items chain c.loop-at.at on in
-    let is = c.index-at.ensures ∙ any_default c.visit.new.watch.next.items c.loop-at.at c.index-at.result.now 0 within in
+    let is = c.after-at.ensures in
     let awaits : AllAwait c.args.plan.now c.visit.new.watch (link c.visit.new.watch.next.items c.loop-at.at) c.visit.new.lanes =
     await_next c.args.plan.now c.visit.new.watch c.loop-at.at c.visit.new.lanes chain c.visit.ensures.awaited in
     let size : length c.visit.new.lanes ≡ length c.args.lanes.now =
@@ -119,7 +116,7 @@ loop-at-preserved g c =
       watched = c.visit.ensures.watched;
       there = λ less. subst (λ (x : ℕ). 0 < link c.visit.new.watch.next.items x) (sym is)
           (chain.linked c.loop-at.at on
-          (less_same c.index-at.result.now (link c.visit.new.watch.next.items c.loop-at.at) (length c.visit.new.lanes)
+          (less_same c.after-at.result (link c.visit.new.watch.next.items c.loop-at.at) (length c.visit.new.lanes)
           (length c.visit.new.watch.next.items) is less (between.count ∙ sym c.visit.ensures.watched.watch.size)));
       awaited = subst (λ (x : ℕ). AllAwait c.args.plan.now c.visit.new.watch x c.visit.new.lanes) (sym is) awaits;
       less = less_next c.args.plan.now c.args.tick c.loop-at.at c.in_ok-count.all c.loop-at.lanes c.serve.new.lanes
@@ -169,3 +166,10 @@ returns-clause-goes g c = c.loop-at.invariant.goes
 
 pub returns-clause-err : goal.returns-clause-err
 returns-clause-err g c = tt
+
+pub overflow_cast-at : goal.overflow_cast-at
+overflow_cast-at g c = wider c.loop-at.at c.loop-at.auto.at-fits
+
+pub after-at-requires : goal.after-at-requires
+after-at-requires g c =
+    chained_within c.visit.new.watch.next.items c.visit.ensures.watched.watch.chain c.loop-at.at c.visit.ensures.chained
