@@ -67,7 +67,7 @@ fn plan_of_a_note(alloc: Global) -> Result<Plan, AllocError> {
 }
 
 // A board of this plan with one worker, room 8 and lead 0, and its two seats.
-fn opened<R: Abort + AllocGlobal>(rt: &R, plan: Plan) -> Result<(Board, BoardSeat, BoardSeat), Fail>
+fn opened(alloc: Global, plan: Plan) -> Result<(Board, BoardSeat, BoardSeat), AllocError>
     ensures zero { IfOk result (λ r. IsIdle r.0.table.shared.table_id r.0.about r.1) }
     ensures conductor { IfOk result (λ r. r.1.mind.view.number ≡ 0) }
     ensures settled { IfOk result (λ r. r.1.mind.view.due ≡ Nothing) }
@@ -75,10 +75,18 @@ fn opened<R: Abort + AllocGlobal>(rt: &R, plan: Plan) -> Result<(Board, BoardSea
     ensures number { IfOk result (λ r. r.2.mind.view.number ≡ 1) }
     ensures paced { IfOk result (λ r. r.2.mind.view.paced ≡ At 0) }
 {
-    let (board, zero, mut others) = Board::open(rt.alloc(), plan, 8, 0, 1)?;
-    match others.pop() {
-        Some(one) => Ok((board, zero, one)),
-        None => panic!(rt; "one worker has one seat"),
+    let (board, zero, others) = Board::open(alloc, plan, 8, 0, 1)?;
+    Ok((board, zero, only_seat(others)))
+}
+
+// The one seat of this list.
+fn only_seat(mut seats: Vec<BoardSeat>) -> BoardSeat
+    requires { length seats.items ≡ 1 }
+    ensures { seats.items ≡ result ∷ [] }
+{
+    match seats.pop() {
+        Some(seat) => seat,
+        None => unreachable!(),
     }
 }
 
@@ -201,7 +209,7 @@ fn both_claim<R: Abort + Threads + Sync>(
 
 #[test]
 fn one_of_two_threads_holds_a_process(rt: HostRuntime) -> Result<(), Fail> {
-    let (board, mut zero, mut one) = opened(&rt, plan_of_a_note(rt.alloc())?)?;
+    let (board, mut zero, mut one) = opened(rt.alloc(), plan_of_a_note(rt.alloc())?)?;
     let seen = sees(&rt, &board, &mut zero, (Tag::Home, 0, 0));
     assert!(&rt; 0 < board.plan().processes());
     match seen.tag {

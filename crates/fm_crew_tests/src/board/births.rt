@@ -110,7 +110,7 @@ fn start_again<R: Abort>(rt: &R, board: &Board, zero: &mut BoardSeat, one: &mut 
 
 #[test]
 fn a_voice_starts_once_the_first_process_ended(rt: HostRuntime) -> Result<(), Fail> {
-    let (board, mut zero, mut one) = opened(&rt, plan_of_three_voices(rt.alloc())?)?;
+    let (board, mut zero, mut one) = opened(rt.alloc(), plan_of_three_voices(rt.alloc())?)?;
     start_in_turn(&rt, &board, &mut zero, &mut one);
     Ok(())
 }

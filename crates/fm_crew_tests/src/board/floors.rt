@@ -93,7 +93,7 @@ fn pace_and_halt<R: Abort>(rt: &R, board: &Board, zero: &mut BoardSeat, one: &mu
 
 #[test]
 fn a_worker_sees_the_floor_and_the_halt(rt: HostRuntime) -> Result<(), Fail> {
-    let (board, mut zero, mut one) = opened(&rt, plan_of_a_note(rt.alloc())?)?;
+    let (board, mut zero, mut one) = opened(rt.alloc(), plan_of_a_note(rt.alloc())?)?;
     pace_and_halt(&rt, &board, &mut zero, &mut one);
     Ok(())
 }
