@@ -4,10 +4,10 @@ use Rattle.fm_line.specs.declared.limits.TheConstants.{MAX_EVENTS}
 use Rattle.fm_round.specs.Lanes.{IsLaneOf, Runs, live_clock, no_lane}
 use Rattle.fm_round.specs.Turns.{is_past}
 use Rattle.fm_round.specs.declared.lane.Lane.{Lane}
-use Rattle.fm_round.proofs.Goings.{few_between, goes_none, no_value}
+use Rattle.fm_round.proofs.Goings.{few_between}
 use Rattle.fm_round.proofs.OneServed.{IsServed, falls_here, lane_here, loads_kept, may_release_here, owns_here, playing_here, served_all, served_more, served_none, served_on, stops_here, there_here, waits_later}
 use Rattle.fm_round.proofs.Running.{any_default}
-use Rattle.fm_round.proofs.Serving.{not_false, serves_none}
+use Rattle.fm_round.proofs.Serving.{not_false}
 use Rattle.fm_round.proofs.turn.serve.Given.{Over}
 use Rattle.fm_round.proofs.turn.serve.Goals.{In_ok-more}
 use Rattle.fm_round.proofs.turn.serve.Goals as goal
@@ -115,18 +115,3 @@ loop-more-preserved g c =
           ∙ c.if-has_passed.false) c.run_lane.new.lane
           (subst (λ (s : Lane). Runs c.args.plan.now c.args.turn.at c.args.turn.tick s c.run_lane.new.lane) here c.run_lane.ensures);
     }
-
-pub returns-then-not-turn-clause-serves : goal.returns-then-not-turn-clause-serves
-returns-then-not-turn-clause-serves g c = serves_none c.args.plan.now c.args.turn.tick c.args.turn.at c.args.lanes.now
-
-pub returns-then-not-turn-clause-goes : goal.returns-then-not-turn-clause-goes
-returns-then-not-turn-clause-goes g c = goes_none c.args.sink.now c.args.writer.now c.args.lanes.now c.args.gather.now
-
-pub returns-in_err-more-clause-whole : goal.returns-in_err-more-clause-whole
-returns-in_err-more-clause-whole g c = no_value _ c.from_residual.result c.from_residual.ensures.0
-
-pub returns-in_err-more-clause-serves : goal.returns-in_err-more-clause-serves
-returns-in_err-more-clause-serves g c = no_value _ c.from_residual.result c.from_residual.ensures.0
-
-pub returns-in_err-more-clause-goes : goal.returns-in_err-more-clause-goes
-returns-in_err-more-clause-goes g c = no_value _ c.from_residual.result c.from_residual.ensures.0
