@@ -10,6 +10,7 @@ use Rattle.fm_line.specs.declared.limits.TheConstants.{MAX_EVENTS}
 use Rattle.fm_meaning.specs.Rules.{score_rules, most_operations, most_steps}
 use Rattle.fm_meaning.proofs.Versions.{few_processes, some_processes}
 use Rattle.fm_meaning.specs.Fault.{NumberedFault}
+use Rattle.fm_meaning.specs.Ranges.{second_walk}
 use Rattle.fm_meaning.specs.Faults.{first_found}
 use Rattle.fm_meaning.specs.Resolved.{Play, Passage, done, item}
 use Rattle.fm_meaning.specs.Resolve.{resolved, seed_of}
@@ -27,6 +28,7 @@ use Rattle.fm_outline.proofs.SeenLemmas.{step_seen}
 use Rattle.fm_outline.proofs.RefusalLemmas.{before as stays_first}
 use Rattle.fm_check.specs.declared.totals.sums.Sums.{Sums}
 use Rattle.fm_check.specs.Saturation.{capped, saturated}
+use Rattle.fm_check.specs.Made.{IsMadeOf}
 use Rattle.fm_check.specs.Reached.{IsSoundOutline, Reached}
 use Rattle.fm_check.proofs.SaturationLemmas.{capped_below}
 use Rattle.fm_check.proofs.SumsLemmas.{none_saturated, sums}
@@ -70,6 +72,13 @@ pub is_sound : (score : tree.Score) (o : Outline) → outline_view o ≡ outline
     → rules_view o.rules ≡ score_rules score → passage_of_outline o ≡ (resolved score).passage → IsSoundOutline o score
 is_sound score o view seed rules passage =
     record { is = record { view = view; seed = seed; rules = rules }; passage = passage }
+
+-- what the outline of a score without a fault of names and numbers is
+pub made_of : (score : tree.Score) (o : Outline) → outline_view o ≡ outline score → o.seed ≡ seed_of score.seed
+    → rules_view o.rules ≡ score_rules score → passage_of_outline o ≡ (resolved score).passage → second_walk score ≡ []
+    → IsMadeOf o score
+made_of score o view seed rules passage faultless =
+    record { sound = is_sound score o view seed rules passage; faultless = faultless }
 
 -- the greatest entry of all rhythms of a score is that of its outline
 pub longest_kept : (score : tree.Score) (o : Outline) {longest : ℕ} → outline_view o ≡ outline score

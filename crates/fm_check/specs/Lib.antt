@@ -3,3 +3,4 @@ pub mod Found
 pub mod Saturation
 pub mod Weight
 pub mod Reached
+pub mod Made

@@ -2,11 +2,13 @@
 
 ghost use Rattle.std.specs.Prelude.{◌≡◌, [], IfOk, OnOk, Some, Err};
 ghost use Rattle.fm_lex.specs.declared.spot.Spot.{Spot};
+ghost use Rattle.fm_grammar.specs.Score.{Score as Tree};
 ghost use Rattle.fm_grammar.specs.View.{score_view};
 ghost use Rattle.fm_meaning.specs.Resolve.{resolved};
 ghost use Rattle.fm_meaning.specs.Bounds.{score_bounds};
 ghost use Rattle.fm_meaning.specs.Faults.{score_faults, first_found};
 ghost use Rattle.fm_outline.specs.OfScore.{IsOutlineOf};
+ghost use Rattle.fm_check.specs.Made.{IsMadeOf};
 ghost use Rattle.fm_check.specs.Reached.{totals_of};
 ghost use Rattle.fm_rules.specs.Why.{fault_at};
 ghost use Rattle.fm_rules.specs.declared.why.Why.{Why as Reason};
@@ -26,6 +28,26 @@ pub struct Checked {
     pub bounds: Bounds,
 }
 
+/// The static totals of an outline without a fault of names and numbers, or its first fault: of
+/// where statements stand, then of totals. The second walk is made only where the first found
+/// nothing.
+pub fn check_made(alloc: Global, outline: Outline) -> Result<Checked, CheckFault>
+    requires { (s : Tree) × IsMadeOf outline s }
+    ensures same { IfOk result (λ c. c.outline ≡ outline) }
+    ensures bounds { (s : Tree) → IsMadeOf outline s
+        → IfOk result (λ c. totals_of c.bounds ≡ score_bounds (resolved s)) }
+    ensures faultless { (s : Tree) → IsMadeOf outline s → OnOk result (score_faults s ≡ []) }
+    ensures refused { (s : Tree) → IsMadeOf outline s → (why : Reason) (spot : Spot) →
+        result ≡ Err (CheckFault.Refused why spot) →
+        first_found (score_faults s) ≡ Some (fault_at spot why) }
+{
+    if let Some(fault) = first_place_fault(alloc, &outline)? {
+        return Err(refused(fault));
+    }
+    let bounds = find_bounds(alloc, &outline)?;
+    Ok(Checked { outline, bounds })
+}
+
 /// The outline of a score with its static totals, or its first fault: of names and numbers, then of
 /// where statements stand, then of totals. A later walk is made only where those before it found
 /// nothing. The first makes the outline, and the others go over that.
@@ -38,11 +60,7 @@ pub fn check_outline(alloc: Global, score: &Score) -> Result<Checked, CheckFault
         first_found (score_faults (score_view score.now)) ≡ Some (fault_at spot why) }
 {
     let outline = outline_of(alloc, score)?;
-    if let Some(fault) = first_place_fault(alloc, &outline)? {
-        return Err(refused(fault));
-    }
-    let bounds = find_bounds(alloc, &outline)?;
-    Ok(Checked { outline, bounds })
+    check_made(alloc, outline)
 }
 
 /// The static totals of a score, or its first fault: of names and numbers, then of where statements

@@ -154,6 +154,11 @@ impl Keyword {
             [b'l', ..] => spelt(&[Keyword::Loud, Keyword::Less], word),
             [b'm', ..] => spelt(&[Keyword::Max, Keyword::Min], word),
             [b'n', ..] => spelt(&[Keyword::Note], word),
+            [b'p', b'a', ..] => spelt(&[Keyword::Pause, Keyword::Par], word),
+            [b'p', b'h', ..] => spelt(&[Keyword::Phrase], word),
+            [b'p', b'i', ..] => spelt(&[Keyword::Pick], word),
+            [b'p', b'l', ..] => spelt(&[Keyword::Play], word),
+            [b'p', b'r', ..] => spelt(&[Keyword::Program], word),
             [b'p', ..] => spelt(
                 &[
                     Keyword::Pause,
@@ -166,6 +171,11 @@ impl Keyword {
                 word,
             ),
             [b'r', ..] => spelt(&[Keyword::Rest, Keyword::Repeat, Keyword::Rhythm], word),
+            [b's', b'a', ..] => spelt(&[Keyword::Same], word),
+            [b's', b'e', ..] => spelt(&[Keyword::Seed, Keyword::Set], word),
+            [b's', b'h', ..] => spelt(&[Keyword::Shape], word),
+            [b's', b'k', ..] => spelt(&[Keyword::Skip], word),
+            [b's', b'l', ..] => spelt(&[Keyword::Slope], word),
             [b's', ..] => spelt(
                 &[
                     Keyword::Seed,

@@ -9,6 +9,7 @@ pub mod KeyLemmas
 pub mod PhraseLemmas
 pub mod LookLemmas
 pub mod WalkLemmas
+pub mod SketchLemmas
 pub mod MapLemmas
 pub mod ShellLemmas
 pub mod GreatestLemmas

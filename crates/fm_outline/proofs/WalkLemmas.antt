@@ -1,19 +1,16 @@
 -- The walk over the entries, one more at a time.
-use Rattle.std.proofs.Common.{◌≡◌, ℕ, suc, ◌+◌, ◌<◌, ◌≤◌, List, [], ◌∷◌, ◌++◌, map, drop, length, get_or, refl, ap, ap₂, sym, ◌∙◌, add-one, Bool, cond, Some, None, is_some, drop_of_length-le, subst, Vec, Global}
+use Rattle.std.proofs.Common.{◌≡◌, ℕ, List, [], ◌∷◌, ◌++◌, map, length, get_or, refl, ap, ap₂, sym, ◌∙◌, Bool, cond, Some, None, is_some, subst, Vec, Global}
 use Rattle.std.specs.Prelude.{unwrap_or}
 use Rattle.std.specs.List.{list_any}
 use Rattle.std.specs.Str.{bytes_eq}
-use Rattle.std.proofs.Math.Seq.{drop-cons}
 use Rattle.std.proofs.lemmas.List.{map-append}
 use Rattle.fm_lex.specs.declared.spot.Spot.{Spot}
 use Rattle.fm_names.specs.Named.{named}
 use Rattle.fm_names.specs.declared.names.Names as table
 use Rattle.fm_warp.specs.declared.part.Part.{Part}
 use Rattle.fm_warp.specs.declared.warp.TheConstants.{MAX_PARTS}
-use Rattle.fm_grammar.specs.declared.entry.Entry.{Entry}
 use Rattle.fm_grammar.specs.declared.part_text.PartText.{PartText}
 use Rattle.fm_grammar.specs.Score as text
-use Rattle.fm_grammar.specs.View.{entry_view}
 use Rattle.fm_meaning.specs.Resolve.{part_of, meaning_of, named_as}
 use Rattle.fm_meaning.specs.Fault.{NumberedFault, fault_if, double_name}
 use Rattle.fm_meaning.specs.Faults.{first_found}
@@ -243,34 +240,16 @@ module _ {score : text.Score} {known : Known} {phrases : List (List Step)} {bloc
       ∙ before (double_faults name ns ++ inside ns) (others ns) f
       (new_behind name (inside ns) (knows_here r) new ∙ told r.k _ (knows_here r))
 
-  -- ---- the whole score
-
-  -- the entries from one on
-  pub at_entry : (es : List Entry) (i : ℕ) (e : Entry) → i < length es → e ≡ get_or es i e
-      → WalkedBy score known phrases block t (map entry_view (drop i es))
-      → WalkedBy score known phrases block t (entry_view e ∷ map entry_view (drop (i + 1) es))
-  at_entry es i e within is r =
-      subst (WalkedBy score known phrases block t)
-      (ap (map entry_view) (drop-cons es i e within)
-      ∙ ap (λ x. entry_view x ∷ map entry_view (drop (suc i) es)) (sym is)
-      ∙ ap (λ n. entry_view e ∷ map entry_view (drop n es)) (sym (add-one i))) r
-
-  -- no entry is left
-  at_end : (es : List Entry) (i : ℕ) → length es ≤ i → WalkedBy score known phrases block t (map entry_view (drop i es))
-      → WalkedBy score known phrases block t []
-  at_end es i past r =
-      subst (λ l. WalkedBy score known phrases block t (map entry_view l)) (drop_of_length-le es past) r
+  -- ---- no entry is left
 
   -- the score has no fault
-  pub ends_faultless : (es : List Entry) (i : ℕ) → length es ≤ i
-      → WalkedBy score known phrases block t (map entry_view (drop i es)) → second_walk score ≡ []
-  ends_faultless es i past r = no_first (second_walk score) (sym (at_end es i past r).first)
+  pub ends_faultless : WalkedBy score known phrases block t [] → second_walk score ≡ []
+  ends_faultless r = no_first (second_walk score) (sym r.first)
 
   -- what was made is the outline
-  pub ends_as_outline : (es : List Entry) (i : ℕ) → length es ≤ i
-      → WalkedBy score known phrases block t (map entry_view (drop i es))
+  pub ends_as_outline : WalkedBy score known phrases block t []
       → numbered (block_view (look_in (phrases_view phrases)) block) t ≡ outline score
-  ends_as_outline es i past r = sym ((at_end es i past r).so_far (look_in (phrases_view phrases)) (λ n within. refl))
+  ends_as_outline r = sym (r.so_far (look_in (phrases_view phrases)) (λ n within. refl))
 
   -- each phrase stands for its statements
   pub phrases_stand : {rest : List text.Entry} → WalkedBy score known phrases block t rest → (n : ℕ)

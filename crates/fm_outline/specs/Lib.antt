@@ -7,4 +7,5 @@ pub mod Refusal
 pub mod Forking
 pub mod Growing
 pub mod Walked
+pub mod Sketched
 pub mod Shell

@@ -1,13 +1,11 @@
 -- Entries, one behind another.
-use Rattle.std.proofs.Common.{◌≡◌, ℕ, ◌<◌, List, [], ◌∷◌, ◌++◌, Option, None, Result, Err, length, map, refl, sym, ap, ◌∙◌, subst, arith}
+use Rattle.std.proofs.Common.{◌≡◌, ℕ, ◌<◌, List, [], ◌∷◌, ◌++◌, Option, None, Result, Err, length, refl, sym, ap, ◌∙◌, subst, arith}
 use Rattle.std.specs.Prelude.{◌≢◌}
-use Rattle.std.proofs.lemmas.List.{map-append}
 use Rattle.fm_lex.specs.declared.kind.Kind.TheVariants.{Name}
 use Rattle.fm_lex.specs.declared.kind.Kind.TheVariants as kinds
 use Rattle.fm_lex.specs.declared.keyword.Keyword.TheVariants.{Shape, Phrase}
 use Rattle.fm_lex.specs.Tokens.{Lexed}
 use Rattle.fm_grammar.specs.declared.entry.Entry as code_entry
-use Rattle.fm_grammar.specs.View.{entry_view}
 use Rattle.fm_grammar.specs.Grammar.{EntryForm, shape, phrase, plays, EntriesForm, no_entry, entry}
 use Rattle.fm_grammar.specs.Signs.{semicolon, equals, tok}
 use Rattle.fm_grammar.specs.Spelling.{entry_text, entries_text, part_text}
@@ -17,7 +15,7 @@ use Rattle.fm_grammar.specs.Rules.{Sym, one, entries, parts, with_commas, block}
 use Rattle.fm_grammar.specs.Table.{opened}
 use Rattle.fm_terms.specs.declared.fault.ParseFault.{ParseFault}
 use Rattle.fm_terms.specs.Reader.{first_kind}
-use Rattle.fm_terms.specs.Follow.{At, Says, Spelt, IsThere}
+use Rattle.fm_terms.specs.Follow.{At, Says, IsThere}
 use Rattle.fm_parse.specs.Statements.{starter}
 use Rattle.fm_parse.specs.Whole.{EntryLeads, shape_syms, phrase_syms}
 use Rattle.fm_terms.proofs.Steps.{begun, skipped}
@@ -58,43 +56,19 @@ ends_entries l there F u below none s p a =
 
 -- ---- what was read
 
--- some entries were read
-pub record Entering (xs : List code_entry.Entry) (start now : List Lexed) : Type 0 where
-  pub form : EntriesForm
-  pub spells : start ≡ entries_text form now
-  pub stands_for : map entry_view xs ≡ entries_tree form
-  pub leads : (F : Option Fault) (u : ℕ) (below : List Sym) → opened below ≡ 0 → At F u (entries ∷ below) start
-      → At F 0 (entries ∷ below) now
-
-abbrev entries_with : EntriesForm → EntryForm → EntriesForm
+abbrev pub entries_with : EntriesForm → EntryForm → EntriesForm
 entries_with no_entry x = entry x no_entry
 entries_with (entry e es) x = entry e (entries_with es x)
 
-entries_with_text : (es : EntriesForm) (x : EntryForm) (next : List Lexed)
+pub entries_with_text : (es : EntriesForm) (x : EntryForm) (next : List Lexed)
     → entries_text (entries_with es x) next ≡ entries_text es (entry_text x next)
 entries_with_text no_entry x next = refl
 entries_with_text (entry e es) x next = ap (entry_text e) (entries_with_text es x next)
 
-entries_with_tree : (es : EntriesForm) (x : EntryForm)
+pub entries_with_tree : (es : EntriesForm) (x : EntryForm)
     → entries_tree (entries_with es x) ≡ entries_tree es ++ entry_tree x ∷ []
 entries_with_tree no_entry x = refl
 entries_with_tree (entry e es) x = ap (λ l. entry_tree e ∷ l) (entries_with_tree es x)
-
--- one entry more
-pub one_entered : (xs xs' : List code_entry.Entry) (e : code_entry.Entry) (start now new : List Lexed)
-    (g : Entering xs start now)
-    (x : Spelt entry_text entry_tree (entry_view e) now new) → xs' ≡ xs ++ e ∷ []
-    → ((F : Option Fault) (below : List Sym) → opened below ≡ 0 → At F 0 (entries ∷ below) now
-    → At F 0 (entries ∷ below) new)
-    → Entering xs' start new
-one_entered xs xs' e start now new g x more leads = record {
-  form = entries_with g.form x.form;
-  spells = g.spells ∙ ap (entries_text g.form) x.spells ∙ sym (entries_with_text g.form x.form new);
-  stands_for = ap (map entry_view) more ∙ map-append entry_view xs (e ∷ [])
-      ∙ ap (λ l. l ++ entry_view e ∷ []) g.stands_for
-      ∙ ap (λ y. entries_tree g.form ++ y ∷ []) x.stands_for ∙ sym (entries_with_tree g.form x.form);
-  leads = λ F u below d a. leads F below d (g.leads F u below d a);
-}
 
 -- an entry is no shorter than its first token
 pub entry_more : (e : EntryForm) (next : List Lexed) → length next < length (entry_text e next)

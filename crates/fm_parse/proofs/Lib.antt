@@ -9,3 +9,4 @@ pub mod Bodies
 pub mod Heads
 pub mod Verdicts
 pub mod EntryLists
+pub mod Onward

@@ -4,7 +4,7 @@ use Rattle.std.specs.Prelude.{IfOk, IfErr, ◌⊎◌}
 use Rattle.fm_lex.specs.declared.kind.Kind.TheVariants.{End}
 use Rattle.fm_lex.specs.Tokens.{Lexeme, Lexed, tokens}
 use Rattle.fm_grammar.specs.declared.score.Score as code_score
-use Rattle.fm_grammar.specs.Score.{Score, Leaf, Entry}
+use Rattle.fm_grammar.specs.Score.{Score, Leaf}
 use Rattle.fm_grammar.specs.View.{score_view}
 use Rattle.fm_grammar.specs.Grammar.{ScoreForm}
 use Rattle.fm_grammar.specs.Signs.{tok}
@@ -22,7 +22,7 @@ use Rattle.fm_terms.specs.declared.fault.ParseFault.{ParseFault}
 use Rattle.fm_terms.specs.declared.fault.ParseFault.TheVariants.{Lex, Expected, TooNested, Memory}
 use Rattle.fm_terms.specs.Reader.{tail}
 use Rattle.fm_terms.specs.Follow.{At, Says, IsLexical}
-use Rattle.fm_parse.specs.Whole.{Closes, IsFault, Answers, Refuses, WholeRead, Head, fault_of}
+use Rattle.fm_parse.specs.Whole.{IsFault, Answers, Refuses, fault_of}
 use Rattle.fm_terms.proofs.Steps.{takes_one, lexical_here}
 
 -- a text starts at the symbols of the whole
@@ -55,10 +55,10 @@ module _ (text : List ℕ) where
       }
   reads_of form score spells stands (inr found) none = let some = found_fault (tokens text) found.0 found.1 in cc
 
-  -- a text that trips nowhere reads as the score
-  pub reads_as : (score : Score) → WholeRead score (tokens text) → first_fault (tokens text) ≡ None
-      → Reads limits (tokens text) score
-  reads_as score read none = reads_of read.form score read.spells read.stands_for (text_verdict text) none
+  -- a text that spells a score, and trips nowhere, reads as it
+  pub reads_as : (form : ScoreForm) (score : Score) → tokens text ≡ score_text form → score ≡ score_tree form
+      → first_fault (tokens text) ≡ None → Reads limits (tokens text) score
+  reads_as form score spells stands none = reads_of form score spells stands (text_verdict text) none
 
 -- the fault of an answer is the one with which the tokens trip
 pub says_trips : (ts : List Lexed) (e : ParseFault) → Says e (first_fault ts) → IsFault e ts
@@ -95,27 +95,6 @@ pub refused_with : (ts : List Lexed) (f : Fault) (r : Result code_score.Score Pa
 refused_with ts f (Ok s) ok err trips = trips_excludes_reads ts trips.before trips.at (score_view s) trips.trips ok
 refused_with ts f (Err e) ok err trips = err_trips ts f e trips err
 
--- what the reading of a whole text says
-pub all_read : (text : List ℕ) (r : Result code_score.Score ParseFault) → IfOk r (λ s. WholeRead (score_view s)
-    (tokens text))
-    → Closes (first_fault (tokens text)) r → IfOk r (λ s. Reads limits (tokens text) (score_view s))
-all_read text (Ok s) read closes = reads_as text (score_view s) read closes
-all_read text (Err e) read closes = tt
-
-pub all_trip : (ts : List Lexed) (r : Result code_score.Score ParseFault) → Closes (first_fault ts) r
-    → IfErr r (λ e. IsFault e ts)
-all_trip ts (Ok s) closes = tt
-all_trip ts (Err e) closes = says_trips ts e closes
-
 -- a text that begins with a fault of the lexer
 pub lexical_start : (ts : List Lexed) (e : ParseFault) → IsLexical e ts → IsFault e ts
 lexical_start ts e is = says_trips ts e (lexical_here (first_fault ts) 0 (whole (is_divided ts)) e ts (at_start ts) is)
-
--- a score from its head and its entries
-abbrev pub score_from : Head → List Entry → Score
-score_from h es = record { version = h.version; division = h.division; seed = h.seed; entries = es }
-
--- an answer that hands a fault on
-pub closed_err : {A : Type 0} (F : Option Fault) (r : Result A ParseFault) (e : ParseFault) → r ≡ Err e
-    → Says e F → Closes F r
-closed_err F r e is says = subst (λ x. Closes F x) (sym is) says

@@ -2,3 +2,4 @@ pub mod Statements
 pub mod Sorts
 pub mod Openings
 pub mod Whole
+pub mod Begun

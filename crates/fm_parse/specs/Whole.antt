@@ -9,10 +9,10 @@ use Rattle.fm_grammar.specs.declared.entry.Entry as code_entry
 use Rattle.fm_grammar.specs.declared.score.Score as code_score
 use Rattle.fm_grammar.specs.Score.{Leaf, Score}
 use Rattle.fm_grammar.specs.View.{entry_view, score_view}
-use Rattle.fm_grammar.specs.Grammar.{NumForm, DivisionForm, SeedForm, ScoreForm}
+use Rattle.fm_grammar.specs.Grammar.{NumForm, DivisionForm, SeedForm}
 use Rattle.fm_grammar.specs.Signs.{tok, key, num, semicolon, equals, divided_version}
-use Rattle.fm_grammar.specs.Spelling.{division_text, seed_text, entry_text, score_text}
-use Rattle.fm_grammar.specs.Standing.{num_tree, division_tree, seed_tree, entry_tree, score_tree}
+use Rattle.fm_grammar.specs.Spelling.{division_text, seed_text, entry_text}
+use Rattle.fm_grammar.specs.Standing.{num_tree, division_tree, seed_tree, entry_tree}
 use Rattle.fm_grammar.specs.Reads.{Fault, lexical, expected, too_nested, TripsWith}
 use Rattle.fm_grammar.specs.Rules.{Sym, one, entries, parts, with_commas, block}
 use Rattle.fm_grammar.specs.Table.{says_division}
@@ -100,12 +100,6 @@ shape_syms = one (kinds.Keyword Shape) ∷ one Name ∷ one equals ∷ with_comm
 -- a definition of a phrase
 abbrev pub phrase_syms : List Sym
 phrase_syms = one (kinds.Keyword Phrase) ∷ one Name ∷ block []
-
--- the tokens spell a form of a score, which stands for it
-pub record WholeRead (score : Score) (ts : List Lexed) : Type 0 where
-  pub form : ScoreForm
-  pub spells : ts ≡ score_text form
-  pub stands_for : score ≡ score_tree form
 
 -- a head of the code
 abbrev pub head_view : code_head.Head → Head

@@ -17,7 +17,7 @@ use crate::items::{read_block, read_statement};
 use crate::words::starter_of;
 use fm_grammar::Entry;
 use fm_lex::{Keyword, Kind};
-use fm_terms::{ParseFault, Reader, expect, push, read_name, read_parts};
+use fm_terms::{ParseFault, Reader, expect, read_name, read_parts};
 use std::alloc::Global;
 
 const SHAPE: Kind = Kind::Keyword(Keyword::Shape);
@@ -72,8 +72,8 @@ fn read_played<'s>(
     Ok(Some(Entry::Play { item }))
 }
 
-// An entry, where one begins.
-fn read_entry<'s>(alloc: Global, r: &mut Reader<'s>) -> Result<Option<Entry<'s>>, ParseFault>
+/// Reads an entry, where one begins.
+pub fn read_entry<'s>(alloc: Global, r: &mut Reader<'s>) -> Result<Option<Entry<'s>>, ParseFault>
     ensures text { IfOk result (λ e. EntryRead e r.old r.new) }
     ensures follows { (whole : Option Fault) (used : ℕ) (below : List Sym) → opened below ≡ 0
         → At whole used (entry_list ∷ below) r.old → EntryLeads whole below result r.new }
@@ -87,21 +87,5 @@ fn read_entry<'s>(alloc: Global, r: &mut Reader<'s>) -> Result<Option<Entry<'s>>
     match starter_of(r.kind()) {
         Some(word) => read_played(alloc, r, word),
         None => Ok(None),
-    }
-}
-
-/// Reads entries.
-pub fn read_entries<'s>(alloc: Global, r: &mut Reader<'s>) -> Result<Vec<Entry<'s>>, ParseFault>
-    ensures text { IfOk result
-        (λ l. Spelt entries_text entries_tree (map entry_view l.items) r.old r.new) }
-    ensures follows { FollowsIn 0 (entry_list ∷ []) result r.old r.new }
-{
-    let mut list = Vec::new(alloc);
-    loop {
-        let found = read_entry(alloc, r)?;
-        let Some(entry) = found else {
-            return Ok(list);
-        };
-        push(&mut list, entry)?;
     }
 }

@@ -14,4 +14,5 @@ pub use fm_grammar::{
     Amount, Duration, Entry, Item, Length, Name, Number, PartText, Pitch, Score, What,
 };
 pub use fm_terms::ParseFault;
-pub use text::parse;
+pub use head::Head;
+pub use text::{EntryReader, parse};

@@ -1,26 +1,28 @@
 //! Reading a score.
 
-ghost use Rattle.std.specs.Prelude.{◌≡◌, ◌≤◌, ℕ, [], ◌∷◌, Option, Ok, length, IfOk, IfErr};
+ghost use Rattle.std.specs.Prelude.{◌≡◌, ◌<◌, ◌≤◌, ℕ, List, [], ◌∷◌, Option, None, Ok, length, IfOk, OnOk, IfErr, IfSome};
 ghost use Rattle.fm_lex.specs.declared.kind.Kind.TheVariants.{End};
 ghost use Rattle.fm_lex.specs.Tokens.{lexeme_of, tokens};
-ghost use Rattle.fm_grammar.specs.Score.{Score as Tree, Leaf};
+ghost use Rattle.fm_grammar.specs.Score.{Score as Tree, Entry as EntryTree, Leaf};
 ghost use Rattle.fm_grammar.specs.Signs.{tok};
 ghost use Rattle.fm_grammar.specs.View.{score_view};
-ghost use Rattle.fm_grammar.specs.Spelling.{division_text, seed_text, score_text};
-ghost use Rattle.fm_grammar.specs.Standing.{division_tree, seed_tree, score_tree};
+ghost use Rattle.fm_grammar.specs.Spelling.{division_text, seed_text};
+ghost use Rattle.fm_grammar.specs.Standing.{division_tree, seed_tree};
 ghost use Rattle.fm_grammar.specs.Reads.{Fault, Reads, TripsWith};
 ghost use Rattle.fm_grammar.specs.Within.{limits};
 ghost use Rattle.fm_grammar.specs.Rules.{one, entries, seeded, undivided, behind_version, whole as whole_text};
 ghost use Rattle.fm_grammar.specs.Table.{is_divided};
 ghost use Rattle.fm_terms.specs.Follow.{At, Leads, FollowsStack, Spelt};
-ghost use Rattle.fm_parse.specs.Whole.{Closes, states, head_text, head_tree, head_view, IsFault, Answers, Refuses, WholeRead};
+ghost use Rattle.fm_parse.specs.Whole.{Closes, states, head_text, head_tree, head_view, IsFault, Answers, Refuses};
+ghost use Rattle.fm_parse.specs.Begun.{IsReadTo, ReadsOn, ReadsFrom};
 
-use crate::entries::read_entries;
+use crate::entries::read_entry;
 use crate::head::Head;
-use fm_grammar::{Number, Score};
+use fm_grammar::{Entry, Number, Score};
 use fm_lex::{Keyword, Kind, MAX_TEXT, Token};
-use fm_terms::{ParseFault, Reader, expect, read_name, read_number};
+use fm_terms::{ParseFault, Reader, expect, push, read_name, read_number};
 use std::alloc::Global;
+use std::marker::Model;
 
 const FORMULA: Kind = Kind::Keyword(Keyword::Formula);
 
@@ -106,15 +108,86 @@ fn check_end(r: &Reader) -> Result<(), ParseFault>
     }
 }
 
-// A whole score.
-fn read_score<'s>(alloc: Global, r: &mut Reader<'s>) -> Result<Score<'s>, ParseFault>
-    ensures text { IfOk result (λ s. WholeRead (score_view s) r.old) }
-    ensures follows { (fault : Option Fault) → At fault 0 (whole_text (is_divided r.old)) r.old
-        → Closes fault result }
+/// A text whose head was read, and that is read on entry by entry. A contract sees the head and
+/// the tokens that are left.
+#[derive(Drop)]
+pub struct EntryReader<'s> {
+    head: Head,
+    rest: Reader<'s>,
+}
+
+impl<'s> Model for EntryReader<'s> {
+    ghost use Rattle.fm_parse.specs.Begun.{Begun};
+    ghost use Rattle.fm_parse.specs.Whole.{head_view};
+
+    ghost Value = { Begun };
+
+    ghost view = { λ r. record { head = head_view r.head; left = r.rest } };
+}
+
+impl<'s> EntryReader<'s> {
+    /// Reads the head of a text of at most 1,048,576 bytes. It answers a fault with which the text
+    /// trips, or that there was no memory.
+    pub fn open(source: &'s [u8]) -> Result<EntryReader<'s>, ParseFault>
+        requires { length source.now ≤ MAX_TEXT }
+        ensures begins { IfOk result (λ r. IsReadTo source.now [] r) }
+        ensures trips { IfErr result (λ e. IsFault e (tokens source.now)) }
+    {
+        let mut rest = Reader::new(source)?;
+        let head = read_head(&mut rest)?;
+        Ok(EntryReader { head, rest })
+    }
+
+    /// The head of the text.
+    pub fn head(&self) -> Head
+        ensures { head_view result ≡ self.now.head }
+    {
+        self.head
+    }
+
+    /// Reads the next entry, or finds that the text ends. Behind a fault nothing is said of what is
+    /// left.
+    pub fn next(&mut self, alloc: Global) -> Result<Option<Entry<'s>>, ParseFault>
+        ensures reads { (text : List ℕ) (done : List EntryTree) → IsReadTo text done self.old
+            → ReadsOn text done self.old self.new result }
+        ensures head { self.new.head ≡ self.old.head }
+        ensures fewer { IfOk result (λ found. IfSome found
+            (λ _. length self.new.left < length self.old.left)) }
+        ensures over { IfOk result (λ found. found ≡ None → self.new ≡ self.old) }
+    {
+        let Some(entry) = read_entry(alloc, &mut self.rest)? else {
+            check_end(&self.rest)?;
+            return Ok(None);
+        };
+        Ok(Some(entry))
+    }
+
+    /// Reads the entries that are left and lets each go, to find whether the text reads.
+    pub fn finish(mut self, alloc: Global) -> Result<(), ParseFault>
+        ensures reads { (text : List ℕ) (done : List EntryTree) → IsReadTo text done self.entry
+            → OnOk result (ReadsFrom text self.entry.head done) }
+        ensures trips { (text : List ℕ) (done : List EntryTree) → IsReadTo text done self.entry
+            → IfErr result (λ e. IsFault e (tokens text)) }
+    {
+        while let Some(entry) = self.next(alloc)? {
+            drop(entry);
+        }
+        Ok(())
+    }
+}
+
+// A text as a score.
+fn read_score<'s>(alloc: Global, source: &'s [u8]) -> Result<Score<'s>, ParseFault>
+    requires { length source.now ≤ MAX_TEXT }
+    ensures reads { IfOk result (λ s. Reads limits (tokens source.now) (score_view s)) }
+    ensures trips { IfErr result (λ e. IsFault e (tokens source.now)) }
 {
-    let head = read_head(r)?;
-    let entries = read_entries(alloc, r)?;
-    check_end(r)?;
+    let mut reader = EntryReader::open(source)?;
+    let mut entries = Vec::new(alloc);
+    while let Some(entry) = reader.next(alloc)? {
+        push(&mut entries, entry)?;
+    }
+    let head = reader.head();
     Ok(Score {
         version: head.version,
         division: head.division,
@@ -134,8 +207,5 @@ pub fn parse<'s>(alloc: Global, source: &'s [u8]) -> Result<Score<'s>, ParseFaul
     ensures tripping { (fault : Fault) → TripsWith (tokens source.now) fault
         → Refuses fault result }
 {
-    match Reader::new(source) {
-        Ok(mut r) => read_score(alloc, &mut r),
-        Err(fault) => Err(fault),
-    }
+    read_score(alloc, source)
 }

@@ -1,5 +1,5 @@
 -- The number and the place of a fault of the parser.
-use Rattle.std.proofs.Common.{◌≡◌, ℕ, ◌≤◌, List, length, Some, Result, Err, refl, sym, ◌∙◌, ap, subst}
+use Rattle.std.proofs.Common.{◌≡◌, ℕ, ◌≤◌, List, length, Some, refl, sym, ◌∙◌, ap, subst}
 use Rattle.fm_lex.specs.declared.lexer.TheConstants.{MAX_TEXT}
 use Rattle.fm_lex.specs.declared.spot.Spot.{Spot}
 use Rattle.fm_lex.specs.declared.token.LexFault.{LexFault}
@@ -13,7 +13,6 @@ use Rattle.fm_meaning.specs.Faults.{score_faults, first_found}
 use Rattle.fm_meaning.specs.Verdict.{grammar_fault, trips, finds, HasFault}
 use Rattle.fm_rules.specs.Why.{why_number, fault_at}
 use Rattle.fm_rules.specs.declared.why.Why.{Why}
-use Rattle.fm_check.specs.declared.totals.bounds.Bounds.{Bounds}
 use Rattle.fm_rules.specs.declared.fault.CheckFault.{CheckFault}
 use Rattle.fm_rules.specs.declared.fault.CheckFault.TheVariants.{Refused, Memory}
 use Rattle.fm_top.specs.Judging.{IsFirst}
@@ -61,7 +60,7 @@ placed_first text score e why spot n same is short reads first =
 
 -- the first fault, as the checker says it
 pub first_said : (e : CheckFault) (score : Score)
-    → ((why : Why) (spot : Spot) → ◌≡◌ {A = Result Bounds CheckFault} (Err e) (Err (Refused why spot))
+    → ((why : Why) (spot : Spot) → e ≡ Refused why spot
     → first_found (score_faults score) ≡ Some (fault_at spot why))
     → IsFirst e score
 first_said (Refused why spot) score said = said why spot refl

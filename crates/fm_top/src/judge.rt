@@ -8,9 +8,10 @@ ghost use Rattle.fm_grammar.specs.Reads.{lexical, Reads, TripsWith};
 ghost use Rattle.fm_parse.specs.Whole.{IsFault};
 ghost use Rattle.fm_top.specs.Judging.{IsFirst, IsPlanned, IsJudged};
 
-use fm_check::{CheckFault, Checked, check_outline};
+use crate::outlined::outline_text;
+use fm_check::{CheckFault, Checked, check_made};
 use fm_lex::{LexFault, MAX_TEXT};
-use fm_parse::{ParseFault, parse};
+use fm_parse::ParseFault;
 use fm_plan::plan_outline;
 use fm_program::Plan;
 use fm_tell::RunFault;
@@ -45,8 +46,8 @@ fn fault_of_token(fault: LexFault) -> RunFault
     }
 }
 
-// The fault of a text that is not read.
-fn fault_of(fault: ParseFault) -> RunFault
+/// The fault of a text that is not read.
+pub(crate) fn fault_of(fault: ParseFault) -> RunFault
     ensures { (text : List ℕ) → length text ≤ MAX_TEXT → IsFault fault (tokens text)
         → IsJudged text result }
 {
@@ -64,8 +65,8 @@ fn fault_of(fault: ParseFault) -> RunFault
     }
 }
 
-// The fault of a text that reads as a score which is refused.
-fn fault_of_check(fault: CheckFault) -> RunFault
+/// The fault of a text that reads as a score which is refused.
+pub(crate) fn fault_of_check(fault: CheckFault) -> RunFault
     ensures { (text : List ℕ) (s : Tree) → length text ≤ MAX_TEXT → Reads limits (tokens text) s
         → IsFirst fault s → IsJudged text result }
 {
@@ -84,15 +85,10 @@ pub fn judge(alloc: Global, text: &[u8]) -> Result<Plan, RunFault>
     ensures planned { IfOk result (λ p. IsPlanned text.now p) }
     ensures refused { IfErr result (λ fault. IsJudged text.now fault) }
 {
-    let score = match parse(alloc, text) {
-        Ok(score) => score,
-        Err(fault) => return Err(fault_of(fault)),
-    };
-    let Checked { outline, bounds } = match check_outline(alloc, &score) {
+    let outline = outline_text(alloc, text)?;
+    let Checked { outline, bounds } = match check_made(alloc, outline) {
         Ok(checked) => checked,
         Err(fault) => return Err(fault_of_check(fault)),
     };
-    // The plan takes the memory of the tree.
-    drop(score);
     Ok(plan_outline(alloc, outline, &bounds)?)
 }

@@ -16,6 +16,7 @@ mod judge;
 mod laws;
 mod listing;
 mod memory;
+mod outlined;
 mod perform;
 mod play;
 mod positions;

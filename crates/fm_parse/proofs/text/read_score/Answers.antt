@@ -1,53 +1,29 @@
--- A head, entries and the end.
-use Rattle.std.proofs.Common.{[], ◌∷◌, refl, ap₂}
-use Rattle.fm_lex.specs.declared.kind.Kind.TheVariants as kinds
-use Rattle.fm_parse.proofs.Verdicts.{closed_err, score_from}
-use Rattle.fm_grammar.specs.Rules.{one}
+-- The entries, one behind another.
+use Rattle.std.proofs.Common.{sym, map, ◌∙◌, subst}
+use Rattle.fm_lex.specs.Tokens.{tokens}
+use Rattle.fm_grammar.specs.View.{entry_view}
+use Rattle.fm_grammar.specs.Reads.{Reads}
+use Rattle.fm_grammar.specs.Within.{limits}
 use Rattle.fm_terms.proofs.Steps.{passed}
+use Rattle.fm_parse.specs.Whole.{Head}
+use Rattle.fm_parse.specs.Begun.{score_of}
+use Rattle.fm_parse.proofs.Onward.{found_more, found_over, pushed}
 use Rattle.fm_parse.proofs.text.read_score.Goals as goal
 
-pub returns-in_err-head-clause-follows : goal.returns-in_err-head-clause-follows
-returns-in_err-head-clause-follows c = λ F a.
-    let e = c.in_err-head.field-0.0 in
-    let is = passed c.from_residual.result e c.from_residual.ensures.1 in
-    closed_err F _ e is (c.in_err-head.ensures.follows F a)
+pub returns-in_err-entry-clause-trips : goal.returns-in_err-entry-clause-trips
+returns-in_err-entry-clause-trips c =
+    let is = passed c.from_residual-in_err-entry.result c.in_err-entry.field-0.0 c.from_residual-in_err-entry.ensures.1 in
+    rw is (c.in_err-entry.ensures.reads _ _ c.loop-entries.invariant)
 
-pub returns-in_err-entries-clause-follows : goal.returns-in_err-entries-clause-follows
-returns-in_err-entries-clause-follows c = λ F a.
-    let e = c.in_err-entries.field-0.0 in
-    let is = passed c.from_residual-in_err-entries.result e c.from_residual-in_err-entries.ensures.1 in
-    closed_err F _ e is (c.in_err-entries.ensures.follows F 0 (one kinds.End ∷ []) refl (c.in_ok-head.ensures.follows F a))
+pub loop-entries-preserved : goal.loop-entries-preserved
+loop-entries-preserved c =
+    pushed c.args.source.now _ _ c.in-Some.entry _ c.in_ok-push.ensures.ok
+    (found_more _ _ c.loop-entries.reader _ _ c.in-Some.entry c.in-Some.is
+    (c.in_ok-entry.ensures.reads _ _ c.loop-entries.invariant))
 
-pub returns-in_err-check_end-clause-follows : goal.returns-in_err-check_end-clause-follows
-returns-in_err-check_end-clause-follows c = λ F a.
-    let e = c.in_err-check_end.field-0.0 in
-    let is = passed c.from_residual-in_err-check_end.result e c.from_residual-in_err-check_end.ensures.1 in
-    closed_err F _ e is (c.in_err-check_end.ensures.follows F 0 (c.in_ok-entries.ensures.follows F 0
-    (one kinds.End ∷ []) refl (c.in_ok-head.ensures.follows F a)))
-
-pub returns-clause-follows : goal.returns-clause-follows
-returns-clause-follows c = λ F a. c.in_ok-check_end.ensures.follows F 0 (c.in_ok-entries.ensures.follows F 0
-    (one kinds.End ∷ []) refl (c.in_ok-head.ensures.follows F a))
-
-pub returns-clause-text : goal.returns-clause-text
-returns-clause-text c =
-    let head = c.in_ok-head.ensures.text in
-    let entries = c.in_ok-entries.ensures.text in
-    let end = c.in_ok-check_end.ensures.text in
-    record {
-      form = record {
-        word = head.form.word;
-        version = head.form.version;
-        ends = head.form.ends;
-        divided = head.form.divided;
-        seeded = head.form.seeded;
-        entries = entries.form;
-        last = end.0;
-      };
-      spells = rw (
-        c.in_ok-head.ensures.text.spells,
-        c.in_ok-entries.ensures.text.spells,
-        c.in_ok-check_end.ensures.text.1,
-      ) refl;
-      stands_for = ap₂ score_from head.stands_for entries.stands_for;
-    }
+pub returns-clause-reads : goal.returns-clause-reads
+returns-clause-reads c =
+    subst (λ (h : Head). Reads limits (tokens c.args.source.now) (score_of h (map entry_view c.loop-entries.entries.items)))
+    (sym (c.head-head.ensures ∙ c.in_ok-entry.ensures.head))
+    (found_over _ _ c.loop-entries.reader c.next.new.self _ c.in_default.is
+    (c.in_ok-entry.ensures.reads _ _ c.loop-entries.invariant))

@@ -1,0 +1,92 @@
+-- The outline of a score, one entry after another.
+use Rattle.std.proofs.Common.{◌≡◌, ℕ, suc, ◌+◌, ◌<◌, ◌≤◌, List, [], ◌∷◌, map, drop, length, get_or, ap, sym, ◌∙◌, add-one, drop_of_length-le, Some, append-nil, append_assoc, subst}
+use Rattle.std.proofs.Math.Seq.{drop-cons}
+use Rattle.fm_lex.specs.declared.spot.Spot.{Spot}
+use Rattle.fm_grammar.specs.declared.entry.Entry.{Entry}
+use Rattle.fm_grammar.specs.Score as text
+use Rattle.fm_grammar.specs.View.{entry_view}
+use Rattle.fm_meaning.specs.Faults.{first_found}
+use Rattle.fm_meaning.specs.Ranges.{second_walk}
+use Rattle.fm_rules.specs.Why.{fault_at}
+use Rattle.fm_rules.specs.declared.why.Why.{Why}
+use Rattle.fm_outline.specs.declared.sketch.Sketch.{Sketch}
+use Rattle.fm_outline.specs.Walked.{Walked, EntryRefused}
+use Rattle.fm_outline.specs.Sketched.{Outlines, BeginsFaulty, with_entries, with_entry}
+
+-- no entry more
+with_none : (s : text.Score) → with_entries s [] ≡ s
+with_none s = ap (λ es. let t : text.Score = record s { entries = es } in t) (append-nil s.entries)
+
+-- an entry and those behind it
+with_behind : (s : text.Score) (e : text.Entry) (rest : List text.Entry)
+    → with_entries (with_entry s e) rest ≡ with_entries s (e ∷ rest)
+with_behind s e rest = ap (λ es. let t : text.Score = record s { entries = es } in t) (append_assoc s.entries (e ∷ []) rest)
+
+-- ---- faults
+
+-- behind a fault an entry more changes nothing
+pub faulty_more : (s : text.Score) (e : text.Entry) (spot : Spot) (why : Why) → BeginsFaulty s spot why
+    → BeginsFaulty (with_entry s e) spot why
+faulty_more s e spot why told rest = ap (λ x. first_found (second_walk x)) (with_behind s e rest) ∙ told (e ∷ rest)
+
+-- where no entry follows, it is the first fault of the score
+pub faulty_first : (s : text.Score) (spot : Spot) (why : Why) → BeginsFaulty s spot why
+    → first_found (second_walk s) ≡ Some (fault_at spot why)
+faulty_first s spot why told = ap (λ x. first_found (second_walk x)) (sym (with_none s)) ∙ told []
+
+-- ---- one entry
+
+module _ {sketch : Sketch} {s : text.Score} where
+  -- an entry with a fault
+  pub entry_faulty : {e : text.Entry} (spot : Spot) (why : Why) → EntryRefused sketch.walk e spot why → Outlines sketch s
+      → BeginsFaulty (with_entry s e) spot why
+  entry_faulty {e} spot why told o rest =
+      ap (λ x. first_found (second_walk x)) (with_behind s e rest)
+      ∙ told (with_entries s (e ∷ rest)) rest (o.walked (e ∷ rest))
+
+  -- no entry follows
+  pub ends_walked : Outlines sketch s → Walked s sketch.walk []
+  ends_walked o = subst (λ x. Walked x sketch.walk []) (with_none s) (o.walked [])
+
+-- ---- a whole score
+
+-- of the score all is outlined but these entries
+pub record OutlinesBefore (sketch : Sketch) (score : text.Score) (left : List text.Entry) : Type 0 where
+  pub part : text.Score
+  pub so_far : Outlines sketch part
+  pub whole : with_entries part left ≡ score
+
+module _ {sketch : Sketch} {score : text.Score} where
+  -- the entries from one on
+  pub at_entry : (es : List Entry) (i : ℕ) (e : Entry) → i < length es → e ≡ get_or es i e
+      → OutlinesBefore sketch score (map entry_view (drop i es))
+      → OutlinesBefore sketch score (entry_view e ∷ map entry_view (drop (i + 1) es))
+  at_entry es i e within is r =
+      subst (OutlinesBefore sketch score)
+      (ap (map entry_view) (drop-cons es i e within)
+      ∙ ap (λ x. entry_view x ∷ map entry_view (drop (suc i) es)) (sym is)
+      ∙ ap (λ n. entry_view e ∷ map entry_view (drop n es)) (sym (add-one i))) r
+
+  -- the next one is entered
+  pub entered : {e : text.Entry} {rest : List text.Entry} {u : Sketch} → OutlinesBefore sketch score (e ∷ rest)
+      → ((s : text.Score) → Outlines sketch s → Outlines u (with_entry s e)) → OutlinesBefore u score rest
+  entered {e} {rest} r more = record {
+    part = with_entry r.part e;
+    so_far = more r.part r.so_far;
+    whole = with_behind r.part e rest ∙ r.whole;
+  }
+
+  -- the next one has a fault
+  pub whole_faulty : {e : text.Entry} {rest : List text.Entry} (spot : Spot) (why : Why) → OutlinesBefore sketch score (e ∷ rest)
+      → ((s : text.Score) → Outlines sketch s → BeginsFaulty (with_entry s e) spot why)
+      → first_found (second_walk score) ≡ Some (fault_at spot why)
+  whole_faulty {e} {rest} spot why r told =
+      ap (λ x. first_found (second_walk x)) (sym (with_behind r.part e rest ∙ r.whole)) ∙ told r.part r.so_far rest
+
+  -- no entry is left
+  pub all_outlined : (es : List Entry) (i : ℕ) → length es ≤ i → OutlinesBefore sketch score (map entry_view (drop i es))
+      → Outlines sketch score
+  all_outlined es i past r =
+      subst (Outlines sketch)
+      (sym (with_none r.part) ∙ ap (λ l. with_entries r.part (map entry_view l)) (sym (drop_of_length-le es past)) ∙ r.whole)
+      r.so_far

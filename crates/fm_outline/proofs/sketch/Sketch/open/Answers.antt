@@ -1,0 +1,24 @@
+use Rattle.std.proofs.Common.{ap}
+use Rattle.fm_grammar.specs.View.{score_view}
+use Rattle.fm_meaning.specs.Ranges.{head_faults}
+use Rattle.fm_meaning.specs.Rules.{VersionRules}
+use Rattle.fm_outline.specs.View.{tables_view}
+use Rattle.fm_outline.specs.Sketched.{head_of, with_entries}
+use Rattle.fm_outline.proofs.RefusalLemmas.{passed}
+use Rattle.fm_outline.proofs.WalkLemmas.{begun}
+use Rattle.fm_outline.proofs.sketch.Sketch.open.Goals as goal
+
+pub returns-clause-ok : goal.returns-clause-ok
+returns-clause-ok c =
+    let score = score_view c.args.score.now in
+    record {
+      walked = λ rest.
+          rw (c.new-4.ensures.items, c.new-5.ensures.items)
+          (begun (with_entries (head_of score) rest)
+          (record { whole = c.rules_of-rules.result.whole_note; names = c.new.result; forking = c.new-2.result })
+          (tables_view c.new-3.result) c.new.ensures c.new-3.ensures
+          (ap VersionRules.whole_note c.rules_of-rules.ensures.rules)
+          (passed c.check_head.result _ (head_faults score) c.in_ok-answered.ensures c.check_head.ensures));
+      seed = c.seed-seed.ensures;
+      rules = c.rules_of-rules.ensures.rules;
+    }

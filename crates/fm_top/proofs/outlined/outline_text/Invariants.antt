@@ -1,0 +1,10 @@
+use Rattle.std.proofs.Common.{length}
+use Rattle.fm_top.specs.Judging.{IsSketched}
+use Rattle.fm_top.proofs.outlined.outline_text.Given as goal
+
+-- what was read is outlined
+abbrev pub invariant-loop-found : goal.invariant-loop-found
+invariant-loop-found l = IsSketched l.text l.reader l.sketch
+
+abbrev pub decreases-loop-found : goal.decreases-loop-found
+decreases-loop-found l = length l.reader.left
