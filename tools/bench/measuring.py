@@ -69,8 +69,8 @@ def compiled(source: str, target: str, *options: str) -> str:
 class Bench:
     """Runs of the program in a folder, and how the figures meet the aims."""
 
-    def __init__(self, program: str, runs: int, folder: str):
-        self.program, self.runs, self.folder = program, runs, folder
+    def __init__(self, program: str, runs: int, folder: str, before: Optional[str] = None):
+        self.program, self.runs, self.folder, self.before = program, runs, folder, before
         self.aims: list[str] = []
         self.out = self.path("out.mid")
         self.nowhere = self.path("folder")
@@ -98,9 +98,9 @@ class Bench:
         wall, cpu, peak, status = self.measured(words)
         return Figures(wall / 1000, cpu / 1000, peak, int(status))
 
-    def run(self, words: Sequence[str]) -> Figures:
-        """The figures of a run of the program."""
-        return self.figures([self.path("timed"), self.program, *words])
+    def run(self, words: Sequence[str], program: Optional[str] = None) -> Figures:
+        """The figures of a run of the program, or of another one."""
+        return self.figures([self.path("timed"), program or self.program, *words])
 
     def best(self, once: Callable[[], Figures]) -> Figures:
         """The least of each figure over the runs."""
@@ -112,15 +112,23 @@ class Bench:
         return least(kept)
 
     def by_turns(self, first: Sequence[str], second: Sequence[str], wanted: int = 0) -> Turns:
-        """Runs the program with one list of words and with another by turns. The two runs of a turn meet the same speed
-        of the host, so the ratios are those of turns."""
+        """Runs the program with one list of words and with another by turns."""
+        return self.turns(lambda: self.run(first), lambda: self.run(second), f"{first}, {second}", wanted)
+
+    def and_before(self, text: bytes, options: Sequence[str], out: Optional[str] = None, wanted: int = 0) -> Turns:
+        """Plays a text with the program and with the one before it by turns."""
+        words = [self.put("in.score", text), out or self.out, *options]
+        return self.turns(lambda: self.run(words), lambda: self.run(words, self.before), str(words), wanted)
+
+    def turns(self, first: Callable[[], Figures], second: Callable[[], Figures], what: str, wanted: int) -> Turns:
+        """Makes two runs by turns. Those of a turn meet the same speed of the host, so the ratios are those of turns."""
         turns: list[tuple[Figures, Figures]] = []
         spent = 0.0
         while len(turns) < TURNS * self.runs and spent < 1000 * LONG:
-            turns.append((self.run(first), self.run(second)))
+            turns.append((first(), second()))
             spent += sum(figures.wall for figures in turns[-1])
         if any(figures.status != wanted for turn in turns for figures in turn):
-            wrong(f"not the status {wanted}: {first}, {second}")
+            wrong(f"not the status {wanted}: {what}")
         return Turns(least([turn[0] for turn in turns]), least([turn[1] for turn in turns]),
                      statistics.median(ours.wall / theirs.wall for ours, theirs in turns),
                      statistics.median(ours.cpu / theirs.cpu for ours, theirs in turns))

@@ -10,6 +10,7 @@ from measuring import Bench, Figures, head, row
 #: The aims.
 MOST_MILLISECONDS = 80
 MOST_GROWTH = 4.5
+MOST_OF_BEFORE = 0.75
 MOST_GROWTH_OF_PROCESSES = 4.5
 MOST_GROWTH_OF_LITTLE_ROOM = 4.5
 MOST_OF_MUCH_ROOM = 10
@@ -57,6 +58,20 @@ def whole_texts(bench: Bench) -> None:
     for what, values in (("read", read_memory), ("read, checked and planned", memory)):
         what = f"the most memory for a byte of a text that is {what}"
         bench.aim(what, [max(values)], MOST_BYTES_A_BYTE, "{:.0f}")
+
+
+def texts_and_before(bench: Bench) -> None:
+    """Texts of 1 MiB until they are planned, by this program and by the one before it, by turns."""
+    if bench.before is None:
+        return
+    head("TEXTS OF 1 MiB, cpu, and before", "ms", "before", "ratio", "peak KiB", "before", "ratio")
+    ratios: list[float] = []
+    for name in texts.COMPARED:
+        turns = bench.and_before(texts.SHAPES[name](texts.MEBIBYTE), [], bench.nowhere, 4)
+        now, before = turns.first, turns.second
+        ratios.append(turns.cpu)
+        row("  " + name, now.cpu, before.cpu, turns.cpu, int(now.peak), int(before.peak), now.peak / before.peak)
+    bench.aim(f"to the time before ({', '.join(texts.COMPARED)})", ratios, MOST_OF_BEFORE)
 
 
 def plans(bench: Bench) -> None:

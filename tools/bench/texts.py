@@ -172,6 +172,7 @@ SHAPES = {
 
 # The shapes that the aim on 1 MiB is measured on.
 AIMED = ["flat", "deepest", "phrases", "names"]
+COMPARED = [*AIMED, "deep choices", "computed chords"]
 
 # At the end of the phrases: one of them is brought in, and stands for 2^40 others.
 BROUGHT_IN = b"do x40;"
