@@ -1,10 +1,11 @@
 -- The floor of a quotient, and what it leaves.
-use Rattle.std.proofs.Common.{◌≡◌, ℕ, zero, suc, ◌+◌, ◌*◌, ◌/◌, ◌<◌, refl, ◌∙◌, arith}
+use Rattle.std.proofs.Common.{◌≡◌, ℕ, zero, suc, ◌+◌, ◌*◌, ◌/◌, ◌<◌, refl, ◌∙◌, w64, SFits, arith}
 use Rattle.std.specs.Prelude.{ℤ, pos, negsuc, ◌+ℤ◌, ◌-ℤ◌, ◌*ℤ◌, ◌≤ℤ◌, ◌<ℤ◌, neg_ℤ}
+use Rattle.std.proofs.lemmas.Grind.{common_steps}
 use Rattle.std.proofs.lemmas.Int.{ints}
 use Rattle.std.proofs.lemmas.Nat.{div-add-mod', mod_below}
 use Rattle.std.proofs.Math.Nat.{mul_comm, suc-mul}
-use Rattle.fm_value.specs.Operation.{floor_by, floor_div, floor_rem}
+use Rattle.fm_value.specs.Operation.{IsWithin, floor_by, floor_div, floor_rem}
 
 -- a remainder is at least 0 and below the divisor
 pub record Between (r : ℤ) (m : ℕ) : Type 0 where
@@ -61,3 +62,27 @@ pub whole_is : (x y : ℤ) → (y ≡ pos 0 → ⊥) → x ≡ (y *ℤ floor_div
 whole_is x (pos zero) some = absurd (some refl)
 whole_is x (pos (suc m)) some = omega (arith, ints)
 whole_is x (negsuc k) some = omega (arith, ints)
+
+-- what the floor leaves is the number without the divisor times it
+pub left_is : (x y : ℤ) → (y ≡ pos 0 → ⊥) → x -ℤ (y *ℤ floor_div x y) ≡ floor_rem x y
+left_is x (pos zero) some = absurd (some refl)
+left_is x (pos (suc m)) some = refl
+left_is x (negsuc k) some = refl
+
+-- of two values, what the floor leaves is a value too, and the divisor times it within twice as much
+pub record Small (x y : ℤ) : Type 0 where
+  pub product : SFits w64 (y *ℤ floor_div x y)
+  pub left : SFits w64 (x -ℤ (y *ℤ floor_div x y))
+
+pub small : (x y : ℤ) → IsWithin x → IsWithin y → (y ≡ pos 0 → ⊥) → Small x y
+small x (pos zero) left right some = absurd (some refl)
+small x (pos (suc m)) left right some =
+    let between = left_by x m in
+    let low = between.low in
+    let high = between.high in
+    record { product = grind (arith, ints, common_steps); left = grind (arith, ints, common_steps) }
+small x (negsuc k) left right some =
+    let between = left_by_negative x k in
+    let low = between.low in
+    let high = between.high in
+    record { product = grind (arith, ints, common_steps); left = grind (arith, ints, common_steps) }

@@ -31,7 +31,7 @@ split (a ∷ xs) (b ∷ ys) x y e =
     let more = split xs ys x y both.1 in
     record { front = λ i. both.0 i ∷ more.front i; last = more.last }
 
-none_some : (ys : List Tree) → None ≡ Some ys → ⊥
+pub none_some : (ys : List Tree) → None ≡ Some ys → ⊥
 none_some ys e = cc
 
 -- ---- how many there are
