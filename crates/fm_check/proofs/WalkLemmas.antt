@@ -23,13 +23,14 @@ use Rattle.fm_expansion.proofs.Longest.{longest_told}
 use Rattle.fm_outline.specs.declared.outline.Outline.{Outline}
 use Rattle.fm_outline.specs.declared.step.Step.{Step}
 use Rattle.fm_outline.specs.View.{Look, Placed, step_view, block_view, tables_view, outline_view}
+use Rattle.fm_outline.specs.Phrases.{ForksMarked}
 use Rattle.fm_outline.specs.OfScore.{passage_of_outline}
 use Rattle.fm_outline.proofs.SeenLemmas.{step_seen}
 use Rattle.fm_outline.proofs.RefusalLemmas.{before as stays_first}
 use Rattle.fm_check.specs.declared.totals.sums.Sums.{Sums}
 use Rattle.fm_check.specs.Saturation.{capped, saturated}
 use Rattle.fm_check.specs.Made.{IsMadeOf}
-use Rattle.fm_check.specs.Reached.{IsSoundOutline, Reached}
+use Rattle.fm_check.specs.Reached.{Reached}
 use Rattle.fm_check.proofs.SaturationLemmas.{capped_below}
 use Rattle.fm_check.proofs.SumsLemmas.{none_saturated, sums}
 use Rattle.fm_check.proofs.WeightLemmas.{same_totals, plus_plus}
@@ -67,18 +68,14 @@ play_refused score before spot play rest f r found =
 
 -- ---- the beginning and the end
 
--- what makes an outline that of a score without a fault of names and numbers
-pub is_sound : (score : tree.Score) (o : Outline) → outline_view o ≡ outline score → o.seed ≡ seed_of score.seed
-    → rules_view o.rules ≡ score_rules score → passage_of_outline o ≡ (resolved score).passage → IsSoundOutline o score
-is_sound score o view seed rules passage =
-    record { is = record { view = view; seed = seed; rules = rules }; passage = passage }
-
 -- what the outline of a score without a fault of names and numbers is
 pub made_of : (score : tree.Score) (o : Outline) → outline_view o ≡ outline score → o.seed ≡ seed_of score.seed
-    → rules_view o.rules ≡ score_rules score → passage_of_outline o ≡ (resolved score).passage → second_walk score ≡ []
-    → IsMadeOf o score
-made_of score o view seed rules passage faultless =
-    record { sound = is_sound score o view seed rules passage; faultless = faultless }
+    → rules_view o.rules ≡ score_rules score → ForksMarked o → passage_of_outline o ≡ (resolved score).passage
+    → second_walk score ≡ [] → IsMadeOf o score
+made_of score o view seed rules marked passage faultless = record {
+  sound = record { is = record { view = view; seed = seed; rules = rules; marked = marked }; passage = passage };
+  faultless = faultless;
+}
 
 -- the greatest entry of all rhythms of a score is that of its outline
 pub longest_kept : (score : tree.Score) (o : Outline) {longest : ℕ} → outline_view o ≡ outline score

@@ -3,6 +3,8 @@ pub mod RefusalLemmas
 pub mod NameLemmas
 pub mod InsideLemmas
 pub mod SeenLemmas
+pub mod ForkLemmas
+pub mod ForkRows
 pub mod ItemLemmas
 pub mod GrowingLemmas
 pub mod KeyLemmas

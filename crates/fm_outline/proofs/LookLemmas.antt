@@ -22,13 +22,13 @@ pub phrases_length : (ps : List (List Step)) → length (phrases_view ps) ≡ le
 phrases_length ps = omega (arith, behind_length [] ps)
 
 -- an index before the end
-get_before : {A : Type 0} (xs : List A) (y d : A) (n : ℕ) → n < length xs → get_or (xs ++ y ∷ []) n d ≡ get_or xs n d
+pub get_before : {A : Type 0} (xs : List A) (y d : A) (n : ℕ) → n < length xs → get_or (xs ++ y ∷ []) n d ≡ get_or xs n d
 get_before [] y d n within = absurd (omega arith)
 get_before (x ∷ xs) y d zero within = refl
 get_before (x ∷ xs) y d (suc n) within = get_before xs y d n (omega arith)
 
 -- the index at the end
-get_end : {A : Type 0} (xs : List A) (y d : A) → get_or (xs ++ y ∷ []) (length xs) d ≡ y
+pub get_end : {A : Type 0} (xs : List A) (y d : A) → get_or (xs ++ y ∷ []) (length xs) d ≡ y
 get_end [] y d = refl
 get_end (x ∷ xs) y d = get_end xs y d
 

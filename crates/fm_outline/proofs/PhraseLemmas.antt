@@ -1,7 +1,8 @@
 -- What is found once of each phrase, in the order of the phrases.
-use Rattle.std.proofs.Common.{◌≡◌, ℕ, zero, suc, ◌+◌, ◌<◌, ◌≤◌, List, [], ◌∷◌, ◌++◌, map, take, length, get_or, refl, sym, ap, ap₂, ◌∙◌}
+use Rattle.std.proofs.Common.{◌≡◌, ℕ, ◌+◌, ◌<◌, ◌≤◌, List, [], ◌∷◌, ◌++◌, map, take, length, refl, sym, ap, ap₂, ◌∙◌}
 use Rattle.std.specs.Prelude.{slice_index_or}
 use Rattle.std.proofs.lemmas.List.{map-append, take_all}
+use lib.ListN.{get_or-map}
 use Rattle.fm_expansion.specs.Outline.{Block, done}
 use Rattle.fm_outline.specs.declared.step.Step.{Step}
 use Rattle.fm_outline.specs.View.{look_in, block_view, phrases_behind, phrases_view}
@@ -13,16 +14,10 @@ pub phrases_more : (blocks : List Block) (ps : List (List Step)) (p : List Step)
 phrases_more blocks [] p = refl
 phrases_more blocks (q ∷ ps) p = phrases_more (blocks ++ block_view (look_in blocks) q ∷ []) ps p
 
--- a list that is mapped, at an index
-pub get_mapped : {A B : Type 0} (f : A → B) (xs : List A) (n : ℕ) (d : A) → get_or (map f xs) n (f d) ≡ f (get_or xs n d)
-get_mapped f [] n d = refl
-get_mapped f (x ∷ xs) zero d = refl
-get_mapped f (x ∷ xs) (suc n) d = get_mapped f xs n d
-
 -- what is found of each phrase, by its number
 pub found_by_number : {A : Type 0} (f : Block → A) (xs : List A) (blocks : List Block) → xs ≡ map f blocks
     → (n : ℕ) → slice_index_or xs n (f done) ≡ f (look_in blocks n)
-found_by_number f xs blocks is n = ap (λ l. slice_index_or l n (f done)) is ∙ get_mapped f blocks n done
+found_by_number f xs blocks is n = ap (λ l. slice_index_or l n (f done)) is ∙ get_or-map f blocks n done
 
 -- one phrase more
 pub found_more : {A B : Type 0} (f : Block → A) (view : B → List Step) (ps : List B) (k : ℕ) (p : B) (xs : List A) (own : A)

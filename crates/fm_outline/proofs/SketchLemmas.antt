@@ -22,18 +22,6 @@ with_behind : (s : text.Score) (e : text.Entry) (rest : List text.Entry)
     → with_entries (with_entry s e) rest ≡ with_entries s (e ∷ rest)
 with_behind s e rest = ap (λ es. let t : text.Score = record s { entries = es } in t) (append_assoc s.entries (e ∷ []) rest)
 
--- ---- faults
-
--- behind a fault an entry more changes nothing
-pub faulty_more : (s : text.Score) (e : text.Entry) (spot : Spot) (why : Why) → BeginsFaulty s spot why
-    → BeginsFaulty (with_entry s e) spot why
-faulty_more s e spot why told rest = ap (λ x. first_found (second_walk x)) (with_behind s e rest) ∙ told (e ∷ rest)
-
--- where no entry follows, it is the first fault of the score
-pub faulty_first : (s : text.Score) (spot : Spot) (why : Why) → BeginsFaulty s spot why
-    → first_found (second_walk s) ≡ Some (fault_at spot why)
-faulty_first s spot why told = ap (λ x. first_found (second_walk x)) (sym (with_none s)) ∙ told []
-
 -- ---- one entry
 
 module _ {sketch : Sketch} {s : text.Score} where

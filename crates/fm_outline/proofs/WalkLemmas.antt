@@ -1,9 +1,10 @@
 -- The walk over the entries, one more at a time.
-use Rattle.std.proofs.Common.{◌≡◌, ℕ, List, [], ◌∷◌, ◌++◌, map, length, get_or, refl, ap, ap₂, sym, ◌∙◌, Bool, cond, Some, None, is_some, subst, Vec, Global}
+use Rattle.std.proofs.Common.{◌≡◌, ℕ, List, [], ◌∷◌, ◌++◌, map, length, get_or, refl, ap, ap₂, sym, ◌∙◌, Bool, cond, Some, None, is_some, subst, arith, Vec, Global}
 use Rattle.std.specs.Prelude.{unwrap_or}
 use Rattle.std.specs.List.{list_any}
 use Rattle.std.specs.Str.{bytes_eq}
-use Rattle.std.proofs.lemmas.List.{map-append}
+use Rattle.std.proofs.lemmas.List.{map-append, length-append}
+use lib.ListN.{get_or-map}
 use Rattle.fm_lex.specs.declared.spot.Spot.{Spot}
 use Rattle.fm_names.specs.Named.{named}
 use Rattle.fm_names.specs.declared.names.Names as table
@@ -17,6 +18,7 @@ use Rattle.fm_meaning.specs.Faults.{first_found}
 use Rattle.fm_meaning.specs.Ranges.{Names, stmt_faults, body_faults, double_faults, each_faults, part_faults, part_length, length_spot, head_faults, entries_faults, second_walk}
 use Rattle.fm_meaning.specs.Rules.{score_rules}
 use Rattle.fm_expansion.specs.Outline as plain
+use Rattle.fm_expansion.specs.Emission.{forks_in}
 use Rattle.fm_expansion.specs.Numbering.{Catalogue, numbered, instruction_of, block_of, outline, outline_from, warp_added, no_tables}
 use Rattle.fm_outline.specs.declared.known.Known.{Known}
 use Rattle.fm_outline.specs.declared.known.Meaning.{Meaning}
@@ -25,11 +27,13 @@ use Rattle.fm_outline.specs.declared.step.Step.{Step}
 use Rattle.fm_outline.specs.View.{Look, phrase_at, look_in, phrases_view, instruction_view, step_view, block_view}
 use Rattle.fm_outline.specs.Growing.{followed}
 use Rattle.fm_outline.specs.Knows.{Knows, labels, names_of, phrase_number, shape_index}
+use Rattle.fm_outline.specs.Forking.{AreMarked, IsKnownOf, IsMarked}
 use Rattle.fm_outline.specs.Walked.{Extends, WalkedBy}
 use Rattle.fm_outline.proofs.NameLemmas.{either_of, either_known, other_kind, double_is, new_behind}
-use Rattle.fm_outline.proofs.PhraseLemmas.{phrases_more, get_mapped}
+use Rattle.fm_outline.proofs.PhraseLemmas.{phrases_more}
 use Rattle.fm_outline.proofs.LookLemmas.{phrases_length, extends_less, extends_last}
 use Rattle.fm_outline.proofs.RefusalLemmas.{before, behind, no_first}
+use Rattle.fm_outline.proofs.ForkLemmas.{known_either, more_marked, none_marked, phrases_more_marked}
 use Rattle.fm_outline.proofs.SeenLemmas.{step_seen}
 use Rattle.fm_outline.proofs.GrowingLemmas.{placed, placed_more}
 
@@ -42,8 +46,8 @@ parts_faults whole parts = each_faults (part_faults whole) (λ p. length_spot (p
 -- before the first entry
 pub begun : (score : text.Score) (known : Known) (t : plain.Tables) → ((q : List ℕ) → named known.names q ≡ None)
     → t ≡ no_tables → known.whole ≡ (score_rules score).whole_note → None ≡ first_found (head_faults score)
-    → WalkedBy score known [] [] t score.entries
-begun score known t names empty is clean =
+    → known.forking.items ≡ [] → WalkedBy score known [] [] t score.entries
+begun score known t names empty is clean no_phrases =
     let k : Catalogue = record { whole = (score_rules score).whole_note; shapes = []; phrases = [] } in
     record {
       k = k;
@@ -54,9 +58,13 @@ begun score known t names empty is clean =
         phrases = λ q. ap (λ o. phrase_at look (phrase_number o)) (names q);
         is_shape = λ q. ap (λ o. is_some (shape_index o)) (names q);
         is_phrase = λ q. ap (λ o. is_some (phrase_number o)) (names q);
+        forking = λ q. subst (λ o. IsKnownOf known.forking.items look (phrase_number o)) (sym (names q)) tt;
       };
       stand = λ look more. refl;
       so_far = λ look more. ap (outline_from k score.entries) (sym empty);
+      as_many = ap length no_phrases;
+      marked = λ look more. none_marked;
+      phrases_marked = λ n within. absurd (omega (arith, within));
     }
 
 module _ {score : text.Score} {known : Known} {phrases : List (List Step)} {block : List Step} {t : plain.Tables} where
@@ -71,8 +79,9 @@ module _ {score : text.Score} {known : Known} {phrases : List (List Step)} {bloc
       → ((k : Catalogue) (look : Look) → Knows known look k
       → (first_found (stmt_faults (names_of k) stmt) ≡ None)
       × ((s.spot ≡ spot) × (numbered (instruction_view look s.what) u ≡ instruction_of k stmt t)))
+      → ((k : Catalogue) (look : Look) → Knows known look k → IsMarked look s)
       → WalkedBy score known phrases grown u rest
-  play_walked {spot = spot} {stmt = stmt} {rest = rest} u s r pushed is = record {
+  play_walked {spot = spot} {stmt = stmt} {rest = rest} u s r pushed is says = record {
     k = r.k;
     first =
         r.first
@@ -90,6 +99,9 @@ module _ {score : text.Score} {known : Known} {phrases : List (List Step)} {bloc
         ∙ ap (λ p. followed (steps ++ p ∷ []) (outline_from r.k rest u)) (sym seen)
         ∙ ap (λ l. followed l (outline_from r.k rest u)) (sym (map-append (step_view look) block (s ∷ [])))
         ∙ ap (λ l. followed (map (step_view look) l) (outline_from r.k rest u)) (sym pushed);
+    as_many = r.as_many;
+    marked = λ look more. more_marked block s pushed (r.marked look more) (says r.k look (r.knows look more));
+    phrases_marked = r.phrases_marked;
   }
 
   -- a shape more
@@ -129,6 +141,10 @@ module _ {score : text.Score} {known : Known} {phrases : List (List Step)} {bloc
                   ap (λ o. is_some (phrase_number o)) (defined q)
                   ∙ other_kind (λ o. is_some (phrase_number o)) q name.text (Shape p) (named known.names) new refl
                   ∙ knows.is_phrase q;
+              forking = λ q.
+                  subst (IsKnownOf known.forking.items look)
+                  (sym (ap phrase_number (defined q) ∙ other_kind phrase_number q name.text (Shape p) (named known.names) new refl))
+                  (knows.forking q);
             };
         stand = r.stand;
         so_far = λ look more.
@@ -137,18 +153,24 @@ module _ {score : text.Score} {known : Known} {phrases : List (List Step)} {bloc
             ∙ ap (λ w. followed steps (outline_from k rest (warp_added (map (part_of w) parts) t))) (r.knows look more).whole
             ∙ ap (λ w. followed steps (outline_from k rest (warp_added w t))) (sym is)
             ∙ ap (λ w. followed steps (outline_from k rest w)) (sym added);
+        as_many = r.as_many;
+        marked = r.marked;
+        phrases_marked = r.phrases_marked;
       }
 
   -- a phrase more
   pub phrase_walked : {name : text.Leaf} {body : text.Body} {rest : List text.Entry} {names : table.Names Meaning}
-      {forking : Vec Bool Global} {grown : List (List Step)} (u : plain.Tables) (p : ℕ) (steps : List Step)
+      {forking : Vec Bool Global} {grown : List (List Step)} (u : plain.Tables) (p : ℕ) (steps : List Step) (b : Bool)
       → WalkedBy score known phrases block t (text.phrase name body ∷ rest) → named known.names name.text ≡ None
       → p ≡ length phrases → grown ≡ phrases ++ steps ∷ []
       → ((q : List ℕ) → named names q ≡ cond (bytes_eq q name.text) (Some (Phrase p)) (named known.names q))
       → ((k : Catalogue) (look : Look) → Knows known look k → (first_found (body_faults (names_of k) body) ≡ None)
       × (numbered (block_view look steps) u ≡ block_of k body t))
+      → forking.items ≡ known.forking.items ++ b ∷ []
+      → ((k : Catalogue) (look : Look) → Knows known look k → AreMarked look steps × (b ≡ forks_in (block_view look steps)))
       → WalkedBy score (record known { names = names; forking = forking }) grown block u rest
-  phrase_walked {name = name} {body = body} {rest = rest} {grown = grown} u p steps r new at pushed defined is =
+  phrase_walked {name = name} {body = body} {rest = rest} {names = names} {grown = grown} u p steps b r new at pushed defined is
+      flagged says =
       let blocks = phrases_view phrases in
       let value = (block_of r.k body t).value in
       let k : Catalogue = record r.k { phrases = named_as name value ∷ r.k.phrases } in
@@ -190,6 +212,13 @@ module _ {score : text.Score} {known : Known} {phrases : List (List Step)} {bloc
                   ap (λ o. is_some (phrase_number o)) (defined q)
                   ∙ either_known (λ o. is_some (phrase_number o)) (bytes_eq q name.text) (Phrase p) (named known.names q)
                   (list_any (bytes_eq q) (labels r.k.phrases)) refl (knows.is_phrase q);
+              forking = λ q.
+                  let fs = known.forking.items in
+                  let own : b ≡ forks_in (look p)
+                  = (says r.k look knows).1 ∙ ap forks_in (ap (λ x. x.value) (here look (fewer look more)) ∙ sym found) in
+                  subst (λ l. IsKnownOf l look (phrase_number (named names q))) (sym flagged)
+                  (subst (λ o. IsKnownOf (fs ++ b ∷ []) look (phrase_number o)) (sym (defined q))
+                  (known_either look fs b p (bytes_eq q name.text) (named known.names q) (at ∙ sym r.as_many) own (knows.forking q)));
             };
         stand = λ look more.
             let same : last ≡ block_view look steps
@@ -202,6 +231,12 @@ module _ {score : text.Score} {known : Known} {phrases : List (List Step)} {bloc
             r.so_far look (fewer look more)
             ∙ ap (λ x. followed (map (step_view look) block) (outline_from k rest x))
             (sym (ap (λ x. x.tables) (here look (fewer look more))));
+        as_many =
+            ap length flagged
+            ∙ omega (arith, length-append known.forking.items (b ∷ []), length-append phrases (steps ∷ []), r.as_many, ap length pushed);
+        marked = λ look more. r.marked look (fewer look more);
+        phrases_marked =
+            phrases_more_marked phrases steps pushed r.phrases_marked (says r.k _ (knows_here r)).0;
       }
 
   -- ---- entries with a fault
@@ -246,6 +281,11 @@ module _ {score : text.Score} {known : Known} {phrases : List (List Step)} {bloc
   pub ends_faultless : WalkedBy score known phrases block t [] → second_walk score ≡ []
   ends_faultless r = no_first (second_walk score) (sym r.first)
 
+  -- each statement says whether it forks
+  pub ends_marked : {rest : List text.Entry} → WalkedBy score known phrases block t rest
+      → AreMarked (look_in (phrases_view phrases)) block
+  ends_marked r = r.marked (look_in (phrases_view phrases)) (λ n within. refl)
+
   -- what was made is the outline
   pub ends_as_outline : WalkedBy score known phrases block t []
       → numbered (block_view (look_in (phrases_view phrases)) block) t ≡ outline score
@@ -257,4 +297,4 @@ module _ {score : text.Score} {known : Known} {phrases : List (List Step)} {bloc
   phrases_stand r n =
       let look = look_in (phrases_view phrases) in
       ap (λ bs. get_or bs n plain.done) (r.stand look (λ m within. refl))
-      ∙ get_mapped (block_view look) phrases n []
+      ∙ get_or-map (block_view look) phrases n []

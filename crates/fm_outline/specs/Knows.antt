@@ -15,6 +15,7 @@ use Rattle.fm_outline.specs.declared.known.Known.{Known}
 use Rattle.fm_outline.specs.declared.known.Meaning.{Meaning}
 use Rattle.fm_outline.specs.declared.known.Meaning.TheVariants.{Shape, Phrase}
 use Rattle.fm_outline.specs.View.{Look, phrase_at}
+use Rattle.fm_outline.specs.Forking.{IsKnownOf}
 
 -- the index of a shape, where a name stands for one
 abbrev pub shape_index : Option Meaning → Option ℕ
@@ -44,7 +45,8 @@ labels ds = map (λ d. d.name) ds
 abbrev pub names_of : Catalogue → Names
 names_of k = record { whole = k.whole; shapes = labels k.shapes; phrases = labels k.phrases }
 
--- a whole note has as many ticks, each name stands for the same, and the same names are known
+-- a whole note has as many ticks, each name stands for the same, the same names are known, and of each phrase it is
+-- known whether it forks
 pub record Knows (known : Known) (look : Look) (k : Catalogue) : Type 0 where
   pub whole : k.whole ≡ known.whole
   pub shapes : (name : List ℕ) → unwrap_or (shape_index (named known.names name)) 0 ≡ meaning_of name 0 k.shapes
@@ -54,3 +56,4 @@ pub record Knows (known : Known) (look : Look) (k : Catalogue) : Type 0 where
       → is_some (shape_index (named known.names name)) ≡ list_any (bytes_eq name) (labels k.shapes)
   pub is_phrase : (name : List ℕ)
       → is_some (phrase_number (named known.names name)) ≡ list_any (bytes_eq name) (labels k.phrases)
+  pub forking : (name : List ℕ) → IsKnownOf known.forking.items look (phrase_number (named known.names name))

@@ -3,6 +3,7 @@ use Rattle.std.specs.Prelude.{◌≡◌, ℕ, List, [], map, vec_items, slice_in
 use Rattle.fm_outline.specs.declared.step.Step.{Step}
 use Rattle.fm_outline.specs.declared.outline.Outline.{Outline}
 use Rattle.fm_outline.specs.View.{look_of, block_view}
+use Rattle.fm_outline.specs.Forking.{AreMarked, PhrasesMarked}
 
 -- the statements of a phrase, none where there is no phrase of the number
 abbrev pub phrase_steps : Outline → ℕ → List Step
@@ -12,3 +13,8 @@ phrase_steps o n = slice_index_or (map vec_items o.phrases.items) n []
 -- one that names it
 pub record PhrasesStand (o : Outline) : Type 0 where
   pub at : (n : ℕ) → look_of o n ≡ block_view (look_of o) (phrase_steps o n)
+
+-- each statement says rightly whether it forks
+pub record ForksMarked (o : Outline) : Type 0 where
+  pub block : AreMarked (look_of o) o.block.items
+  pub phrases : PhrasesMarked (map vec_items o.phrases.items)

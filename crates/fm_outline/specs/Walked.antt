@@ -16,6 +16,7 @@ use Rattle.fm_outline.specs.declared.walk.Walk.{Walk}
 use Rattle.fm_outline.specs.View.{Look, look_in, phrases_view, step_view, block_view, tables_view}
 use Rattle.fm_outline.specs.Growing.{followed}
 use Rattle.fm_outline.specs.Knows.{Knows, names_of}
+use Rattle.fm_outline.specs.Forking.{AreMarked, PhrasesMarked}
 
 -- a statement of the code as an entry of the score
 abbrev pub played : Item → text.Entry
@@ -35,6 +36,9 @@ pub record WalkedBy (score : text.Score) (known : Known) (phrases : List (List S
       → phrases_view phrases ≡ map (block_view look) phrases
   pub so_far : (look : Look) → Extends (phrases_view phrases) look
       → outline score ≡ followed (map (step_view look) block) (outline_from k rest tables)
+  pub as_many : length known.forking.items ≡ length phrases
+  pub marked : (look : Look) → Extends (phrases_view phrases) look → AreMarked look block
+  pub phrases_marked : PhrasesMarked phrases
 
 -- the same of the walk
 abbrev pub Walked : text.Score → Walk → List text.Entry → Type 0

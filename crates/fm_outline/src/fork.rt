@@ -1,67 +1,69 @@
-//! The first statement of a block that forks, found once while the block is outlined.
+//! Whether statements fork, found while they are outlined.
 //!
-//! It is where to look first, so that nobody goes over a block to find out whether it forks.
+//! Each statement keeps it, so that nobody goes into a block to find it out.
 
-ghost use Rattle.std.specs.Prelude.{◌≡◌, ◌≤◌, length};
-ghost use Rattle.fm_outline.specs.Forking.{block_in, first_fork, forks_by};
+ghost use Rattle.std.specs.Prelude.{◌≡◌};
+ghost use Rattle.fm_expansion.specs.Emission as emission;
+ghost use Rattle.fm_outline.specs.Forking.{AreMarked, CanMark, IsKnownOf, IsMarked};
+ghost use Rattle.fm_outline.specs.View.{Look, block_view, instruction_view, phrase_at};
 
 use crate::step::{Instruction, Step};
 use fm_lex::Spot;
 
-// The block of a statement that has one and plays all of it, else an empty one.
-fn block(what: &Instruction) -> &[Step]
-    ensures { result.now ≡ block_in what.now }
+/// Whether one of the statements forks, as they say.
+pub(crate) fn steps_fork(steps: &[Step]) -> bool
+    ensures { (look : Look) → AreMarked look steps.now →
+        result ≡ emission.forks_in (block_view look steps.now) }
 {
-    match what {
-        Instruction::Loop { body, .. } => body,
-        Instruction::Warp { body, .. } => body,
-        Instruction::Channel { body, .. } => body,
-        Instruction::Steady { body, .. } => body,
-        Instruction::Under { body, .. } => body,
-        _ => &[],
+    for step in steps {
+        if step.forks {
+            return true;
+        }
     }
+    false
 }
 
-// Whether a statement forks, where it is known of phrases.
-fn forks(step: &Step, phrases: &[bool]) -> bool
-    ensures { result ≡ forks_by phrases.now step.now }
+// Whether a phrase forks, where it is known of phrases.
+fn phrase_forks(number: Option<u32>, phrases: &[bool]) -> bool
+    ensures { (look : Look) → IsKnownOf phrases.now look number →
+        result ≡ emission.forks_in (phrase_at look number) }
 {
-    match &step.what {
-        Instruction::Par { .. } => true,
-        Instruction::Phrase { number: Some(n) } => match phrases.get(*n as usize) {
+    match number {
+        Some(n) => match phrases.get(n as usize) {
             Some(forks) => *forks,
             None => false,
         },
-        what => step.before_fork < block(what).len(),
+        None => false,
     }
 }
 
-/// How many statements stand before the first that forks, all where none does.
-pub(crate) fn before_fork(steps: &[Step], phrases: &[bool]) -> usize
-    ensures value { result ≡ first_fork phrases.now steps.now }
-    ensures within { result ≤ length steps.now }
+// Whether a statement forks, as those inside it say.
+fn forks(what: &Instruction, phrases: &[bool]) -> bool
+    ensures { (look : Look) → CanMark phrases.now look what.now →
+        result ≡ emission.forks (instruction_view look what.now) }
 {
-    for (index, step) in steps.iter().enumerate() {
-        if forks(step, phrases) {
-            return index;
-        }
+    match what {
+        Instruction::Note { .. } => false,
+        Instruction::Rest { .. } => false,
+        Instruction::Send { .. } => false,
+        Instruction::Set { .. } => false,
+        Instruction::Choice { yes, no, .. } => steps_fork(yes) || steps_fork(no),
+        Instruction::Loop { body, .. } => steps_fork(body),
+        Instruction::Phrase { number } => phrase_forks(*number, phrases),
+        Instruction::Par { .. } => true,
+        Instruction::Warp { body, .. } => steps_fork(body),
+        Instruction::Channel { body, .. } => steps_fork(body),
+        Instruction::Steady { body, .. } => steps_fork(body),
+        Instruction::Under { body, .. } => steps_fork(body),
     }
-    steps.len()
 }
 
-/// A statement at its spot, with how many statements of its block stand before the first that
-/// forks.
+/// A statement at its spot, which says whether it forks.
 pub(crate) fn step_at(spot: Spot, what: Instruction, phrases: &[bool]) -> Step
-    ensures { result ≡ record {
-      spot = spot;
-      before_fork = first_fork phrases.now (block_in what);
-      what = what;
-    } }
+    ensures spot { result.spot ≡ spot }
+    ensures what { result.what ≡ what }
+    ensures marked { (look : Look) → CanMark phrases.now look what → IsMarked look result }
 {
-    let before_fork = before_fork(block(&what), phrases);
-    Step {
-        spot,
-        before_fork,
-        what,
-    }
+    let forks = forks(&what, phrases);
+    Step { spot, forks, what }
 }

@@ -11,6 +11,7 @@ ghost use Rattle.fm_expansion.specs.Outline.{beat};
 ghost use Rattle.fm_expansion.specs.Numbering.{Catalogue, numbered, draw_numbered, instruction_of};
 ghost use Rattle.fm_expansion.specs.Numbering.{note_numbered, span_numbered};
 ghost use Rattle.fm_outline.specs.View.{Look, tables_view, instruction_view};
+ghost use Rattle.fm_outline.specs.Forking.{Surrounds};
 ghost use Rattle.fm_outline.specs.InRange.{AmountFits};
 ghost use Rattle.fm_outline.specs.declared.lasting.Lasting.TheVariants as lasts;
 ghost use Rattle.fm_outline.specs.declared.step.Instruction.TheVariants as does;
@@ -34,10 +35,11 @@ pub(crate) fn own_note(
 ) -> Result<Instruction, AllocError>
     requires pitches { pitches_faults (map pitch_view pitches.now) ≡ [] }
     requires duration { duration_faults whole (duration_view duration.now) ≡ [] }
-    ensures { IfOk result (λ i. (look : Look) →
+    ensures view { IfOk result (λ i. (look : Look) →
         numbered (instruction_view look i) (tables_view tables.new)
         ≡ note_numbered (map pitch_view pitches.now)
         (span_numbered whole (duration_view duration.now)) (tables_view tables.old)) }
+    ensures leaf { IfOk result (Surrounds []) }
 {
     let keys = outline_keys(alloc, pitches, tables)?;
     let lasting = outline_duration(alloc, whole, duration, tables)?;
@@ -52,9 +54,10 @@ pub(crate) fn play(
     tables: &mut Tables,
 ) -> Result<Instruction, AllocError>
     requires { pitches_faults (map pitch_view pitches.now) ≡ [] }
-    ensures { IfOk result (λ i. (look : Look) →
+    ensures view { IfOk result (λ i. (look : Look) →
         numbered (instruction_view look i) (tables_view tables.new)
         ≡ note_numbered (map pitch_view pitches.now) (numbered beat) (tables_view tables.old)) }
+    ensures leaf { IfOk result (Surrounds []) }
 {
     let keys = outline_keys(alloc, pitches, tables)?;
     let chord = tables.add_chord(keys)?;
@@ -72,9 +75,10 @@ pub(crate) fn rest(
     tables: &mut Tables,
 ) -> Result<Instruction, AllocError>
     requires { duration_faults whole (duration_view duration.now) ≡ [] }
-    ensures { IfOk result (λ i. (k : Catalogue) (look : Look) → k.whole ≡ whole →
+    ensures view { IfOk result (λ i. (k : Catalogue) (look : Look) → k.whole ≡ whole →
         numbered (instruction_view look i) (tables_view tables.new)
         ≡ instruction_of k (tree.rest (duration_view duration.now)) (tables_view tables.old)) }
+    ensures leaf { IfOk result (Surrounds []) }
 {
     let lasting = outline_duration(alloc, whole, duration, tables)?;
     Ok(Instruction::Rest { lasting })
@@ -98,10 +102,11 @@ pub(crate) fn control(
 ) -> Result<Instruction, AllocError>
     requires controller { number_faults 0 most_data controller ≡ [] }
     requires amount { AmountFits (amount_view amount.now) }
-    ensures { IfOk result (λ i. (k : Catalogue) (look : Look) →
+    ensures view { IfOk result (λ i. (k : Catalogue) (look : Look) →
         numbered (instruction_view look i) (tables_view tables.new)
         ≡ instruction_of k (tree.control controller (amount_view amount.now))
         (tables_view tables.old)) }
+    ensures leaf { IfOk result (Surrounds []) }
 {
     let draw = outline_draw(alloc, amount, tables)?;
     let point = Point::Control {
@@ -118,10 +123,11 @@ pub(crate) fn send(
     tables: &mut Tables,
 ) -> Result<Instruction, AllocError>
     requires { AmountFits (amount_view amount.now) }
-    ensures { IfOk result (λ i. (look : Look) →
+    ensures view { IfOk result (λ i. (look : Look) →
         numbered (instruction_view look i) (tables_view tables.new)
         ≡ (let v = draw_numbered (amount_view amount.now) (tables_view tables.old) in
         numbered (plain.send point v.value) v.tables)) }
+    ensures leaf { IfOk result (Surrounds []) }
 {
     let draw = outline_draw(alloc, amount, tables)?;
     Ok(Instruction::Send { point, draw })
@@ -134,9 +140,10 @@ pub(crate) fn set(
     value: &Expr,
     tables: &mut Tables,
 ) -> Result<Instruction, AllocError>
-    ensures { IfOk result (λ i. (k : Catalogue) (look : Look) →
+    ensures view { IfOk result (λ i. (k : Catalogue) (look : Look) →
         numbered (instruction_view look i) (tables_view tables.new)
         ≡ instruction_of k (tree.set register (expr_view value.now)) (tables_view tables.old)) }
+    ensures leaf { IfOk result (Surrounds []) }
 {
     let expr = tables.add_expr(alloc, value)?;
     Ok(Instruction::Set { register, expr })

@@ -3,6 +3,7 @@
 ghost use Rattle.std.specs.Prelude.{◌≡◌, Ok};
 ghost use Rattle.fm_program.specs.declared.op.Count.{Count as Rounds};
 ghost use Rattle.fm_outline.specs.View.{Look, block_view, instruction_view};
+ghost use Rattle.fm_outline.specs.Forking.{Surrounds};
 ghost use Rattle.fm_outline.specs.Shell.{closed, opened, opened_warp};
 
 use crate::quality::Quality;
@@ -26,8 +27,9 @@ impl Shell {
     /// The statement with its block.
     #[tactic(auto, using(crate::proofs::SeenLemmas::blocks_seen))]
     pub(crate) fn round(self, body: Vec<Step>) -> Instruction
-        ensures { (look : Look) →
+        ensures view { (look : Look) →
             instruction_view look result ≡ closed self (block_view look body.items) }
+        ensures block { Surrounds body.items result }
     {
         match self {
             Shell::Loop { count } => Instruction::Loop { count, body },

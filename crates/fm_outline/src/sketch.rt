@@ -14,7 +14,7 @@ ghost use Rattle.fm_rules.specs.declared.why.Why.{Why as Reason};
 ghost use Rattle.fm_expansion.specs.Numbering.{outline};
 ghost use Rattle.fm_outline.specs.View.{outline_view};
 ghost use Rattle.fm_outline.specs.OfScore.{IsOutlineOf, passage_of_outline};
-ghost use Rattle.fm_outline.specs.Phrases.{PhrasesStand};
+ghost use Rattle.fm_outline.specs.Phrases.{ForksMarked, PhrasesStand};
 ghost use Rattle.fm_outline.specs.Refusal.{Refuses};
 ghost use Rattle.fm_outline.specs.Sketched.{BeginsFaulty, Outlines, head_of, with_entry};
 
@@ -104,12 +104,13 @@ fn seed(score: &Score) -> u32
 /// The outline of a score, or its first fault of names and numbers: a name that was defined before
 /// or not at all, a number outside its range, a length of no whole number of ticks. The outline has
 /// its tables in the order of the text, and its statements with the indices of what they name; it
-/// stands for what the score plays.
+/// stands for what the score plays. Each statement says whether it forks.
 pub fn outline_of(alloc: Global, score: &Score) -> Result<Outline, CheckFault>
     ensures outline { IfOk result (λ o. outline_view o ≡ outline (score_view score.now)) }
     ensures passage { IfOk result (λ o.
         passage_of_outline o ≡ (resolved (score_view score.now)).passage) }
     ensures phrases { IfOk result PhrasesStand }
+    ensures marked { IfOk result ForksMarked }
     ensures seed { IfOk result (λ o. o.seed ≡ seed_of (score_view score.now).seed) }
     ensures rules { IfOk result (λ o. rules_view o.rules ≡ score_rules (score_view score.now)) }
     ensures faultless { OnOk result (second_walk (score_view score.now) ≡ []) }

@@ -1,6 +1,6 @@
 //! Statements.
 
-ghost use Rattle.std.specs.Prelude.{◌≡◌, ◌++◌, None, map};
+ghost use Rattle.std.specs.Prelude.{◌≡◌, ◌++◌, None, IfOk, map};
 ghost use Rattle.fm_grammar.specs.Score as tree;
 ghost use Rattle.fm_grammar.specs.View.{item_view, items_view, expr_view, branches_of};
 ghost use Rattle.fm_meaning.specs.Faults.{first_found};
@@ -9,6 +9,7 @@ ghost use Rattle.fm_expansion.specs.Outline as plain;
 ghost use Rattle.fm_expansion.specs.Numbering.{Catalogue, numbered, instruction_of, block_of};
 ghost use Rattle.fm_outline.specs.View.{Look, tables_view, instruction_view, block_view};
 ghost use Rattle.fm_ranges.specs.Own.{own_faults};
+ghost use Rattle.fm_outline.specs.Forking.{AreMarked, CanMark, IsMarked};
 ghost use Rattle.fm_outline.specs.Knows.{Knows, names_of};
 ghost use Rattle.fm_outline.specs.Shell.{Opens};
 ghost use Rattle.fm_outline.specs.Refusal.{Tells};
@@ -32,6 +33,7 @@ use std::alloc::Global;
 // A statement whose own numbers have no fault.
 #[cycle(statement)]
 #[inline(always)]
+#[tactic(auto, using(crate::proofs::ForkLemmas::leaf_marked))]
 fn outline_item(
     alloc: Global,
     item: &Item,
@@ -39,10 +41,12 @@ fn outline_item(
     tables: &mut Tables,
 ) -> Result<Instruction, CheckFault>
     requires { None ≡ first_found (own_faults known.now.whole (item_view item.now).what) }
-    ensures { (k : Catalogue) (look : Look) → Knows known.now look k →
+    ensures view { (k : Catalogue) (look : Look) → Knows known.now look k →
         Tells (stmt_faults (names_of k) (item_view item.now).what)
         (λ i. numbered (instruction_view look i) (tables_view tables.new)
         ≡ instruction_of k (item_view item.now).what (tables_view tables.old)) result }
+    ensures marked { (k : Catalogue) (look : Look) → Knows known.now look k →
+        IfOk result (CanMark known.now.forking.items look) }
 {
     match &item.what {
         What::Note { pitches, duration } => {
@@ -100,12 +104,14 @@ fn enclosed(
     known: &Known,
     tables: &mut Tables,
 ) -> Result<Instruction, CheckFault>
-    ensures { (k : Catalogue) (look : Look) (s : tree.Stmt) (t : plain.Tables) →
+    ensures view { (k : Catalogue) (look : Look) (s : tree.Stmt) (t : plain.Tables) →
         Knows known.now look k →
         Opens k s (items_view body.now) t (tables_view tables.old) shell →
         Tells (stmt_faults (names_of k) s)
         (λ i. numbered (instruction_view look i) (tables_view tables.new) ≡ instruction_of k s t)
         result }
+    ensures marked { (k : Catalogue) (look : Look) → Knows known.now look k →
+        IfOk result (CanMark known.now.forking.items look) }
 {
     match shell {
         Ok(shell) => {
@@ -126,12 +132,14 @@ fn outline_choice(
     known: &Known,
     tables: &mut Tables,
 ) -> Result<Instruction, CheckFault>
-    ensures { (k : Catalogue) (look : Look) → Knows known.now look k →
+    ensures view { (k : Catalogue) (look : Look) → Knows known.now look k →
         Tells (body_faults (names_of k) (items_view yes.now)
         ++ body_faults (names_of k) (items_view no.now))
         (λ i. numbered (instruction_view look i) (tables_view tables.new)
         ≡ instruction_of k (tree.choice (expr_view test.now) (items_view yes.now)
         (items_view no.now)) (tables_view tables.old)) result }
+    ensures marked { (k : Catalogue) (look : Look) → Knows known.now look k →
+        IfOk result (CanMark known.now.forking.items look) }
 {
     let expr = tables.add_expr(alloc, test)?;
     let yes = outline_items(alloc, yes, known, tables)?;
@@ -147,11 +155,13 @@ fn outline_fork(
     known: &Known,
     tables: &mut Tables,
 ) -> Result<Instruction, CheckFault>
-    ensures { (k : Catalogue) (look : Look) → Knows known.now look k →
+    ensures view { (k : Catalogue) (look : Look) → Knows known.now look k →
         let bodies = branches_of (map (λ b. items_view b.items) branches.now) in
         Tells (branches_faults (names_of k) bodies)
         (λ i. numbered (instruction_view look i) (tables_view tables.new)
         ≡ instruction_of k (tree.par bodies) (tables_view tables.old)) result }
+    ensures marked { (k : Catalogue) (look : Look) → Knows known.now look k →
+        IfOk result (CanMark known.now.forking.items look) }
 {
     let mut outlined = Vec::with_capacity(alloc, branches.len())?;
     for branch in branches {
@@ -170,11 +180,13 @@ pub(crate) fn outline_step(
     known: &Known,
     tables: &mut Tables,
 ) -> Result<Step, CheckFault>
-    ensures { (k : Catalogue) (look : Look) → Knows known.now look k →
+    ensures view { (k : Catalogue) (look : Look) → Knows known.now look k →
         Tells (stmt_faults (names_of k) (item_view item.now).what)
         (λ s. (s.spot ≡ item.now.spot)
         × (numbered (instruction_view look s.what) (tables_view tables.new)
         ≡ instruction_of k (item_view item.now).what (tables_view tables.old))) result }
+    ensures marked { (k : Catalogue) (look : Look) → Knows known.now look k →
+        IfOk result (IsMarked look) }
 {
     answered(check_own(item, known.whole))?;
     let what = outline_item(alloc, item, known, tables)?;
@@ -189,10 +201,12 @@ pub(crate) fn outline_items(
     known: &Known,
     tables: &mut Tables,
 ) -> Result<Vec<Step>, CheckFault>
-    ensures { (k : Catalogue) (look : Look) → Knows known.now look k →
+    ensures view { (k : Catalogue) (look : Look) → Knows known.now look k →
         Tells (body_faults (names_of k) (items_view items.now))
         (λ steps. numbered (block_view look steps.items) (tables_view tables.new)
         ≡ block_of k (items_view items.now) (tables_view tables.old)) result }
+    ensures marked { (k : Catalogue) (look : Look) → Knows known.now look k →
+        IfOk result (λ steps. AreMarked look steps.items) }
 {
     let mut steps = Vec::with_capacity(alloc, items.len())?;
     for item in items {

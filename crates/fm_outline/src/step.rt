@@ -10,10 +10,8 @@ use fm_program::{Count, Draw, Point};
 #[cycle(step)]
 pub struct Step {
     pub spot: Spot,
-    /// How many statements of its block stand before the first that forks, all of them where none
-    /// does. The clause of `outline_of` does not tell it, so a caller asks the statement at this
-    /// index.
-    pub before_fork: usize,
+    /// Whether a `par` stands in it, at any depth, also in a phrase that it names.
+    pub forks: bool,
     pub what: Instruction,
 }
 

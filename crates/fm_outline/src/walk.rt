@@ -6,7 +6,7 @@ ghost use Rattle.fm_grammar.specs.View.{entry_view, items_view, name_view};
 ghost use Rattle.fm_outline.specs.Refusal.{Refuses};
 ghost use Rattle.fm_outline.specs.Walked.{EntryDone, EntryRefused, played};
 
-use crate::fork::before_fork;
+use crate::fork::steps_fork;
 use crate::known::{Known, Meaning};
 use crate::refusal::answered;
 use crate::statement::{outline_items, outline_step};
@@ -51,7 +51,7 @@ impl<'s> Walk<'s> {
         self.known.check_new(name)?;
         let number = next_index(self.phrases.len())?;
         let steps = outline_items(alloc, body, &self.known, &mut self.tables)?;
-        let forks = before_fork(&steps, &self.known.forking) < steps.len();
+        let forks = steps_fork(&steps);
         append(&mut self.phrases, steps)?;
         append(&mut self.known.forking, forks)?;
         let phrase = Meaning::Phrase { number };

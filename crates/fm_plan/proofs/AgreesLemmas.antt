@@ -28,11 +28,6 @@ use Rattle.fm_plan.specs.Seen.{emitting_of, Makes, Agrees, span_by, turned}
 pub makes_none : (m : Emitter) → Makes m m (emitting_of m)
 makes_none m = record { programs = refl; cycles = refl; levels = refl }
 
--- one after the other
-pub makes_then : (m n k : Emitter) (e f : Emitting) → Makes m n e → Makes n k f → Makes m k f
-makes_then m n k e f a b =
-    record { programs = b.programs; cycles = b.cycles ∙ a.cycles; levels = b.levels ∙ a.levels }
-
 -- said otherwise
 pub makes_by : (m n : Emitter) (e f : Emitting) → e ≡ f → Makes m n e → Makes m n f
 makes_by m n e f same a = record { programs = a.programs ∙ same; cycles = a.cycles; levels = a.levels }

@@ -1,7 +1,7 @@
 -- Statements that do not fork, operation by operation, and targets that are filled in behind.
-use Rattle.std.proofs.Common.{◌≡◌, ℕ, zero, suc, ◌+◌, ◌<◌, ◌≤◌, Bool, true, false, List, [], ◌∷◌, ◌++◌, map, drop, length, refl}
+use Rattle.std.proofs.Common.{◌≡◌, ℕ, zero, suc, ◌+◌, ◌≤◌, Bool, true, false, List, [], ◌∷◌, ◌++◌, length, refl}
 use Rattle.std.proofs.Common.{sym, ap, ap₂, ◌∙◌, arith, append_assoc, append-nil, length-append}
-use Rattle.std.specs.Prelude.{slice_index_or, slice_set}
+use Rattle.std.specs.Prelude.{slice_set}
 use Rattle.fm_program.specs.declared.op.Count.{Count}
 use Rattle.fm_program.specs.declared.op.Slot.{Slot}
 use Rattle.fm_program.specs.declared.op.Op.{Op}
@@ -30,14 +30,6 @@ set_past [] zero z past = refl
 set_past [] (suc n) z past = refl
 set_past (x ∷ xs) zero z past = absurd (omega (arith, past))
 set_past (x ∷ xs) (suc n) z past = ap (λ l. x ∷ l) (set_past xs n z (omega (arith, past)))
-
--- from an element on
-pub drop_at : {A : Type 0} (xs : List A) (k : ℕ) (x : A) → k < length xs → x ≡ slice_index_or xs k x → drop k xs ≡ x ∷ drop (k + 1) xs
-drop_at [] k x within is = absurd (omega (arith, within))
-drop_at (y ∷ ys) zero x within is = ap (λ z. z ∷ ys) (sym is)
-drop_at {A = A} (y ∷ ys) (suc k) x within is =
-    let next : suc k + 1 ≡ suc (k + 1) = omega arith in
-    drop_at ys k x (omega (arith, within)) is ∙ ap (λ n. x ∷ drop {A = A} n (y ∷ ys)) (sym next)
 
 -- ---- statements in turn
 

@@ -8,7 +8,6 @@ use Rattle.fm_meaning.specs.Rules.{usual_gate, usual_velocity}
 use Rattle.fm_meaning.specs.Resolved.{duration, articulation, loudness}
 use Rattle.fm_expansion.specs.Homes as homes
 use Rattle.fm_expansion.specs.Homes.{turn_for, span_at, frames_of, slots_of, cycles_of}
-use Rattle.fm_expansion.specs.Emission.{forks_in}
 use Rattle.fm_expansion.specs.Expansion.{Emitting, expansion}
 use Rattle.fm_outline.specs.declared.lasting.Lasting.{Lasting}
 use Rattle.fm_outline.specs.declared.lasting.Lasting.TheVariants as lasting
@@ -16,6 +15,7 @@ use Rattle.fm_outline.specs.declared.quality.Quality.{Quality}
 use Rattle.fm_outline.specs.declared.quality.Quality.TheVariants as quality
 use Rattle.fm_outline.specs.declared.step.Step.{Step}
 use Rattle.fm_outline.specs.declared.outline.Outline.{Outline}
+use Rattle.fm_outline.specs.Forking.{PhrasesMarked}
 use Rattle.fm_outline.specs.View.{Look, look_in, outline_view, phrases_view}
 use Rattle.fm_plan.specs.declared.emitter.Emitter.{Emitter}
 use Rattle.fm_plan.specs.declared.expanding.Earlier.{Earlier}
@@ -72,9 +72,9 @@ look_at earlier = look_in (phrases_view earlier)
 abbrev pub look_of : Earlier → Look
 look_of e = look_at (map vec_items e.bodies.now)
 
--- it is said of each of them whether it forks
+-- their statements say rightly whether they fork
 abbrev pub IsKnown : Earlier → Type 0
-IsKnown e = e.forks.now ≡ map forks_in (phrases_view (map vec_items e.bodies.now))
+IsKnown e = PhrasesMarked (map vec_items e.bodies.now)
 
 -- ---- plans
 

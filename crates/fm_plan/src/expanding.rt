@@ -1,18 +1,19 @@
 //! The programs of an outline.
-ghost use Rattle.std.specs.Prelude.{◌≡◌, ◌+◌, ◌∷◌, [], length, map, vec_items, IfOk};
+ghost use Rattle.std.specs.Prelude.{◌≡◌, ◌+◌, ◌&&◌, ◌∷◌, [], length, map, flat_map, vec_items, IfOk};
 ghost use Rattle.fm_expansion.specs.Outline as plain;
 ghost use Rattle.fm_expansion.specs.Homes.{Inside as Open, loop_round, slots_of, in_scope};
 ghost use Rattle.fm_expansion.specs.Emission as emission;
 ghost use Rattle.fm_expansion.specs.Expansion as expansion;
 ghost use Rattle.fm_expansion.specs.Expansion.{straight, unrolled, with_scopes};
 ghost use Rattle.fm_program.specs.Parts.{program_parts};
+ghost use Rattle.fm_outline.specs.Forking.{AreMarked, IsMarked};
+ghost use Rattle.fm_outline.specs.Phrases.{ForksMarked};
 ghost use Rattle.fm_outline.specs.View.{arms_of_blocks, block_view, outline_view};
 ghost use Rattle.fm_outline.specs.View.{quality_view, step_view};
 ghost use Rattle.fm_plan.specs.Made.{made, made_in};
 ghost use Rattle.fm_plan.specs.Seen.{emitting_of, look_of, Agrees, IsKnown, Makes};
 
 use crate::emitter::Emitter;
-use crate::forks::{is_written_out, phrases_fork};
 use crate::inside::{Inside, as_index};
 use fm_outline::{Instruction, Outline, Quality, Step};
 use fm_program::{Count, Op, Program, Scopes, Slot};
@@ -25,11 +26,10 @@ pub struct Expanded {
     pub scopes: Scopes,
 }
 
-/// The phrases before a statement, by their numbers: their statements, and whether they fork.
+/// The phrases before a statement, by their numbers.
 #[derive(Clone, Copy)]
 pub(crate) struct Earlier<'a> {
     pub(crate) bodies: &'a [Vec<Step>],
-    pub(crate) forks: &'a [bool],
 }
 
 // How often a loop goes round that is written out.
@@ -40,6 +40,13 @@ fn written_rounds(count: Count) -> u32
         Count::Fixed { count } => count,
         Count::Drawn { most, .. } => most,
     }
+}
+
+// Whether a loop is written out: it forks, and stands where statements may.
+fn is_written_out(step: &Step, forking: bool) -> bool
+    ensures { result ≡ (forking && step.now.forks) }
+{
+    forking && step.forks
 }
 
 // A statement, which may name the phrases before it. It is written out where `forking` says that it
@@ -54,6 +61,7 @@ fn expand_step(
     forking: bool,
 ) -> Result<(), AllocError>
     requires known { IsKnown earlier }
+    requires marked { IsMarked (look_of earlier) step.now }
     ensures { (i : Open) → Agrees m.old inside i → IfOk result (λ _. Makes m.old m.new
         (made forking (step_view (look_of earlier.entry) step.now).what i
         (emitting_of m.old))) }
@@ -86,7 +94,7 @@ fn expand_step(
             expand_choice(m, earlier, *expr, yes, no, inside)
         }
         Instruction::Loop { count, body } => {
-            if is_written_out(body, step.before_fork, earlier.forks, forking) {
+            if is_written_out(step, forking) {
                 expand_rounds(m, earlier, *count, body, inside)
             } else {
                 expand_loop(m, earlier, *count, body, inside)
@@ -132,6 +140,7 @@ fn expand_steps(
     forking: bool,
 ) -> Result<(), AllocError>
     requires known { IsKnown earlier }
+    requires marked { AreMarked (look_of earlier) steps.now }
     ensures { (i : Open) → Agrees m.old inside i → IfOk result (λ _. Makes m.old m.new
         (made_in forking (block_view (look_of earlier.entry) steps.now) i
         (emitting_of m.old))) }
@@ -155,11 +164,10 @@ fn expand_phrase(
     ensures { (i : Open) → Agrees m.old inside i → IfOk result (λ _. Makes m.old m.new
         (made_in forking (look_of earlier.entry number) i (emitting_of m.old))) }
 {
-    let Earlier { bodies, forks } = earlier;
-    if number < bodies.len() && number < forks.len() {
+    let bodies = earlier.bodies;
+    if number < bodies.len() {
         let before = Earlier {
             bodies: &bodies[..number],
-            forks: &forks[..number],
         };
         let body = bodies[number].as_slice();
         expand_steps(m, before, body, inside, forking)
@@ -179,6 +187,8 @@ fn expand_choice(
     inside: Inside,
 ) -> Result<(), AllocError>
     requires known { IsKnown earlier }
+    requires yes { AreMarked (look_of earlier) yes.now }
+    requires no { AreMarked (look_of earlier) no.now }
     ensures { (i : Open) → Agrees m.old inside i → IfOk result (λ _. Makes m.old m.new
         (straight (plain.choice expr (block_view (look_of earlier.entry) yes.now)
         (block_view (look_of earlier.entry) no.now)) i (emitting_of m.old))) }
@@ -218,6 +228,7 @@ fn expand_loop(
     inside: Inside,
 ) -> Result<(), AllocError>
     requires known { IsKnown earlier }
+    requires marked { AreMarked (look_of earlier) body.now }
     ensures { (i : Open) → Agrees m.old inside i → IfOk result (λ _. Makes m.old m.new
         (straight (plain.loop count (block_view (look_of earlier.entry) body.now)) i
         (emitting_of m.old))) }
@@ -261,6 +272,7 @@ fn expand_rounds(
     inside: Inside,
 ) -> Result<(), AllocError>
     requires known { IsKnown earlier }
+    requires marked { AreMarked (look_of earlier) body.now }
     ensures { (i : Open) → Agrees m.old inside i → IfOk result (λ _. Makes m.old m.new
         (unrolled (λ j f. expansion.expand_in
         (block_view (look_of earlier.entry) body.now)
@@ -284,6 +296,7 @@ fn expand_fork(
     inside: Inside,
 ) -> Result<(), AllocError>
     requires known { IsKnown earlier }
+    requires marked { AreMarked (look_of earlier) (flat_map vec_items branches.now) }
     ensures { (i : Open) → Agrees m.old inside i → IfOk result (λ _. Makes m.old m.new
         (expansion.expand (plain.par (arms_of_blocks
         (map (λ b. block_view (look_of earlier.entry) b.items) branches.now))) i
@@ -313,6 +326,7 @@ fn expand_warp(
     forking: bool,
 ) -> Result<(), AllocError>
     requires known { IsKnown earlier }
+    requires marked { AreMarked (look_of earlier) body.now }
     ensures { (i : Open) → Agrees m.old inside i → IfOk result (λ _. Makes m.old m.new
         (made forking (plain.warp number
         (block_view (look_of earlier.entry) body.now)) i (emitting_of m.old))) }
@@ -337,6 +351,7 @@ fn expand_list(
     forking: bool,
 ) -> Result<(), AllocError>
     requires known { IsKnown earlier }
+    requires marked { AreMarked (look_of earlier) body.now }
     ensures { (i : Open) → Agrees m.old inside i → IfOk result (λ _. Makes m.old m.new
         (made forking (plain.under (quality_view quality) list
         (block_view (look_of earlier.entry) body.now)) i (emitting_of m.old))) }
@@ -350,20 +365,19 @@ fn expand_list(
     Ok(())
 }
 
-/// The programs of an outline. There is room for so many processes from the start, and more are
-/// made room for.
+/// The programs of an outline whose statements say rightly whether they fork. There is room for so
+/// many processes from the start, and more are made room for.
 pub fn expand(alloc: Global, outline: &Outline, processes: u32) -> Result<Expanded, AllocError>
+    requires { ForksMarked outline.now }
     ensures programs { IfOk result (λ x.
         map program_parts x.programs.items
         ≡ expansion.whole (expansion.expanded (outline_view outline.now).value)) }
     ensures scopes { IfOk result (λ x.
         x.scopes ≡ (expansion.expanded (outline_view outline.now).value).scopes) }
 {
-    let forks = phrases_fork(alloc, &outline.phrases)?;
     let mut m = Emitter::new(alloc, processes)?;
     let all = Earlier {
         bodies: &outline.phrases,
-        forks: &forks,
     };
     expand_steps(&mut m, all, &outline.block, Inside::outermost(), true)?;
     let Emitter {

@@ -7,7 +7,6 @@
 
 mod emitter;
 mod expanding;
-mod forks;
 mod inside;
 mod planning;
 

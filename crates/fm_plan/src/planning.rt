@@ -10,6 +10,7 @@ ghost use Rattle.fm_program.specs.Fit.{PartsFit, all_steps};
 ghost use Rattle.fm_program.specs.Process.{plan_lines, plan_played};
 ghost use Rattle.fm_expansion.specs.Numbering.{score_plan};
 ghost use Rattle.fm_outline.specs.OfScore.{IsOutlineOf};
+ghost use Rattle.fm_outline.specs.Phrases.{ForksMarked};
 ghost use Rattle.fm_check.specs.Reached.{totals_of};
 ghost use Rattle.fm_plan.specs.Seen.{outline_plan};
 
@@ -23,7 +24,8 @@ use std::alloc::{AllocError, Global};
 
 // The plan of an outline whose parts fit. There is room for so many processes from the start.
 fn put_together(alloc: Global, outline: Outline, processes: u32) -> Result<Plan, AllocError>
-    requires { PartsFit (outline_plan outline) }
+    requires fit { PartsFit (outline_plan outline) }
+    requires marked { ForksMarked outline }
     ensures { IfOk result (λ p. p ≡ outline_plan outline) }
 {
     let Expanded { programs, scopes } = expand(alloc, &outline, processes)?;

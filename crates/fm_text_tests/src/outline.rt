@@ -62,8 +62,8 @@ const FORK_IN_A_PHRASE: &str =
 fn a_fork_in_a_phrase_is_found_in_a_loop(rt: HostRuntime) {
     match outlined(rt.alloc(), FORK_IN_A_PHRASE) {
         Some(outline) => {
-            let before = outline.block.first().map(|step| step.before_fork);
-            same(&rt, &before, &Some(1));
+            let forks = outline.block.first().map(|step| step.forks);
+            same(&rt, &forks, &Some(true));
         }
         None => assert!(rt; false),
     }

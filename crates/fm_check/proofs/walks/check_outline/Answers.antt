@@ -12,7 +12,7 @@ pub check_made-requires : goal.check_made-requires
 check_made-requires c =
     let made = c.in_ok-outline.ensures in
     let s : Score = score_view c.args.score.now in
-    (s, made_of s c.in_ok-outline.outline made.outline made.seed made.rules made.passage made.faultless)
+    (s, made_of s c.in_ok-outline.outline made.outline made.seed made.rules made.marked made.passage made.faultless)
 
 -- an outline that was handed on is still that of the score
 same_outline : {E : Type 0} (r : Result Checked E) (o : Outline) (s : Score) → IsOutlineOf o s → IfOk r (λ c. c.outline ≡ o)
@@ -25,22 +25,25 @@ returns-clause-outline c =
     let made = c.in_ok-outline.ensures in
     let s : Score = score_view c.args.score.now in
     same_outline c.check_made.result c.in_ok-outline.outline s
-    (record { view = made.outline; seed = made.seed; rules = made.rules }) c.check_made.ensures.same
+    (record { view = made.outline; seed = made.seed; rules = made.rules; marked = made.marked }) c.check_made.ensures.same
 
 pub returns-clause-bounds : goal.returns-clause-bounds
 returns-clause-bounds c =
     let made = c.in_ok-outline.ensures in
     let s : Score = score_view c.args.score.now in
-    c.check_made.ensures.bounds s (made_of s c.in_ok-outline.outline made.outline made.seed made.rules made.passage made.faultless)
+    c.check_made.ensures.bounds s
+    (made_of s c.in_ok-outline.outline made.outline made.seed made.rules made.marked made.passage made.faultless)
 
 pub returns-clause-faultless : goal.returns-clause-faultless
 returns-clause-faultless c =
     let made = c.in_ok-outline.ensures in
     let s : Score = score_view c.args.score.now in
-    c.check_made.ensures.faultless s (made_of s c.in_ok-outline.outline made.outline made.seed made.rules made.passage made.faultless)
+    c.check_made.ensures.faultless s
+    (made_of s c.in_ok-outline.outline made.outline made.seed made.rules made.marked made.passage made.faultless)
 
 pub returns-clause-refused : goal.returns-clause-refused
 returns-clause-refused c =
     let made = c.in_ok-outline.ensures in
     let s : Score = score_view c.args.score.now in
-    c.check_made.ensures.refused s (made_of s c.in_ok-outline.outline made.outline made.seed made.rules made.passage made.faultless)
+    c.check_made.ensures.refused s
+    (made_of s c.in_ok-outline.outline made.outline made.seed made.rules made.marked made.passage made.faultless)

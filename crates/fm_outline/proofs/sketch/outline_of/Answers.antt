@@ -41,6 +41,11 @@ returns-clause-rules c =
     (c.close.ensures.outline _
     (all_outlined c.deref-entry-items.result.now c.loop-entry.entry-index c.loop-entry-test.false c.loop-entry.invariant)).rules
 
+pub returns-clause-marked : goal.returns-clause-marked
+returns-clause-marked c =
+    (c.close.ensures.outline _
+    (all_outlined c.deref-entry-items.result.now c.loop-entry.entry-index c.loop-entry-test.false c.loop-entry.invariant)).marked
+
 pub returns-clause-faultless : goal.returns-clause-faultless
 returns-clause-faultless c =
     c.close.ensures.faultless _

@@ -1,27 +1,28 @@
 use Rattle.std.proofs.Common.{◌≡◌, ◌∙◌, ◌+◌, ◌-◌, ◌*◌, ◌<◌, ◌≤◌, suc, true, false, [], ◌∷◌, ◌++◌, drop, take, length, rules, refl, ap}
 use Rattle.std.proofs.Common.{ap₂, sym, subst, arith}
-use Rattle.std.specs.Prelude.{IfOk, map, vec_items, slice_index_or, ◌&&◌}
-use Rattle.std.proofs.lemmas.List.{length-map}
+use Rattle.std.specs.Prelude.{IfOk, map, flat_map, vec_items, slice_index_or, ◌&&◌}
+use Rattle.std.proofs.lemmas.List.{take-map, length-map}
 use Rattle.fm_expansion.specs.Outline as plain
 use Rattle.fm_expansion.specs.Outline.{Arms, arm}
 use Rattle.fm_expansion.specs.Homes as homes
 use Rattle.fm_expansion.specs.Homes.{loop_round, list_of_one, slots_of, at_home, in_scope}
-use Rattle.fm_expansion.specs.Emission.{forks_in}
+use Rattle.fm_expansion.specs.Emission.{forks, forks_in}
 use Rattle.fm_expansion.specs.Expansion.{Joined, whole, with_scopes, straight, unrolled, written_rounds, expand, expand_in, expand_arms}
 use Rattle.fm_grammar.proofs.StatementViews.{map_twice}
-use Rattle.fm_outline.specs.View.{arms_of_blocks, block_view, phrases_view, step_view, quality_view}
+use Rattle.fm_outline.specs.View.{arms_of_blocks, block_view, step_view, quality_view}
 use Rattle.fm_outline.specs.declared.step.Step.{the_lemmas}
+use Rattle.fm_outline.specs.Forking.{inside, AreMarked}
+use Rattle.fm_outline.proofs.ForkLemmas.{drop_at, left_marked, right_marked, says}
 use Rattle.fm_plan.specs.Made.{made, made_in}
 use Rattle.fm_plan.specs.Seen.{emitting_of, look_at, look_of, Agrees, Makes}
-use Rattle.fm_plan.proofs.MadeLemmas.{drop_at, made_phrase, made_channel, made_steady}
+use Rattle.fm_plan.proofs.MadeLemmas.{made_phrase, made_channel, made_steady}
 use Rattle.fm_plan.proofs.AgreesLemmas.{agrees_channel, agrees_steady}
 use Rattle.fm_plan.proofs.Weights.{total, step_weight, steps_weight, phrases_weight, element_weight, phrase_weight}
-use Rattle.fm_plan.proofs.PhraseLemmas.{phrase_stands, phrases_length, phrase_past, map_at, map_take, forks_take, forks_known}
+use Rattle.fm_plan.proofs.PhraseLemmas.{phrase_stands, phrase_past, map_at}
+use Rattle.fm_plan.proofs.ForkLemmas.{branch_marked, phrase_marked, those_marked}
 use Rattle.fm_plan.proofs.ExpandLemmas.{nothing, loop_written, loop_framed, choice_made, loop_made, list_made, warp_made, steps_on}
 use Rattle.fm_plan.proofs.ExpandLemmas.{rounds_on, fork_on}
 use Rattle.fm_plan.proofs.expanding.+expand.Goals as goal
-use Rattle.fm_plan.proofs.expanding.+expand.Goals.{expand_phrase-else-number-bodies-via-then-number-bodies+else-number-forks}
-use Rattle.fm_plan.proofs.expanding.+expand.Goals.{expand_phrase-else-number-bodies-via-else-number-bodies}
 
 pub expand_choice-returns : goal.expand_choice-returns
 expand_choice-returns t c = λ i a.
@@ -123,7 +124,7 @@ expand_steps-expand_step-requires t c =
     (element_weight step_weight c.args.steps.now c.loop-step.step-index c.step-item.result c.loop-step-test.true) in
     let less : 4 * (phrases_weight (map vec_items c.args.earlier.bodies.now) + step_weight c.step-item.result) < t =
     omega (arith, c.decreases, part) in
-    (less, c.requires.known)
+    (less, (c.requires.known, c.requires.marked c.step-item.result c.loop-step.step-index c.loop-step-test.true c.step-item.is))
 
 pub expand_fork-expand_steps-requires : goal.expand_fork-expand_steps-requires
 expand_fork-expand_steps-requires t c =
@@ -134,7 +135,9 @@ expand_fork-expand_steps-requires t c =
     c.loop-branch-test.true) in
     let less : 4 * (phrases_weight (map vec_items c.args.earlier.bodies.now) + steps_weight c.deref.result.now) + 1 < t =
     omega (arith, c.decreases, part, ap steps_weight c.deref.ensures.value) in
-    (less, c.requires.known)
+    let those = branch_marked c.args.branches.now c.loop-branch.branch-index c.branch-item.result c.loop-branch-test.true c.branch-item.is
+    c.requires.marked in
+    (less, (c.requires.known, rw (c.deref.ensures.value) those))
 
 pub expand_step-expand_fork-requires : goal.expand_step-expand_fork-requires
 expand_step-expand_fork-requires t c =
@@ -143,7 +146,23 @@ expand_step-expand_fork-requires t c =
     let less : 4 * (phrases_weight (map vec_items c.args.earlier.bodies.now)
     + total (map (λ b. steps_weight b.items) c.deref-then-forking.result.now)) + 2 < t =
     omega (arith, c.decreases, own, ap (λ l. total (map (λ b. steps_weight b.items) l)) c.deref-then-forking.ensures.value) in
-    (less, c.requires.known)
+    let is : inside c.args.step.now.what ≡ flat_map vec_items c.in-Par.branches.items = search (rules, the_lemmas) in
+    (less, (c.requires.known, those_marked c.requires.marked is (ap (flat_map vec_items) c.deref-then-forking.ensures.value)))
+
+pub expand_step-expand_choice-requires : goal.expand_step-expand_choice-requires
+expand_step-expand_choice-requires t c =
+    let a = c.in-Choice.yes.items in
+    let b = c.in-Choice.no.items in
+    let own : step_weight c.args.step.now ≡ 1 + (steps_weight a + steps_weight b) = search (rules, the_lemmas) in
+    let less : 4 * (phrases_weight (map vec_items c.args.earlier.bodies.now)
+    + (steps_weight c.deref.result.now + steps_weight c.deref-in-Choice.result.now)) + 2 < t =
+    omega (arith, c.decreases, own, ap steps_weight c.deref.ensures.value, ap steps_weight c.deref-in-Choice.ensures.value) in
+    let is : inside c.args.step.now.what ≡ a ++ b = search (rules, the_lemmas) in
+    let look = look_of c.args.earlier in
+    let all = those_marked c.requires.marked is refl in
+    let yes = subst (AreMarked look) (sym c.deref.ensures.value) (left_marked a b all) in
+    let no = subst (AreMarked look) (sym c.deref-in-Choice.ensures.value) (right_marked a b all) in
+    (less, (c.requires.known, (yes, no)))
 
 pub expand_phrase-expand_steps-requires : goal.expand_phrase-expand_steps-requires
 expand_phrase-expand_steps-requires t c =
@@ -160,18 +179,15 @@ expand_phrase-expand_steps-requires t c =
       c.decreases,
       phrase_weight ps n (vec_items p) inside,
       ap steps_weight body,
-      ap phrases_weight (map_take vec_items c.args.earlier.bodies.now n),
+      ap phrases_weight (take-map vec_items n c.args.earlier.bodies.now),
       ap steps_weight c.as_slice-body.ensures.value,
-    ) in (
-      less,
-      forks_take c.args.earlier.forks.now ps n c.requires.known
-          ∙ ap (λ l. map forks_in (phrases_view l)) (map_take vec_items c.args.earlier.bodies.now n),
-    )
+    ) in
+    (less, phrase_marked c.args.earlier.bodies.now n p within c.index-bodies-number.is c.as_slice-body.ensures.value c.requires.known)
 
 -- ---- phrases
 
-pub expand_phrase-returns-then-number-forks : goal.expand_phrase-returns-then-number-forks
-expand_phrase-returns-then-number-forks t c = λ i a.
+pub expand_phrase-returns-then-number-bodies : goal.expand_phrase-returns-then-number-bodies
+expand_phrase-returns-then-number-bodies t c = λ i a.
     let ps = map vec_items c.args.earlier.bodies.now in
     let n = c.args.number in
     let p = c.index-bodies-number.result in
@@ -179,7 +195,7 @@ expand_phrase-returns-then-number-forks t c = λ i a.
     let inside : n < length ps = omega (arith, within, length-map c.args.earlier.bodies.now vec_items) in
     let stands : look_at ps n ≡ block_view (look_at (map vec_items (take n c.args.earlier.bodies.now))) c.as_slice-body.result.now =
     phrase_stands ps n inside
-    ∙ ap₂ (λ l b. block_view (look_at l) b) (map_take vec_items c.args.earlier.bodies.now n)
+    ∙ ap₂ (λ l b. block_view (look_at l) b) (take-map vec_items n c.args.earlier.bodies.now)
     (map_at vec_items c.args.earlier.bodies.now n p [] within c.index-bodies-number.is ∙ sym c.as_slice-body.ensures.value) in
     subst (λ b. IfOk c.expand_steps.result (λ _. Makes c.args.m.now c.expand_steps.new.m
     (made_in c.args.forking b i (emitting_of c.args.m.now)))) (sym stands) (c.expand_steps.ensures i a)
@@ -187,17 +203,9 @@ expand_phrase-returns-then-number-forks t c = λ i a.
 pub expand_phrase-returns-else-number-bodies : goal.expand_phrase-returns-else-number-bodies
 expand_phrase-returns-else-number-bodies t c = λ i a.
     let ps = map vec_items c.args.earlier.bodies.now in
-    let n = c.args.number in
-    let as_many : length c.args.earlier.forks.now ≡ length c.args.earlier.bodies.now =
-    ap length c.requires.known ∙ length-map (phrases_view ps) forks_in ∙ phrases_length ps
-    ∙ length-map c.args.earlier.bodies.now vec_items in
-    let past : length ps ≤ n = elim c.else-number-bodies.branch [
-      | expand_phrase-else-number-bodies-via-then-number-bodies+else-number-forks w ↦
-          omega (arith, w.if-number-forks.false, as_many, length-map c.args.earlier.bodies.now vec_items)
-      | expand_phrase-else-number-bodies-via-else-number-bodies w ↦
-          omega (arith, w.if-number-bodies.false, length-map c.args.earlier.bodies.now vec_items)
-    ] in
-    nothing c.args.forking c.args.m.now _ i (phrase_past ps n past)
+    let past : length ps ≤ c.args.number =
+    omega (arith, c.if-number-bodies.false, length-map c.args.earlier.bodies.now vec_items) in
+    nothing c.args.forking c.args.m.now _ i (phrase_past ps c.args.number past)
 
 -- ---- statements
 
@@ -257,14 +265,12 @@ pub expand_step-returns-then-is_written_out : goal.expand_step-returns-then-is_w
 expand_step-returns-then-is_written_out t c = λ i a.
     let f = c.args.forking in
     let e = emitting_of c.args.m.now in
-    let ps = map vec_items c.args.earlier.bodies.now in
-    let look = look_at ps in
+    let look = look_of c.args.earlier in
     let count = c.in-Loop.count in
     let own = c.in-Loop.body.items in
     let seen : (step_view look c.args.step.now).what ≡ plain.loop count (block_view look own) = search (rules, the_lemmas) in
     let out : (f && forks_in (block_view look own)) ≡ true =
-    ap (λ b. f && forks_in (block_view look b)) (sym c.deref-in-Loop.ensures.value)
-    ∙ sym (c.is_written_out.ensures look (forks_known c.args.earlier.forks.now ps c.requires.known)) ∙ c.if-is_written_out.true in
+    ap (λ b. f && b) (sym (says c.requires.marked ∙ ap forks seen)) ∙ sym c.is_written_out.ensures ∙ c.if-is_written_out.true in
     subst (λ x. IfOk c.expand_rounds.result (λ _. Makes c.args.m.now c.expand_rounds.new.m x))
     (sym (ap (λ w. made f w i e) seen ∙ loop_written f count (block_view look own) i e out
     ∙ ap (λ b. unrolled (λ j g. expand_in (block_view look b) (in_scope (loop_round j) (length g.scopes) i)
@@ -276,14 +282,12 @@ pub expand_step-returns-else-is_written_out : goal.expand_step-returns-else-is_w
 expand_step-returns-else-is_written_out t c = λ i a.
     let f = c.args.forking in
     let e = emitting_of c.args.m.now in
-    let ps = map vec_items c.args.earlier.bodies.now in
-    let look = look_at ps in
+    let look = look_of c.args.earlier in
     let count = c.in-Loop.count in
     let own = c.in-Loop.body.items in
     let seen : (step_view look c.args.step.now).what ≡ plain.loop count (block_view look own) = search (rules, the_lemmas) in
     let framed : (f && forks_in (block_view look own)) ≡ false =
-    ap (λ b. f && forks_in (block_view look b)) (sym c.deref-in-Loop.ensures.value)
-    ∙ sym (c.is_written_out.ensures look (forks_known c.args.earlier.forks.now ps c.requires.known)) ∙ c.if-is_written_out.false in
+    ap (λ b. f && b) (sym (says c.requires.marked ∙ ap forks seen)) ∙ sym c.is_written_out.ensures ∙ c.if-is_written_out.false in
     subst (λ x. IfOk c.expand_loop.result (λ _. Makes c.args.m.now c.expand_loop.new.m x))
     (sym (ap (λ w. made f w i e) seen ∙ loop_framed f count (block_view look own) i e framed
     ∙ ap (λ b. straight (plain.loop count (block_view look b)) i e) (sym c.deref-else-is_written_out.ensures.value)))

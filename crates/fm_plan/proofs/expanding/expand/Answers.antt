@@ -8,13 +8,13 @@ use Rattle.fm_plan.proofs.ExpandLemmas.{expanded_made, whole_made}
 use Rattle.fm_plan.proofs.expanding.expand.Goals as goal
 
 -- what is made in the end
-all_made : (c : goal.After-drop-forks-2) → emitting_of c.expand_steps.new.m
+all_made : (c : goal.After-drop-m-3) → emitting_of c.expand_steps.new.m
     ≡ expanded (block_view (look_of c.args.outline.now) c.args.outline.now.block.items)
 all_made c =
     expanded_made c.in_ok-m.m c.expand_steps.new.m c.outermost.result
-    (block_view (look_at (map vec_items c.deref-2.result.now)) c.deref-4.result.now)
+    (block_view (look_at (map vec_items c.deref.result.now)) c.deref-2.result.now)
     c.in_ok-m.ensures.programs c.in_ok-m.ensures.cycles c.in_ok-m.ensures.levels c.outermost.ensures c.in_ok-expand_steps.ensures
-    ∙ ap₂ (λ ps b. expanded (block_view (look_at (map vec_items ps)) b)) c.deref-2.ensures.value c.deref-4.ensures.value
+    ∙ ap₂ (λ ps b. expanded (block_view (look_at (map vec_items ps)) b)) c.deref.ensures.value c.deref-2.ensures.value
 
 pub returns-clause-programs : goal.returns-clause-programs
 returns-clause-programs c =

@@ -16,6 +16,7 @@ its_outline c = record {
   view = c.in-Ok.ensures.outline;
   seed = c.in-Ok.ensures.seed;
   rules = c.in-Ok.ensures.rules;
+  marked = c.in-Ok.ensures.marked;
 }
 
 pub plan_outline-requires : goal.plan_outline-requires
@@ -27,6 +28,7 @@ plan_outline-requires c = (
     view = c.in-Ok.ensures.outline;
     seed = c.in-Ok.ensures.seed;
     rules = c.in-Ok.ensures.rules;
+    marked = c.in-Ok.ensures.marked;
   },
   c.requires.bounds,
 )

@@ -4,11 +4,14 @@ use Rattle.fm_expansion.specs.Numbering.{score_plan}
 use Rattle.fm_plan.proofs.SamePlan.{followed, same_plan}
 use Rattle.fm_plan.proofs.planning.plan_outline.Goals as goal
 
-pub put_together-requires : goal.put_together-requires
-put_together-requires c =
+pub put_together-requires-clause-fit : goal.put_together-requires-clause-fit
+put_together-requires-clause-fit c =
     let text = c.requires.0 in
     let s = c.requires.1 in
     subst PartsFit (sym (same_plan c.args.outline s c.requires.3)) (c.plans_fit.ensures.fit text s c.requires.2)
+
+pub put_together-requires-clause-marked : goal.put_together-requires-clause-marked
+put_together-requires-clause-marked c = c.requires.3.marked
 
 pub returns : goal.returns
 returns c = λ s is.

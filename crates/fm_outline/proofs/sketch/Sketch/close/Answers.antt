@@ -1,7 +1,7 @@
 use Rattle.std.proofs.Common.{◌∙◌, ap}
 use Rattle.fm_expansion.specs.Outline.{passage_in}
 use Rattle.fm_outline.proofs.SketchLemmas.{ends_walked}
-use Rattle.fm_outline.proofs.WalkLemmas.{ends_as_outline, ends_faultless, phrases_stand}
+use Rattle.fm_outline.proofs.WalkLemmas.{ends_as_outline, ends_faultless, ends_marked, phrases_stand}
 use Rattle.fm_outline.proofs.sketch.Sketch.close.Goals as goal
 
 pub returns-clause-outline : goal.returns-clause-outline
@@ -9,6 +9,7 @@ returns-clause-outline c = λ s o. record {
   view = ends_as_outline (ends_walked o);
   seed = o.seed;
   rules = o.rules;
+  marked = record { block = ends_marked (ends_walked o); phrases = (ends_walked o).phrases_marked };
 }
 
 pub returns-clause-faultless : goal.returns-clause-faultless

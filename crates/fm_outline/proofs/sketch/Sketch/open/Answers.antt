@@ -18,7 +18,8 @@ returns-clause-ok c =
           (record { whole = c.rules_of-rules.result.whole_note; names = c.new.result; forking = c.new-2.result })
           (tables_view c.new-3.result) c.new.ensures c.new-3.ensures
           (ap VersionRules.whole_note c.rules_of-rules.ensures.rules)
-          (passed c.check_head.result _ (head_faults score) c.in_ok-answered.ensures c.check_head.ensures));
+          (passed c.check_head.result _ (head_faults score) c.in_ok-answered.ensures c.check_head.ensures)
+          c.new-2.ensures.items);
       seed = c.seed-seed.ensures;
       rules = c.rules_of-rules.ensures.rules;
     }

@@ -26,7 +26,7 @@ returns-in_err-steps-clause-refused c = λ why spot is score rest r.
     (λ ns. entries_faults (record ns { phrases = name.text ∷ ns.phrases }) rest) (λ ns. refl)
     (new_free name (named c.args.self.now.known.names name.text) _ c.in_ok-check_new.ensures)
     (λ k look knows.
-    refused_tells _ _ c.in_err-steps.field-0.0 (c.in_err-steps.ensures k look knows) is c.from_residual-in_err-steps.ensures.1)
+    refused_tells _ _ c.in_err-steps.field-0.0 (c.in_err-steps.ensures.view k look knows) is c.from_residual-in_err-steps.ensures.1)
 
 pub returns-clause-ok : goal.returns-clause-ok
 returns-clause-ok c = λ score rest r.
@@ -35,6 +35,9 @@ returns-clause-ok c = λ score rest r.
     let grown : map vec_items c.append.new.list.items ≡ map vec_items w.phrases.items ++ steps.items ∷ []
     = ap (map vec_items) c.in_ok-append.ensures ∙ map-append vec_items w.phrases.items (steps ∷ []) in
     let at : c.in_ok-number.number ≡ length (map vec_items w.phrases.items) = search (rules, length-map) in
-    phrase_walked (tables_view c.outline_items.new.tables) c.in_ok-number.number steps.items r
+    phrase_walked (tables_view c.outline_items.new.tables) c.in_ok-number.number steps.items c.steps_fork-forks.result r
     (new_free (name_view c.args.name.now) (named w.known.names c.args.name.now.text.now) _ c.in_ok-check_new.ensures) at
-    grown c.in_ok-define.ensures.ok (λ k look knows. c.in_ok-steps.ensures k look knows)
+    grown c.in_ok-define.ensures.ok (λ k look knows. c.in_ok-steps.ensures.view k look knows) c.in_ok-append-2.ensures
+    (λ k look knows.
+    let all = c.in_ok-steps.ensures.marked k look knows in
+    let forks = c.steps_fork-forks.ensures look (rw (c.deref.ensures.value) all) in (all, rw (← c.deref.ensures.value) forks))
