@@ -1,7 +1,6 @@
 pub mod Seen
 pub mod Tasks
 pub mod PlayWords
-pub mod Judging
 pub mod Records
 pub mod Products
 pub mod ReadBack

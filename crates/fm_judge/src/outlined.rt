@@ -6,9 +6,9 @@ ghost use Rattle.fm_outline.specs.Refusal.{Refuses};
 ghost use Rattle.fm_outline.specs.Sketched.{BeginsFaulty, Outlines};
 ghost use Rattle.fm_parse.specs.Begun.{IsReadTo, score_of};
 ghost use Rattle.fm_parse.specs.Whole.{head_view};
-ghost use Rattle.fm_top.specs.Judging.{IsJudged, IsOutlined, StaysFirst};
+ghost use Rattle.fm_judge.specs.Judging.{IsJudged, IsOutlined, StaysFirst};
 
-use crate::judge::{fault_of, fault_of_check};
+use crate::judging::{fault_of, fault_of_check};
 use fm_check::CheckFault;
 use fm_outline::{Outline, Sketch};
 use fm_parse::{EntryReader, Head, Score};

@@ -15,7 +15,7 @@ use Rattle.fm_rules.specs.Why.{why_number, fault_at}
 use Rattle.fm_rules.specs.declared.why.Why.{Why}
 use Rattle.fm_rules.specs.declared.fault.CheckFault.{CheckFault}
 use Rattle.fm_rules.specs.declared.fault.CheckFault.TheVariants.{Refused, Memory}
-use Rattle.fm_top.specs.Judging.{IsFirst}
+use Rattle.fm_judge.specs.Judging.{IsFirst}
 use Rattle.fm_terms.specs.declared.fault.ParseFault.{ParseFault}
 use Rattle.fm_terms.specs.declared.fault.ParseFault.TheVariants.{Expected, TooNested}
 use Rattle.fm_parse.specs.Whole.{IsFault}

@@ -1,8 +1,8 @@
 -- Behind a fault of names and numbers the rest of the text was read.
 use Rattle.std.proofs.Common.{◌++◌}
 use Rattle.fm_parse.specs.Begun.{score_of}
-use Rattle.fm_top.proofs.Sketching.{first_of_all}
-use Rattle.fm_top.proofs.outlined.fault_behind.Goals as goal
+use Rattle.fm_judge.proofs.Sketching.{first_of_all}
+use Rattle.fm_judge.proofs.outlined.fault_behind.Goals as goal
 
 pub returns-in-Ok : goal.returns-in-Ok
 returns-in-Ok c = λ text done short read stays.

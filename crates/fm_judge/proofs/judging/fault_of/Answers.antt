@@ -1,5 +1,5 @@
-use Rattle.fm_top.proofs.Placing.{placed_token, placed_deep}
-use Rattle.fm_top.proofs.judge.fault_of.Goals as goal
+use Rattle.fm_judge.proofs.Placing.{placed_token, placed_deep}
+use Rattle.fm_judge.proofs.judging.fault_of.Goals as goal
 
 pub returns-in-Expected : goal.returns-in-Expected
 returns-in-Expected c = λ text. placed_token text _ _ c.in-Expected.is

@@ -6,7 +6,7 @@ ghost use Rattle.fm_grammar.specs.Score.{Score as Tree};
 ghost use Rattle.fm_grammar.specs.Within.{limits};
 ghost use Rattle.fm_grammar.specs.Reads.{lexical, Reads, TripsWith};
 ghost use Rattle.fm_parse.specs.Whole.{IsFault};
-ghost use Rattle.fm_top.specs.Judging.{IsFirst, IsPlanned, IsJudged};
+ghost use Rattle.fm_judge.specs.Judging.{IsFirst, IsPlanned, IsJudged};
 
 use crate::outlined::outline_text;
 use fm_check::{CheckFault, Checked, check_made};

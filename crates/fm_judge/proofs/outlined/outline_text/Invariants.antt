@@ -1,6 +1,6 @@
 use Rattle.std.proofs.Common.{length}
-use Rattle.fm_top.specs.Judging.{IsSketched}
-use Rattle.fm_top.proofs.outlined.outline_text.Given as goal
+use Rattle.fm_judge.specs.Judging.{IsSketched}
+use Rattle.fm_judge.proofs.outlined.outline_text.Given as goal
 
 -- what was read is outlined
 abbrev pub invariant-loop-found : goal.invariant-loop-found

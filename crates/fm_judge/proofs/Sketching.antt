@@ -15,7 +15,7 @@ use Rattle.fm_parse.specs.Whole.{Head}
 use Rattle.fm_parse.specs.Begun.{score_of}
 use Rattle.fm_outline.specs.Sketched.{BeginsFaulty}
 use Rattle.fm_outline.proofs.RefusalLemmas.{before}
-use Rattle.fm_top.specs.Judging.{IsFirst, StaysFirst}
+use Rattle.fm_judge.specs.Judging.{IsFirst, StaysFirst}
 
 -- a fault that stays the first, whatever entries follow, is the first of each score that begins so
 pub first_of_all : (fault : CheckFault) (h : Head) (done more : List Entry) → StaysFirst fault (score_of h done)

@@ -4,9 +4,9 @@ use Rattle.fm_grammar.specs.View.{entry_view}
 use Rattle.fm_parse.specs.Begun.{score_of}
 use Rattle.fm_parse.proofs.Onward.{found_more, found_over}
 use Rattle.fm_outline.specs.Sketched.{BeginsFaulty, Outlines}
-use Rattle.fm_top.specs.Judging.{StaysFirst}
-use Rattle.fm_top.proofs.Sketching.{stays_said}
-use Rattle.fm_top.proofs.outlined.outline_text.Goals as goal
+use Rattle.fm_judge.specs.Judging.{StaysFirst}
+use Rattle.fm_judge.proofs.Sketching.{stays_said}
+use Rattle.fm_judge.proofs.outlined.outline_text.Goals as goal
 
 pub returns-in-Err-open_sketch-clause-refused : goal.returns-in-Err-open_sketch-clause-refused
 returns-in-Err-open_sketch-clause-refused c =

@@ -1,5 +1,5 @@
-use Rattle.fm_top.proofs.Placing.{placed_byte, placed_number}
-use Rattle.fm_top.proofs.judge.fault_of_token.Goals as goal
+use Rattle.fm_judge.proofs.Placing.{placed_byte, placed_number}
+use Rattle.fm_judge.proofs.judging.fault_of_token.Goals as goal
 
 pub returns-in-BadByte : goal.returns-in-BadByte
 returns-in-BadByte c = λ text. placed_byte text _ _ c.in-BadByte.is

@@ -1,8 +1,8 @@
 -- A text is judged.
 use Rattle.std.proofs.Common.{Err, ap, sym, subst}
 use Rattle.fm_outline.specs.OfScore.{IsOutlineOf}
-use Rattle.fm_top.proofs.Placing.{first_said}
-use Rattle.fm_top.proofs.judge.judge.Goals as goal
+use Rattle.fm_judge.proofs.Placing.{first_said}
+use Rattle.fm_judge.proofs.judging.judge.Goals as goal
 
 pub returns-in-Err-clause-refused : goal.returns-in-Err-clause-refused
 returns-in-Err-clause-refused c =
