@@ -2,49 +2,51 @@
 """Proves the crates of the program, as many at a time as there are processors, and builds the program in the folder of
 fm_main. scripts/formula calls it if the program does not exist or is older than its sources.
 
-    tools/gate/build.py
+    tools/gate/build.py [--seconds FILE]
 
-In one checkout rt works on one crate at a time and on those that it stands on. So the crates are proved side by side in
-copies of their sources, the lanes, in fm_main/out. What each proof leaves is moved to the checkout: the library, and the
-work that a later proof begins with. The other lanes get the library. Before rt uses a library it compares the sources
-with those that the library was made from. If a check is killed, the build continues with one crate at a time.
+It runs rt ci in a copy of these crates, in fm_main/out, without their edits and without the crates of tests. So rt keeps
+each proof for the gate too, and uses what the gate has proved. An interrupted build continues with the crates that rt
+has not kept. If it was killed, the next one first ends the checks that are still at work in the copy.
 
-What rt prints goes to standard output, below a line with the seconds of the crate. A line for each crate goes to
-standard error, with the time left as tools/gate/seconds.txt predicts it. The status is 0, or that of the rt that failed.
+What rt prints goes to standard output. A line for each crate goes to standard error, with the time left as
+tools/gate/seconds.txt predicts it. The build ends at a crate that is not proved. The status is 0, or that of rt.
 
-A build that was interrupted continues with the crates that are not proved. If it was killed, the next one first ends the
-checks that are still at work in the lanes, and moves what they left to the checkout."""
+With --seconds all is proved anew, and FILE gets a new table of the seconds."""
 
 from __future__ import annotations
 
 import contextlib
 import fcntl
-import math
 import os
+import re
 import shutil
 import signal
 import subprocess
 import sys
-import threading
 import time
-from concurrent.futures import FIRST_COMPLETED, Future, ThreadPoolExecutor, wait
-from typing import Iterable, NamedTuple, NoReturn, Optional
+from typing import Iterator, NoReturn, Optional
 
 TOP = os.path.dirname(os.path.dirname(os.path.dirname(os.path.abspath(__file__))))
 sys.path.insert(0, f"{TOP}/tools/gate")
 sys.dont_write_bytecode = True
 from crates import Uses, all_below, longest_chains, read_uses, turned  # noqa: E402
-from left import Forecast, Running, in_words, read_seconds, shares  # noqa: E402
+from follow import follow  # noqa: E402
+from left import Forecast, in_words, read_seconds  # noqa: E402
 
 PROGRAM = "fm_main"
-LANES = f"{TOP}/crates/{PROGRAM}/out/lanes"
-PARTS = "src", "specs", "proofs"
+HOME = f"{TOP}/crates/{PROGRAM}"
+COPY = f"{HOME}/out/copy"
+TABLE = f"{TOP}/tools/gate/seconds.txt"
 
-#: Kilobytes of memory that a check may take.
+#: What the copy does not have of a crate.
+LEFT_OUT = {"out", "must-fail"}
+
+#: Kilobytes of memory that rt expects a crate to take, on average.
 MEMORY = 3_000_000
 
-#: The status of an rt whose check was killed, most likely for memory.
-KILLED = 256 - signal.SIGKILL
+#: What rt prints of a crate when it is done with it, and of one that is not proved, or whose tests are not.
+DONE = re.compile(r"rt: (\w+) (proved|is kept)\b")
+FAILED = re.compile(r"rt: \w+(: its tests are)? NOT PROVED")
 
 #: The signals that end a build in good order.
 SIGNALS = signal.SIGINT, signal.SIGTERM, signal.SIGHUP
@@ -56,179 +58,89 @@ TOOLCHAIN = {b"rt", b"rattle"}
 LONGEST_END = 30
 
 
-class Checks:
-    """The rt that run now, and whether they are to end."""
-
-    def __init__(self) -> None:
-        self._running: set[subprocess.Popen[str]] = set()
-        self._ends = False
-        self._alone = threading.RLock()
-
-    def run(self, folder: str, *words: str) -> tuple[int, str]:
-        """Runs rt in a folder; its status, and what it printed."""
-        with self._alone:
-            if self._ends:
-                return 1, ""
-            check = subprocess.Popen(["rt", *words], cwd=folder, stdout=subprocess.PIPE, stderr=subprocess.STDOUT,
-                                     text=True, errors="replace")
-            self._running.add(check)
-        printed, _ = check.communicate()
-        with self._alone:
-            self._running.discard(check)
-        return check.returncode, printed
-
-    def stop(self) -> None:
-        """Ends those that run, and lets none begin."""
-        with self._alone:
-            self._ends = True
-            for check in self._running:
-                check.terminate()
-
-
-class Proof(NamedTuple):
-    """A crate that is proved now, in which lane, on how many processors, and since when."""
-
-    crate: str
-    lane: str
-    jobs: int
-    begun: float
-
-
 def uses_of_crates() -> Uses:
     """Which crates each crate of the program stands on."""
     uses = read_uses(f"{TOP}/crates.txt")
     return {name: uses[name] for name in (PROGRAM, *sorted(all_below(uses, PROGRAM)))}
 
 
-def sources_of(crate: str) -> list[str]:
-    """The files of sources of a crate."""
-    return [f"{at}/{name}" for part in PARTS for at, _, names in os.walk(f"{TOP}/crates/{crate}/{part}") for name in names]
+def lines_of(crate: str) -> int:
+    """How many lines of code a crate has."""
+    lines = 0
+    for at, _, names in os.walk(f"{TOP}/crates/{crate}/src"):
+        for name in names:
+            with open(f"{at}/{name}", "rb") as file:
+                lines += file.read().count(b"\n")
+    return lines
 
 
-def size_of(crate: str) -> int:
-    """How many bytes of sources a crate has."""
-    return sum(map(os.path.getsize, sources_of(crate)))
+def order_of(uses: Uses) -> list[str]:
+    """The crates in the order in which rt begins them: first those for which others wait longest, by their lines."""
+    chains = longest_chains(turned(uses), {name: lines_of(name) for name in uses})
+    return sorted(uses, key=lambda name: -chains[name][0])
 
 
-def lengths_of_chains(uses: Uses) -> dict[str, float]:
-    """For each crate the sizes of those that wait for it one after another, and its own, where they are most."""
-    chains = longest_chains(turned(uses), {name: size_of(name) for name in uses})
-    return {name: length for name, (length, _) in chains.items()}
-
-
-def lanes_at_once() -> int:
-    """How many checks can run side by side: one a processor, as many as memory holds."""
-    lanes = len(os.sched_getaffinity(0))
+def lanes() -> int:
+    """How many crates rt proves side by side: one a processor, as many as memory holds."""
+    found = len(os.sched_getaffinity(0))
     with contextlib.suppress(OSError, StopIteration), open("/proc/meminfo", encoding="utf-8") as file:
         free = int(next(line for line in file if line.startswith("MemAvailable:")).split()[1])
-        lanes = min(lanes, max(1, free // MEMORY))
-    return lanes
+        found = min(found, max(1, free // MEMORY))
+    return found
 
 
-def kept(uses: Uses) -> set[str]:
-    """The crates that an earlier build has proved, by the times of their files: no source is younger than the library,
-    and no library below it is."""
-    times: dict[str, float] = {}
+def make_copy(uses: Uses) -> None:
+    """Makes the copy, as a repository of its own."""
+    os.makedirs(f"{COPY}/.git")
     for name in uses:
-        with contextlib.suppress(OSError):
-            times[name] = os.path.getmtime(f"{TOP}/crates/{name}/out/rlib/{name}.rlib")
-            if max(map(os.path.getmtime, sources_of(name)), default=0.0) > times[name]:
-                del times[name]
-    return {name for name in times if all(times.get(crate, math.inf) <= times[name] for crate in all_below(uses, name))}
+        own = f"{TOP}/crates/{name}"
+        shutil.copytree(own, f"{COPY}/crates/{name}", ignore=lambda at, _, own=own: LEFT_OUT if at == own else set())
+    shutil.copy(f"{TOP}/HANDLES", COPY)
+    with open(f"{TOP}/crates.txt", encoding="utf-8") as file, open(f"{COPY}/crates.txt", "w", encoding="utf-8") as copy:
+        copy.writelines(line for line in file if uses.keys() & re.findall(r"^\w+", line))
 
 
-def link_or_copy(source: str, target: str) -> None:
-    """Gives a file a second name. rt removes a file of a library before it makes it anew."""
-    try:
-        os.link(source, target)
-    except OSError:
-        shutil.copy2(source, target)
-
-
-def make_lane(number: int, uses: Uses) -> str:
-    """Makes a copy of the sources, and returns its folder."""
-    lane = f"{LANES}/{number}"
-    for name in uses:
-        os.makedirs(f"{lane}/crates/{name}")
-        for part in PARTS:
-            if os.path.isdir(f"{TOP}/crates/{name}/{part}"):
-                shutil.copytree(f"{TOP}/crates/{name}/{part}", f"{lane}/crates/{name}/{part}")
-    shutil.copy2(f"{TOP}/HANDLES", lane)
-    with open(f"{TOP}/crates.txt", encoding="utf-8") as file, open(f"{lane}/crates.txt", "w", encoding="utf-8") as copy:
-        copy.writelines(line for line in file if line.partition(":")[0].split()[:1] in [[name] for name in uses])
-    return lane
-
-
-def folder_in(lane: str, crate: str) -> str:
-    """Where a lane has what a proof of the crate leaves."""
-    return f"{lane}/crates/{crate}/out"
-
-
-def prove(checks: Checks, proof: Proof) -> tuple[int, str]:
-    """Proves a crate in a lane, beginning with what the checkout has of an earlier proof, and moves what is left back."""
-    own_folder, lane_folder = f"{TOP}/crates/{proof.crate}/out", folder_in(proof.lane, proof.crate)
-    if os.path.isdir(own_folder):
-        os.rename(own_folder, lane_folder)
-    try:
-        return checks.run(os.path.dirname(lane_folder), "lib", "--jobs", str(proof.jobs))
-    finally:
-        if os.path.isdir(lane_folder):
-            os.rename(lane_folder, own_folder)
-
-
-def show(crate: str, seconds: float, jobs: int, printed: str) -> None:
-    """Prints what rt printed of a crate, below a line with its seconds and on how many processors it was proved."""
-    print(f"== {crate} {seconds:.0f} s, jobs: {jobs}\n{printed}", end="", flush=True)
-
-
-def tell(crate: str, left: int, seconds: Optional[float] = None) -> None:
+def tell(crate: str, left: int, seconds: Optional[float]) -> None:
     """Prints that a crate is done, how many are left, and how long these take."""
     after = "" if seconds is None else f", {in_words(seconds)}"
     print(f"formula: {crate} is done, {left} {'crate is' if left == 1 else 'crates are'} left{after}", file=sys.stderr, flush=True)
 
 
-def hand_on(crate: str, lanes: Iterable[str]) -> None:
-    """Gives each lane the library of a crate."""
-    for lane in lanes:
-        shutil.copytree(f"{TOP}/crates/{crate}/out/rlib", f"{folder_in(lane, crate)}/rlib", copy_function=link_or_copy)
+def prove(uses: Uses, forecast: Forecast, *options: str) -> int:
+    """Proves the copy, tells of each crate that is done, and returns the status."""
+    rt = subprocess.Popen(["rt", "ci", *options], cwd=COPY, stdin=subprocess.DEVNULL, stdout=subprocess.PIPE,
+                          stderr=subprocess.STDOUT, text=True, errors="replace")
+    for line in follow(rt):
+        done = DONE.match(line)
+        if done and done[1] in uses:
+            now, is_proved = time.monotonic(), done[2] == "proved"
+            forecast.end(done[1], now, is_proved)
+            # what rt has kept comes first, at once: the time left is known behind it
+            tell(done[1], len(uses) - len(forecast.done), forecast.left(now) if is_proved else None)
+        if FAILED.match(line):
+            return 1
+    status = rt.wait()
+    return status if status >= 0 else 128 - status
 
 
-def prove_all(checks: Checks, uses: Uses, lanes: list[str]) -> int:
-    """Proves all that the program stands on, first those for which others wait longest, and returns the status."""
-    chains, at_once = lengths_of_chains(uses), len(lanes)
-    left, idle = sorted(set(uses) - {PROGRAM}, key=lambda name: -chains[name]), [*lanes]
-    done: set[str] = set()
-    at_work: dict[Future[tuple[int, str]], Proof] = {}
-    forecast = Forecast(uses, left, PROGRAM, read_seconds(f"{TOP}/tools/gate/seconds.txt"), kept(uses))
-    with ThreadPoolExecutor(len(lanes)) as pool:
-        while left or at_work:
-            ready = [name for name in left if done.issuperset(uses[name])]
-            for name, jobs in shares(ready, at_once - sum(proof.jobs for proof in at_work.values())):
-                proof = Proof(name, idle.pop(), jobs, time.monotonic())
-                left.remove(name)
-                at_work[pool.submit(prove, checks, proof)] = proof
-            for ended in wait(at_work, return_when=FIRST_COMPLETED).done:
-                proof = at_work.pop(ended)
-                status, printed = ended.result()
-                now = time.monotonic()
-                show(proof.crate, now - proof.begun, proof.jobs, printed)
-                idle.append(proof.lane)
-                if status == KILLED and at_once > 1:
-                    left.insert(0, proof.crate)
-                    at_once = 1
-                    continue
-                if status:
-                    checks.stop()
-                    return status
-                done.add(proof.crate)
-                hand_on(proof.crate, lanes)
-                forecast.took(proof.crate, now - proof.begun)
-                running = {other.crate: Running(other.jobs, now - other.begun) for other in at_work.values()}
-                tell(proof.crate, len(uses) - len(done), forecast.left(done, running, at_once))
-    return 0
+def hand_over(begun: float) -> None:
+    """Gives the checkout the program, as old as the copy of its sources: it is not made of what was changed since."""
+    new = f"{HOME}/out/{PROGRAM}.new"
+    shutil.copy(f"{COPY}/crates/{PROGRAM}/out/{PROGRAM}", new)
+    os.utime(new, (begun, begun))
+    os.replace(new, f"{HOME}/out/{PROGRAM}")
 
 
-# ---- what a build that was killed has left
+def write_table(path: str, seconds: dict[str, float]) -> None:
+    """Writes a table of the seconds of each crate."""
+    processors = len(os.sched_getaffinity(0))
+    with open(path, "w", encoding="utf-8") as file:
+        print(f"# Seconds that each crate takes in a build from nothing on {processors} processors (tools/gate/build.py --seconds).", file=file)
+        for name, taken in sorted(seconds.items()):
+            print(f"{name} {taken:.0f}", file=file)
+
+
+# ---- one build at a time, and what a killed one has left
 
 def checks_in(folder: str) -> list[int]:
     """The processes of the toolchain that work in a folder or below it, by their numbers."""
@@ -259,59 +171,68 @@ def end_checks_in(folder: str) -> None:
         time.sleep(0.05)
 
 
-def take_back(uses: Uses) -> None:
-    """Moves what a killed build left in its lanes to the checkout, and removes the lanes.
+def remove_copy() -> None:
+    """Ends what works in the copy, and removes it."""
+    if os.path.isdir(COPY):
+        end_checks_in(os.path.realpath(COPY))
+        shutil.rmtree(COPY, ignore_errors=True)
 
-    A crate that was at work then has its folder in a lane, and none in the checkout."""
-    lanes = [entry.path for entry in os.scandir(LANES)] if os.path.isdir(LANES) else []
-    if not lanes:
-        return
-    end_checks_in(os.path.realpath(LANES))
-    for lane in lanes:
-        for name in uses:
-            own_folder, lane_folder = f"{TOP}/crates/{name}/out", folder_in(lane, name)
-            if os.path.isdir(lane_folder) and not os.path.exists(own_folder):
-                os.rename(lane_folder, own_folder)
-    shutil.rmtree(LANES)
+
+@contextlib.contextmanager
+def alone() -> Iterator[None]:
+    """Waits until no other build of the checkout runs, and no rt works in the folder of the program, as rt does."""
+    folder = os.open(HOME, os.O_RDONLY)
+    # some file systems have no locks
+    with contextlib.suppress(OSError):
+        try:
+            fcntl.flock(folder, fcntl.LOCK_EX | fcntl.LOCK_NB)
+        except BlockingIOError:
+            print(f"formula: another build or rt works in crates/{PROGRAM}; this build waits for it ..", file=sys.stderr, flush=True)
+            fcntl.flock(folder, fcntl.LOCK_EX)
+    try:
+        yield
+    finally:
+        os.close(folder)
+
+
+def build(table: Optional[str]) -> int:
+    """Builds the program, and returns the status."""
+    uses = uses_of_crates()
+    remove_copy()
+    try:
+        begun = time.time()
+        make_copy(uses)
+        forecast = Forecast(uses, order_of(uses), lanes(), read_seconds(TABLE), time.monotonic())
+        status = prove(uses, forecast, *["--anew"] * (table is not None))
+        if status == 0:
+            hand_over(begun)
+            if table:
+                write_table(table, forecast.took)
+        return status
+    finally:
+        remove_copy()
+
+
+def stopped(number: int, _: object) -> NoReturn:
+    """Ends the build by a signal."""
+    # a second one, as from a script that was interrupted too, may not stop what removes the copy
+    for handled in SIGNALS:
+        signal.signal(handled, signal.SIG_IGN)
+    sys.exit(128 + number)
 
 
 def main() -> int:
-    if sys.argv[1:]:
+    words = sys.argv[1:]
+    if words and (words[0] != "--seconds" or len(words) != 2):
         print(__doc__)
-        return 0 if sys.argv[1:] in (["-h"], ["--help"]) else 2
-    uses, checks = uses_of_crates(), Checks()
-
-    def stopped(number: int, _: object) -> NoReturn:
-        # a second signal, as from a script that was interrupted too, may not stop what moves the work back
-        for handled in SIGNALS:
-            signal.signal(handled, signal.SIG_IGN)
-        checks.stop()
-        sys.exit(128 + number)
-
+        return 0 if words in (["-h"], ["--help"]) else 2
+    if not shutil.which("rt"):
+        print("formula: the toolchain is not there: no rt on the PATH", file=sys.stderr)
+        return 127
     for number in SIGNALS:
         signal.signal(number, stopped)
-    # As rt does: until the crates are proved no other rt works in their folders.
-    held = [os.open(f"{TOP}/crates/{name}", os.O_RDONLY) for name in sorted(uses)]
-    for folder in held:
-        with contextlib.suppress(OSError):
-            fcntl.flock(folder, fcntl.LOCK_EX)
-    take_back(uses)
-    try:
-        status = prove_all(checks, uses, [make_lane(number, uses) for number in range(lanes_at_once())])
-    finally:
-        shutil.rmtree(LANES, ignore_errors=True)
-        for folder in held:
-            os.close(folder)
-    if status:
-        return status
-    # It is run without words, which it refuses: only the program tells whether it was built.
-    begun = time.monotonic()
-    _, printed = checks.run(f"{TOP}/crates/{PROGRAM}", "run")
-    show(PROGRAM, time.monotonic() - begun, 1, printed)
-    if not os.path.isfile(f"{TOP}/crates/{PROGRAM}/out/{PROGRAM}"):
-        return 1
-    tell(PROGRAM, 0)
-    return 0
+    with alone():
+        return build(words[1] if words else None)
 
 
 if __name__ == "__main__":

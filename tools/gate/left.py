@@ -1,32 +1,16 @@
 """How long a build still takes, by what its crates took before."""
-from typing import Callable, Collection, Iterator, Mapping, NamedTuple, Sequence
+from typing import AbstractSet, Callable, Collection, Iterator, Mapping, Sequence
 
 from crates import Uses
 
 # What a crate takes that is not in the table, in seconds.
 UNKNOWN = 60
 
-# What a crate takes that an earlier build has proved, in seconds.
-COMPARED = 3
-
-# A crate that takes less than this part of what it was to take was proved before.
-KEPT = 10
-
-# The most processors that a crate gets: more gain nothing.
-MOST = 4
-
 # A table of so many seconds of proofs counts as much as what crates have taken in this build.
 TABLE = 15
 
 # A crate that should have been done goes on for this part of what it has taken.
 LONGER = 0.1
-
-
-class Running(NamedTuple):
-    """On how many processors a crate is proved, and for how many seconds it has been."""
-
-    jobs: int
-    since: float
 
 
 def read_seconds(path: str) -> dict[str, float]:
@@ -36,63 +20,64 @@ def read_seconds(path: str) -> dict[str, float]:
     return {name: float(seconds) for name, seconds in rows}
 
 
-def shares(ready: Sequence[str], free: int) -> Iterator[tuple[str, int]]:
-    """Returns the crates that begin, each with its processors: it gets those for which no other is ready."""
-    for at, name in enumerate(ready):
-        if free <= 0:
+def begins(uses: Uses, order: Sequence[str], lanes: int, done: AbstractSet[str], at_work: Collection[str]) -> list[str]:
+    """Returns the crates that begin now: in this order those that wait for no other, as many as there are lanes free."""
+    ready = [name for name in order if name not in done and name not in at_work and done >= set(uses[name])]
+    return ready[:max(0, lanes - len(at_work))]
+
+
+def ends(uses: Uses, order: Sequence[str], lanes: int, takes: Callable[[str], float], done: AbstractSet[str] = frozenset(),
+         at_work: Mapping[str, float] = {}) -> Iterator[tuple[float, str]]:
+    """Returns when each crate that is left is done. Those at work have been so for these seconds."""
+    now, over = 0.0, set(done)
+    end = {name: max(takes(name) - since, since * LONGER) for name, since in at_work.items()}
+    while True:
+        end.update({name: now + takes(name) for name in begins(uses, order, lanes, over, end)})
+        if not end:
             return
-        jobs = min(MOST, max(1, free // (len(ready) - at)))
-        free -= jobs
-        yield name, jobs
-
-
-def ends(uses: Uses, order: Sequence[str], lanes: int, takes: Callable[[str], float], done: Collection[str] = (),
-         at_work: Mapping[str, Running] = {}) -> Iterator[tuple[float, str, int]]:
-    """Returns when each crate that is left is done, and its processors, as build.py proves them in this order."""
-    done, now = set(done), 0.0
-    left = [name for name in order if name not in done and name not in at_work]
-    jobs = {name: run.jobs for name, run in at_work.items()}
-    end = {name: max(takes(name) - run.since, run.since * LONGER) for name, run in at_work.items()}
-    while left or end:
-        ready = [name for name in left if done.issuperset(uses[name])]
-        for name, share in shares(ready, lanes - sum(jobs.values())):
-            left.remove(name)
-            jobs[name], end[name] = share, now + takes(name)
-        first = min(end, key=lambda name: end[name])
-        now = end.pop(first)
-        done.add(first)
-        yield now, first, jobs.pop(first)
+        now, first = min((at, name) for name, at in end.items())
+        del end[first]
+        over.add(first)
+        yield now, first
 
 
 class Forecast:
     """Tells the time left, by how fast the crates of this build have been.
 
-    A crate takes as long on four processors as on one: each check first loads all that the crate stands on."""
+    rt tells when a crate is done. When it began follows from the rule by which rt chooses: in each lane one crate, first
+    those for which others wait longest."""
 
-    def __init__(self, uses: Uses, order: Sequence[str], program: str, seconds: Mapping[str, float],
-                 kept: Collection[str] = ()) -> None:
-        """The crates begin in this order, and the program is built behind all of them."""
-        self.uses, self.order, self.program, self.seconds, self.kept = uses, order, program, seconds, kept
-        self.taken = self.foretold = float(TABLE)
+    def __init__(self, uses: Uses, order: Sequence[str], lanes: int, seconds: Mapping[str, float], now: float) -> None:
+        """A build that begins now, of crates in this order."""
+        self.uses, self.order, self.lanes, self.seconds = uses, order, lanes, seconds
+        self.done = set[str]()
+        self.begun = dict[str, float]()
+        # the crates that this build proved, and the seconds of each
+        self.took = dict[str, float]()
+        self.begin(now)
+
+    def begin(self, now: float) -> None:
+        """Notes the crates that begin now."""
+        self.begun.update(dict.fromkeys(begins(self.uses, self.order, self.lanes, self.done, self.begun), now))
+
+    def end(self, name: str, now: float, is_proved: bool = True) -> None:
+        """Notes that a crate is done now: one that is not proved in this build was kept from an earlier one."""
+        begun = self.begun.pop(name, None)
+        if is_proved and begun is not None:
+            self.took[name] = now - begun
+        self.done.add(name)
+        self.begin(now)
 
     def by_table(self, name: str) -> float:
         """Returns how many seconds a crate takes on the machine of the table."""
         return self.seconds.get(name, UNKNOWN)
 
-    def takes(self, name: str) -> float:
-        """Returns how many seconds a crate takes in this build."""
-        return COMPARED if name in self.kept else self.by_table(name) * self.taken / self.foretold
-
-    def took(self, name: str, seconds: float) -> None:
-        """Notes how long a crate took. One that took next to nothing was there from an earlier build."""
-        if name not in self.kept and seconds >= self.takes(name) / KEPT:
-            self.taken += seconds
-            self.foretold += self.by_table(name)
-
-    def left(self, done: Collection[str], at_work: Mapping[str, Running], lanes: int) -> float:
-        """Returns how many seconds are left, where these crates are done and these are at work."""
-        *_, (end, _, _) = [(0.0, "", 0), *ends(self.uses, self.order, lanes, self.takes, done, at_work)]
-        return end + self.takes(self.program)
+    def left(self, now: float) -> float:
+        """Returns how many seconds are left."""
+        speed = (TABLE + sum(self.took.values())) / (TABLE + sum(map(self.by_table, self.took)))
+        since = {name: now - begun for name, begun in self.begun.items()}
+        every = ends(self.uses, self.order, self.lanes, lambda name: speed * self.by_table(name), self.done, since)
+        return max((end for end, _ in every), default=0.0)
 
 
 def in_words(seconds: float) -> str:

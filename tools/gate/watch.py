@@ -19,20 +19,12 @@ import threading
 import time
 
 sys.dont_write_bytecode = True
+from follow import follow  # noqa: E402
 from report import budget_table, by_crate, crate_table, edit_table, share_lines, write_lines  # noqa: E402
 from sampling import Sampler  # noqa: E402
 
 # How many seconds lie between two looks.
 BETWEEN = 0.5
-
-
-def copy(running: subprocess.Popen[str], printed: list[str]) -> None:
-    """Prints each line of the command as it comes, and keeps it."""
-    assert running.stdout is not None
-    for line in running.stdout:
-        sys.stdout.write(line)
-        sys.stdout.flush()
-        printed.append(line.rstrip("\n"))
 
 
 def main() -> int:
@@ -47,7 +39,7 @@ def main() -> int:
         files[words[0]], words = words[1], words[2:]
     sampler, begun, printed = Sampler(), time.time(), list[str]()
     running = subprocess.Popen(words or ["rt", "ci"], stdout=subprocess.PIPE, text=True, errors="replace")
-    reader = threading.Thread(target=copy, args=(running, printed))
+    reader = threading.Thread(target=lambda: printed.extend(follow(running)))
     reader.start()
     while running.poll() is None:
         sampler.look(running.pid)
