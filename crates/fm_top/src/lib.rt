@@ -16,7 +16,6 @@ mod laws;
 mod listing;
 mod memory;
 mod perform;
-mod play;
 mod positions;
 mod read_fault;
 mod run;

@@ -5,18 +5,18 @@ ghost use Rattle.fm_play.specs.Ends.{piece_end};
 ghost use Rattle.fm_play.specs.Performance.{played_of};
 ghost use Rattle.fm_program.specs.Process.{plan_lines};
 ghost use Rattle.fm_read.specs.Files.{Contents, contents};
-ghost use Rattle.fm_read.specs.declared.limits.TheConstants.{MAX_FILE};
+ghost use Rattle.fm_read.specs.declared.limits.TheConstants as files;
 ghost use Rattle.fm_smf.specs.File.{file};
 ghost use Rattle.fm_words.specs.View.{HasRanges, options_view};
 ghost use Rattle.fm_tell.specs.declared.run_fault.RunFault.TheVariants.{Memory};
 
 use crate::growing::GrowingSink;
-use crate::play::play;
 use fm_edge::Gate;
 use fm_play::Played;
 use fm_program::Plan;
 use fm_read::{File, read};
 use fm_tell::RunFault;
+use fm_way::play;
 use fm_words::Options;
 use std::alloc::Global;
 use std::sync::Wait;
@@ -46,7 +46,7 @@ pub fn play_in_memory<R: Threads + Wait + Sync, G: Gate + Sync>(
 
 /// The file that the bytes are, which is known to be one.
 pub fn open_written(bytes: &[u8]) -> File<'_>
-    requires small { length bytes.now ≤ MAX_FILE }
+    requires small { length bytes.now ≤ files.MAX_FILE }
     requires read { (c : Contents) × (contents bytes.now ≡ Ok c) }
     ensures { contents bytes.now ≡ Ok result }
 {

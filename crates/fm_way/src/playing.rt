@@ -1,7 +1,7 @@
 //! Plays a plan: alone, in rounds of threads, or by a crew of threads that run freely.
 ghost use Rattle.fm_edge.specs.Content.{IsNew};
 ghost use Rattle.fm_words.specs.View.{HasRanges, options_view};
-ghost use Rattle.fm_top.specs.Outcome.{Plays};
+ghost use Rattle.fm_way.specs.Ways.{Plays};
 
 use fm_edge::{Gate, Sink};
 use fm_effort::useful_workers;

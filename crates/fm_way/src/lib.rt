@@ -1,0 +1,13 @@
+//! The ways in which a plan is played: by this thread alone, in rounds of threads, by a crew of
+//! threads that run freely, or by a crew on record.
+//!
+//! [`play`] writes the file of the plan's piece in the way that options ask for, [`play_on_record`]
+//! keeps the steps of a crew in memory. What they leave behind is defined in `specs/Ways`. In which
+//! order threads run is left out.
+#![tactic(auto)]
+
+mod playing;
+mod taped;
+
+pub use playing::play;
+pub use taped::{Setup, Tapes, play_on_record};
