@@ -8,3 +8,4 @@ pub mod Reads
 pub mod Rules
 pub mod Table
 pub mod View
+pub mod Making

@@ -12,6 +12,7 @@ mod entry;
 mod item;
 mod laws;
 mod length;
+mod maker;
 mod name;
 mod number;
 mod part_text;
@@ -26,6 +27,7 @@ pub use laws::{
     reading_never_trips, reads_once, table_is_the_grammar, text_reads_or_trips, trips_once,
 };
 pub use length::Length;
+pub use maker::Maker;
 pub use name::Name;
 pub use number::Number;
 pub use part_text::PartText;

@@ -1,7 +1,7 @@
 -- What is said of a text: the plan of what it means, or its fault.
 use Rattle.std.specs.Prelude.{◌≡◌, List, ℕ, Some}
 use Rattle.fm_lex.specs.Tokens.{tokens}
-use Rattle.fm_grammar.specs.Score.{Entry, Score}
+use Rattle.fm_grammar.specs.Score.{Score}
 use Rattle.fm_grammar.specs.Reads.{Reads}
 use Rattle.fm_grammar.specs.Within.{limits}
 use Rattle.fm_meaning.specs.Faults.{score_faults, first_found}
@@ -11,10 +11,7 @@ use Rattle.fm_rules.specs.declared.fault.CheckFault.{CheckFault}
 use Rattle.fm_rules.specs.declared.fault.CheckFault.TheVariants.{Refused, Memory}
 use Rattle.fm_program.specs.Parts.{PlanParts}
 use Rattle.fm_expansion.specs.Numbering.{score_plan}
-use Rattle.fm_parse.specs.Begun.{Begun, IsReadTo, score_of}
 use Rattle.fm_outline.specs.declared.outline.Outline.{Outline}
-use Rattle.fm_outline.specs.declared.sketch.Sketch.{Sketch}
-use Rattle.fm_outline.specs.Sketched.{BeginsFaulty, Outlines}
 use Rattle.fm_check.specs.Made.{IsMadeOf}
 use Rattle.fm_tell.specs.declared.run_fault.RunFault.{RunFault}
 use Rattle.fm_tell.specs.declared.run_fault.RunFault.TheVariants as run
@@ -35,17 +32,6 @@ abbrev pub IsJudged : List ℕ → RunFault → Type 0
 IsJudged text (run.Score spot number) = HasFault text spot.line spot.column number
 IsJudged text run.Memory = Unit {0}
 IsJudged text fault = ⊥
-
--- the fault of the checker is the first one of each score that begins so, or want of memory
-abbrev pub StaysFirst : CheckFault → Score → Type 0
-StaysFirst (Refused why spot) score = BeginsFaulty score spot why
-StaysFirst Memory score = Unit {0}
-
--- of a text the head and some entries were read, and are outlined
-pub record IsSketched (text : List ℕ) (reader : Begun) (sketch : Sketch) : Type 0 where
-  pub done : List Entry
-  pub read : IsReadTo text done reader
-  pub outlined : Outlines sketch (score_of reader.head done)
 
 -- the outline is that of the score as which the text reads, which has no fault of names and numbers
 pub record IsOutlined (text : List ℕ) (o : Outline) : Type 0 where

@@ -1,5 +1,5 @@
 -- Statements that say of themselves whether they fork.
-use Rattle.std.proofs.Common.{◌≡◌, ℕ, zero, suc, ◌+◌, ◌<◌, Bool, true, false, cond, List, [], ◌∷◌, ◌++◌, drop, take, length, Option, Some, None, Result, Ok, Err, refl, ap, sym, subst, ◌∙◌, arith, append-nil, append_assoc, add-one, rules, Vec, Global}
+use Rattle.std.proofs.Common.{◌≡◌, ℕ, zero, suc, ◌+◌, ◌<◌, Bool, true, false, cond, List, [], ◌∷◌, ◌++◌, drop, take, length, Option, Some, None, Result, Ok, Err, refl, ap, sym, subst, ◌∙◌, arith, add-one, rules, Vec, Global}
 use Rattle.std.specs.Prelude.{IfOk, slice_get, slice_index_or, flat_map, vec_items}
 use Rattle.std.proofs.Math.Seq.{drop-cons}
 use Rattle.std.proofs.lemmas.List.{length-append, take_all, take-append-le}
@@ -20,13 +20,6 @@ use Rattle.fm_outline.specs.Refusal.{memory_answer, call_of}
 use Rattle.fm_outline.specs.View.{Look, look_in, phrases_view, step_view}
 use Rattle.fm_outline.proofs.LookLemmas.{get_before, get_end}
 use Rattle.fm_outline.specs.Forking.{inside, called, IsMarked, marked, AreMarked, IsKnownOf, CanMark, Surrounds, PhrasesMarked}
-
--- the statements of one branch more
-flat_more : (bs : List (Vec Step Global)) (b : Vec Step Global)
-    → flat_map vec_items (bs ++ b ∷ []) ≡ flat_map vec_items bs ++ b.items
-flat_more [] b = append-nil b.items
-flat_more (d ∷ bs) b =
-    ap (λ l. d.items ++ l) (flat_more bs b) ∙ sym (append_assoc d.items (flat_map vec_items bs) b.items)
 
 -- ---- what is marked
 
@@ -67,7 +60,7 @@ module _ {look : Look} where
   right_marked (x ∷ xs) ys all = right_marked xs ys (rest_marked x (xs ++ ys) all)
 
   -- one statement
-  one_marked : {s : Step} → IsMarked look s → AreMarked look (s ∷ [])
+  pub one_marked : {s : Step} → IsMarked look s → AreMarked look (s ∷ [])
   one_marked it t zero within is = subst (IsMarked look) (sym is) it
   one_marked it t (suc n) within is = absurd (omega (arith, within))
 
@@ -76,14 +69,6 @@ module _ {look : Look} where
       → IsMarked look s → AreMarked look grown
   more_marked xs s pushed all it =
       subst (AreMarked look) (sym pushed) (both_marked xs (s ∷ []) all (one_marked it))
-
-  -- a branch more
-  pub branch_marked : (bs : List (Vec Step Global)) (b : Vec Step Global) {grown : List (Vec Step Global)}
-      → grown ≡ bs ++ b ∷ [] → AreMarked look (flat_map vec_items bs) → AreMarked look b.items
-      → AreMarked look (flat_map vec_items grown)
-  branch_marked bs b pushed all own =
-      subst (AreMarked look) (sym (ap (flat_map vec_items) pushed ∙ flat_more bs b))
-      (both_marked (flat_map vec_items bs) b.items all own)
 
   -- a block forks where one of its statements says so
   pub block_forks : (xs : List Step) (k : ℕ) (x : Step) → k < length xs → x ≡ slice_index_or xs k x → AreMarked look xs

@@ -1,5 +1,6 @@
 -- What a statement of the code stands for, one kind at a time, whatever else is known where it is read.
-use Rattle.std.proofs.Common.{◌≡◌, ℕ, List, map, sym, ap, ◌∙◌, Vec, Global}
+use Rattle.std.proofs.Common.{◌≡◌, ℕ, List, map, sym, ap, ◌∙◌, rules, Vec, Global}
+use Rattle.fm_lex.specs.declared.spot.Spot.{Spot}
 use Rattle.std.specs.Global.{Box}
 use Rattle.fm_value.specs.declared.expr.Expr.{Expr}
 use Rattle.fm_grammar.specs.declared.number.Number.{Number}
@@ -8,7 +9,7 @@ use Rattle.fm_grammar.specs.declared.length.Length.{Length}
 use Rattle.fm_grammar.specs.declared.pitch.Pitch as code_pitch
 use Rattle.fm_grammar.specs.declared.amount.Amount as code_amount
 use Rattle.fm_grammar.specs.declared.duration.Duration as code_duration
-use Rattle.fm_grammar.specs.declared.item.Item.{Item}
+use Rattle.fm_grammar.specs.declared.item.Item.{Item, the_lemmas}
 use Rattle.fm_grammar.specs.declared.item.What.{What}
 use Rattle.fm_grammar.specs.declared.item.What.TheVariants as code
 use Rattle.fm_grammar.specs.Score.{Stmt}
@@ -19,6 +20,14 @@ use Rattle.fm_grammar.proofs.StatementViews.{seen, note_seen, play_seen, rest_se
 -- a statement of the code of a known kind
 of_kind : (i : Item) (w : What) (s : Stmt) → i.what ≡ w → seen i.spot w ≡ placed i.spot s → (item_view i).what ≡ s
 of_kind i w s is at_spot = ap (λ (x : What). (seen i.spot x).what) is ∙ ap PlacedStmt.what at_spot
+
+-- the spot of a statement
+pub item_spot : (i : Item) → (item_view i).spot ≡ i.spot
+item_spot i = search (rules, the_lemmas)
+
+-- a statement at its spot
+pub at_its_spot : {s : Stmt} (i : Item) → (item_view i).what ≡ s → item_view i ≡ placed i.spot s
+at_its_spot {s} i is = ap (λ (x : Spot). placed x (item_view i).what) (item_spot i) ∙ ap (λ x. placed i.spot x) is
 
 -- a note
 pub note_what : (i : Item) (a : Vec code_pitch.Pitch Global) (d : code_duration.Duration) (l : List code_pitch.Pitch)

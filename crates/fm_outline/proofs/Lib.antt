@@ -14,4 +14,9 @@ pub mod WalkLemmas
 pub mod SketchLemmas
 pub mod MapLemmas
 pub mod ShellLemmas
+pub mod FilledLemmas
+pub mod TreeLemmas
+pub mod CallLemmas
+pub mod BlockLemmas
+pub mod EntryLemmas
 pub mod GreatestLemmas

@@ -1,6 +1,6 @@
 -- What a refusal tells.
 use Rattle.std.proofs.Common.{◌≡◌, List, [], ◌∷◌, ◌++◌, ◌∙◌, sym, ap, refl, Option, Some, None, Result, Ok, Err, IsErrAnd, subst}
-use Rattle.std.specs.Prelude.{⊤, IfOk}
+use Rattle.std.specs.Prelude.{⊤, IfOk, IfErr}
 use Rattle.std.specs.declared.alloc.AllocError.{AllocError}
 use Rattle.fm_lex.specs.declared.spot.Spot.{Spot}
 use Rattle.fm_meaning.specs.Fault.{NumberedFault}
@@ -18,6 +18,11 @@ pub handed : {A B E : Type 0} {r : Result A E} {e f : E} → r ≡ Err f → IsE
     → let x : Result B E = Err e in x ≡ Err f
 handed {r = Ok x} is given = absurd given
 handed {r = Err y} {f = f} is given = let same : y ≡ f = cc in ap Err (sym given ∙ same)
+
+-- what holds of all that holds in an answer
+pub ok_more : {A E : Type 0} {P Q : A → Type 0} (r : Result A E) → ((x : A) → P x → Q x) → IfOk r P → IfOk r Q
+ok_more (Ok x) more holds = more x holds
+ok_more (Err e) more holds = tt
 
 -- a list without a first fault has none
 pub no_first : (fs : List NumberedFault) → None ≡ first_found fs → fs ≡ []
@@ -56,6 +61,16 @@ pub handed_tells : {B : Type 0} (fs gs : List NumberedFault) (Q : B → Type 0) 
 handed_tells fs gs Q (Ok x) e is told more = absurd is
 handed_tells fs gs Q (Err y) (Refused why spot) is told more = subst (Told gs) (sym is) (more (fault_at spot why) told)
 handed_tells fs gs Q (Err y) Memory is told more = subst (Told gs) (sym is) tt
+
+-- what `?` hands on tells what it was given, and is no other answer
+pub handed_told : {B : Type 0} (fs : List NumberedFault) (r : Result B CheckFault) (e : CheckFault) → IsErrAnd r (λ y. y ≡ e)
+    → Told fs e → IfErr r (Told fs)
+handed_told fs (Ok x) e is told = tt
+handed_told fs (Err y) e is told = subst (Told fs) (sym is) told
+
+pub handed_none : {B : Type 0} (P : B → Type 0) (r : Result B CheckFault) (e : CheckFault) → IsErrAnd r (λ y. y ≡ e) → IfOk r P
+handed_none P (Ok x) e is = absurd is
+handed_none P (Err y) e is = tt
 
 -- a check that finds a fault
 pub checked_tells : {e : CheckFault} (r : Result ⊤ Fault) (fs : List NumberedFault)

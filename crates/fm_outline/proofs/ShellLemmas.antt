@@ -5,6 +5,7 @@ use Rattle.std.specs.List.{list_any}
 use Rattle.std.specs.Str.{bytes_eq}
 use Rattle.std.specs.declared.alloc.AllocError.{AllocError}
 use Rattle.fm_rules.specs.declared.fault.CheckFault.{CheckFault}
+use Rattle.fm_rules.specs.declared.fault.CheckFault.TheVariants.{Memory}
 use Rattle.fm_rules.specs.declared.why.Why.TheVariants.{UnknownName}
 use Rattle.fm_rules.specs.Why.{fault_at}
 use Rattle.fm_grammar.specs.Score as text
@@ -17,9 +18,11 @@ use Rattle.fm_expansion.specs.Numbering.{Catalogue, numbered, instruction_of, bl
 use Rattle.fm_outline.specs.declared.shell.Shell.{Shell}
 use Rattle.fm_outline.specs.declared.shell.Shell.TheVariants as shell
 use Rattle.fm_outline.specs.declared.step.Instruction.{Instruction}
+use Rattle.fm_outline.specs.declared.begun.Beginning.TheVariants.{Block}
+use Rattle.fm_outline.specs.Begun.{Begins, OpensBlock, with_blocks}
 use Rattle.fm_outline.specs.Knows.{labels, names_of, number_or_told}
 use Rattle.fm_outline.specs.Shell.{closed_behind, opened, opened_warp, Opens}
-use Rattle.fm_outline.specs.Refusal.{Tells, call_of}
+use Rattle.fm_outline.specs.Refusal.{Told, Tells, call_of}
 use Rattle.fm_outline.specs.View.{Look, phrase_at, instruction_view}
 use Rattle.fm_outline.proofs.NameLemmas.{number_clean}
 use Rattle.fm_outline.proofs.RefusalLemmas.{before, behind}
@@ -79,3 +82,23 @@ call_tells k t look name None m is at known found =
     subst (Tells (stmt_faults (names_of k) (text.call name))
     (λ i. numbered (instruction_view look i) t ≡ instruction_of k (text.call name) t)) (sym (is ∙ ap call_of at))
     (unknown_first name (labels k.phrases) known)
+
+-- ---- answers
+
+-- a statement without a block is not opened
+pub not_opened : (k : Catalogue) (s : text.Stmt) (t u : plain.Tables) → OpensBlock k s t u (Err Memory)
+not_opened k (text.choice test y n) t u = refl
+not_opened k s t u = λ b. tt
+
+-- what is said before the block
+pub block_begins : (k : Catalogue) (s : text.Stmt) (t u : plain.Tables) (o : Shell) → OpensBlock k s t u (Ok o)
+    → Begins k s t u (Block o)
+block_begins k (text.choice test y n) t u o is = cc
+block_begins k s t u o opens = opens
+
+-- a fault before the blocks is the first one
+pub opening_told : (k : Catalogue) (s : text.Stmt) (t u : plain.Tables) (e : CheckFault) (y n : text.Body)
+    → OpensBlock k s t u (Err e) → Told (stmt_faults (names_of k) (with_blocks s y n)) e
+opening_told k (text.choice test a b) t u e y n is =
+    let same : e ≡ Memory = cc in subst (Told (stmt_faults (names_of k) (text.choice test y n))) (sym same) tt
+opening_told k s t u e y n opens = opens y

@@ -5,13 +5,13 @@ use Rattle.std.specs.List.{list_any}
 use Rattle.std.specs.Str.{bytes_eq}
 use Rattle.std.proofs.lemmas.List.{map-append, length-append}
 use lib.ListN.{get_or-map}
-use Rattle.fm_lex.specs.declared.spot.Spot.{Spot}
 use Rattle.fm_names.specs.Named.{named}
 use Rattle.fm_names.specs.declared.names.Names as table
 use Rattle.fm_warp.specs.declared.part.Part.{Part}
 use Rattle.fm_warp.specs.declared.warp.TheConstants.{MAX_PARTS}
 use Rattle.fm_grammar.specs.declared.part_text.PartText.{PartText}
 use Rattle.fm_grammar.specs.Score as text
+use Rattle.fm_grammar.specs.View.{PlacedStmt}
 use Rattle.fm_meaning.specs.Resolve.{part_of, meaning_of, named_as}
 use Rattle.fm_meaning.specs.Fault.{NumberedFault, fault_if, double_name}
 use Rattle.fm_meaning.specs.Faults.{first_found}
@@ -27,7 +27,8 @@ use Rattle.fm_outline.specs.declared.step.Step.{Step}
 use Rattle.fm_outline.specs.View.{Look, phrase_at, look_in, phrases_view, instruction_view, step_view, block_view}
 use Rattle.fm_outline.specs.Growing.{followed}
 use Rattle.fm_outline.specs.Knows.{Knows, labels, names_of, phrase_number, shape_index}
-use Rattle.fm_outline.specs.Forking.{AreMarked, IsKnownOf, IsMarked}
+use Rattle.fm_outline.specs.Outlined.{IsStepOf, IsBlockOf}
+use Rattle.fm_outline.specs.Forking.{AreMarked, IsKnownOf}
 use Rattle.fm_outline.specs.Walked.{Extends, WalkedBy}
 use Rattle.fm_outline.proofs.NameLemmas.{either_of, either_known, other_kind, double_is, new_behind}
 use Rattle.fm_outline.proofs.PhraseLemmas.{phrases_more}
@@ -74,33 +75,29 @@ module _ {score : text.Score} {known : Known} {phrases : List (List Step)} {bloc
   knows_here r = r.knows _ (λ n within. refl)
 
   -- a statement more
-  pub play_walked : {spot : Spot} {stmt : text.Stmt} {rest : List text.Entry} {grown : List Step} (u : plain.Tables) (s : Step)
-      → WalkedBy score known phrases block t (text.plays spot stmt ∷ rest) → grown ≡ block ++ s ∷ []
-      → ((k : Catalogue) (look : Look) → Knows known look k
-      → (first_found (stmt_faults (names_of k) stmt) ≡ None)
-      × ((s.spot ≡ spot) × (numbered (instruction_view look s.what) u ≡ instruction_of k stmt t)))
-      → ((k : Catalogue) (look : Look) → Knows known look k → IsMarked look s)
-      → WalkedBy score known phrases grown u rest
-  play_walked {spot = spot} {stmt = stmt} {rest = rest} u s r pushed is says = record {
+  pub play_walked : {stmt : PlacedStmt} {rest : List text.Entry} {grown : List Step} (u : plain.Tables) (s : Step)
+      → WalkedBy score known phrases block t (text.plays stmt.spot stmt.what ∷ rest) → grown ≡ block ++ s ∷ []
+      → IsStepOf known t stmt s u → WalkedBy score known phrases grown u rest
+  play_walked {stmt = stmt} {rest = rest} u s r pushed made = record {
     k = r.k;
     first =
         r.first
-        ∙ behind (stmt_faults (names_of r.k) stmt) (entries_faults (names_of r.k) rest)
-        (sym (is r.k _ (knows_here r)).0);
+        ∙ behind (stmt_faults (names_of r.k) stmt.what) (entries_faults (names_of r.k) rest)
+        (sym (made.view r.k _ (knows_here r)).0);
     knows = r.knows;
     stand = r.stand;
     so_far = λ look more.
         let steps = map (step_view look) block in
         let what = instruction_view look s.what in
-        let here = (is r.k look (r.knows look more)).1 in
-        let seen : step_view look s ≡ placed spot what = step_seen look s ∙ ap (λ p. placed p what) here.0 in
+        let here = (made.view r.k look (r.knows look more)).1 in
+        let seen : step_view look s ≡ placed stmt.spot what = step_seen look s ∙ ap (λ p. placed p what) made.spot in
         r.so_far look more
-        ∙ placed_more (outline_from r.k rest) spot steps what (instruction_of r.k stmt t) u here.1
+        ∙ placed_more (outline_from r.k rest) stmt.spot steps what (instruction_of r.k stmt.what t) u here
         ∙ ap (λ p. followed (steps ++ p ∷ []) (outline_from r.k rest u)) (sym seen)
         ∙ ap (λ l. followed l (outline_from r.k rest u)) (sym (map-append (step_view look) block (s ∷ [])))
         ∙ ap (λ l. followed (map (step_view look) l) (outline_from r.k rest u)) (sym pushed);
     as_many = r.as_many;
-    marked = λ look more. more_marked block s pushed (r.marked look more) (says r.k look (r.knows look more));
+    marked = λ look more. more_marked block s pushed (r.marked look more) (made.marked r.k look (r.knows look more));
     phrases_marked = r.phrases_marked;
   }
 
@@ -129,16 +126,14 @@ module _ {score : text.Score} {known : Known} {phrases : List (List Step)} {bloc
                   ap (λ o. unwrap_or (shape_index o) 0) (defined q)
                   ∙ either_of (λ o. unwrap_or (shape_index o) 0) (bytes_eq q name.text) (Shape p) (named known.names q)
                   (length t.warps) (meaning_of q 0 r.k.shapes) at (knows.shapes q);
-              phrases = λ q.
-                  ap (λ o. phrase_at look (phrase_number o)) (defined q)
+              phrases = λ q. ap (λ o. phrase_at look (phrase_number o)) (defined q)
                   ∙ other_kind (λ o. phrase_at look (phrase_number o)) q name.text (Shape p) (named known.names) new refl
                   ∙ knows.phrases q;
               is_shape = λ q.
                   ap (λ o. is_some (shape_index o)) (defined q)
                   ∙ either_known (λ o. is_some (shape_index o)) (bytes_eq q name.text) (Shape p) (named known.names q)
                   (list_any (bytes_eq q) (labels r.k.shapes)) refl (knows.is_shape q);
-              is_phrase = λ q.
-                  ap (λ o. is_some (phrase_number o)) (defined q)
+              is_phrase = λ q. ap (λ o. is_some (phrase_number o)) (defined q)
                   ∙ other_kind (λ o. is_some (phrase_number o)) q name.text (Shape p) (named known.names) new refl
                   ∙ knows.is_phrase q;
               forking = λ q.
@@ -164,18 +159,16 @@ module _ {score : text.Score} {known : Known} {phrases : List (List Step)} {bloc
       → WalkedBy score known phrases block t (text.phrase name body ∷ rest) → named known.names name.text ≡ None
       → p ≡ length phrases → grown ≡ phrases ++ steps ∷ []
       → ((q : List ℕ) → named names q ≡ cond (bytes_eq q name.text) (Some (Phrase p)) (named known.names q))
-      → ((k : Catalogue) (look : Look) → Knows known look k → (first_found (body_faults (names_of k) body) ≡ None)
-      × (numbered (block_view look steps) u ≡ block_of k body t))
-      → forking.items ≡ known.forking.items ++ b ∷ []
-      → ((k : Catalogue) (look : Look) → Knows known look k → AreMarked look steps × (b ≡ forks_in (block_view look steps)))
+      → IsBlockOf known t body steps u → forking.items ≡ known.forking.items ++ b ∷ []
+      → ((look : Look) → AreMarked look steps → b ≡ forks_in (block_view look steps))
       → WalkedBy score (record known { names = names; forking = forking }) grown block u rest
-  phrase_walked {name = name} {body = body} {rest = rest} {names = names} {grown = grown} u p steps b r new at pushed defined is
+  phrase_walked {name = name} {body = body} {rest = rest} {names = names} {grown = grown} u p steps b r new at pushed defined made
       flagged says =
       let blocks = phrases_view phrases in
       let value = (block_of r.k body t).value in
       let k : Catalogue = record r.k { phrases = named_as name value ∷ r.k.phrases } in
       let here : (look : Look) → Extends blocks look → numbered (block_view look steps) u ≡ block_of r.k body t
-      = λ look more. (is r.k look (r.knows look more)).1 in
+      = λ look more. (made.view r.k look (r.knows look more)).1 in
       let itself : Extends blocks (look_in blocks) = λ n within. refl in
       let last = block_view (look_in blocks) steps in
       let last_is : last ≡ value = ap (λ x. x.value) (here (look_in blocks) itself) in
@@ -188,7 +181,7 @@ module _ {score : text.Score} {known : Known} {phrases : List (List Step)} {bloc
             let knows = knows_here r in
             r.first
             ∙ behind (double_faults name (names_of r.k) ++ body_faults (names_of r.k) body) (entries_faults (names_of k) rest)
-            (sym (new_behind name (body_faults (names_of r.k) body) knows new ∙ (is r.k _ knows).0));
+            (sym (new_behind name (body_faults (names_of r.k) body) knows new ∙ (made.view r.k _ knows).0));
         knows = λ look more.
             let knows = r.knows look (fewer look more) in
             let found : look p ≡ value
@@ -215,7 +208,7 @@ module _ {score : text.Score} {known : Known} {phrases : List (List Step)} {bloc
               forking = λ q.
                   let fs = known.forking.items in
                   let own : b ≡ forks_in (look p)
-                  = (says r.k look knows).1 ∙ ap forks_in (ap (λ x. x.value) (here look (fewer look more)) ∙ sym found) in
+                  = says look (made.marked r.k look knows) ∙ ap forks_in (ap (λ x. x.value) (here look (fewer look more)) ∙ sym found) in
                   subst (λ l. IsKnownOf l look (phrase_number (named names q))) (sym flagged)
                   (subst (λ o. IsKnownOf (fs ++ b ∷ []) look (phrase_number o)) (sym (defined q))
                   (known_either look fs b p (bytes_eq q name.text) (named known.names q) (at ∙ sym r.as_many) own (knows.forking q)));
@@ -236,19 +229,16 @@ module _ {score : text.Score} {known : Known} {phrases : List (List Step)} {bloc
             ∙ omega (arith, length-append known.forking.items (b ∷ []), length-append phrases (steps ∷ []), r.as_many, ap length pushed);
         marked = λ look more. r.marked look (fewer look more);
         phrases_marked =
-            phrases_more_marked phrases steps pushed r.phrases_marked (says r.k _ (knows_here r)).0;
+            phrases_more_marked phrases steps pushed r.phrases_marked (made.marked r.k _ (knows_here r));
       }
 
   -- ---- entries with a fault
 
-  -- a statement that is played
-  pub play_refused : {spot : Spot} {stmt : text.Stmt} {rest : List text.Entry}
-      → WalkedBy score known phrases block t (text.plays spot stmt ∷ rest) → (f : NumberedFault)
-      → ((k : Catalogue) (look : Look) → Knows known look k → first_found (stmt_faults (names_of k) stmt) ≡ Some f)
+  -- a first fault of the first entry
+  pub first_refused : {e : text.Entry} {rest : List text.Entry} → WalkedBy score known phrases block t (e ∷ rest) → (f : NumberedFault)
+      → ((k : Catalogue) (look : Look) → Knows known look k → first_found (entries_faults (names_of k) (e ∷ rest)) ≡ Some f)
       → first_found (second_walk score) ≡ Some f
-  play_refused {stmt = stmt} {rest = rest} r f told =
-      r.first
-      ∙ before (stmt_faults (names_of r.k) stmt) (entries_faults (names_of r.k) rest) f (told r.k _ (knows_here r))
+  first_refused r f told = r.first ∙ told r.k _ (knows_here r)
 
   -- a name that is defined before, in front of what stands behind it
   pub name_refused : {e : text.Entry} {rest : List text.Entry} → WalkedBy score known phrases block t (e ∷ rest) → (name : text.Leaf)

@@ -5,7 +5,10 @@ pub mod InRange
 pub mod Knows
 pub mod Refusal
 pub mod Forking
+pub mod Outlined
 pub mod Growing
 pub mod Walked
 pub mod Sketched
+pub mod Outlining
 pub mod Shell
+pub mod Begun

@@ -1,9 +1,9 @@
 -- How far the walk over the entries of a score has come.
-use Rattle.std.specs.Prelude.{◌≡◌, ℕ, ◌<◌, List, ◌∷◌, map, length, vec_items, Some}
+use Rattle.std.specs.Prelude.{◌≡◌, ℕ, ◌<◌, List, ◌∷◌, map, length, vec_items, None, Some}
 use Rattle.fm_lex.specs.declared.spot.Spot.{Spot}
-use Rattle.fm_grammar.specs.declared.item.Item.{Item}
 use Rattle.fm_grammar.specs.Score as text
-use Rattle.fm_grammar.specs.View.{item_view}
+use Rattle.fm_grammar.specs.View.{PlacedStmt}
+use Rattle.fm_names.specs.Named.{named}
 use Rattle.fm_meaning.specs.Faults.{first_found}
 use Rattle.fm_meaning.specs.Ranges.{entries_faults, second_walk}
 use Rattle.fm_rules.specs.Why.{fault_at}
@@ -17,10 +17,7 @@ use Rattle.fm_outline.specs.View.{Look, look_in, phrases_view, step_view, block_
 use Rattle.fm_outline.specs.Growing.{followed}
 use Rattle.fm_outline.specs.Knows.{Knows, names_of}
 use Rattle.fm_outline.specs.Forking.{AreMarked, PhrasesMarked}
-
--- a statement of the code as an entry of the score
-abbrev pub played : Item → text.Entry
-played i = text.plays (item_view i).spot (item_view i).what
+use Rattle.fm_outline.specs.Outlined.{IsStepOf, IsBlockOf}
 
 -- these phrases stand for what they are, whatever phrases are behind them
 abbrev pub Extends : List plain.Block → Look → Type 0
@@ -44,6 +41,24 @@ pub record WalkedBy (score : text.Score) (known : Known) (phrases : List (List S
 abbrev pub Walked : text.Score → Walk → List text.Entry → Type 0
 Walked score w rest =
     WalkedBy score w.known (map vec_items w.phrases.items) w.block.items (tables_view w.tables) rest
+
+-- the same, where the tables are those before the first of the entries that are left
+abbrev pub WalkedFrom : text.Score → Walk → plain.Tables → List text.Entry → Type 0
+WalkedFrom score w t rest = WalkedBy score w.known (map vec_items w.phrases.items) w.block.items t rest
+
+-- a statement that was outlined is appended between two walks
+abbrev pub StepAppended : Walk → Step → Walk → Type 0
+StepAppended w step u =
+    (score : text.Score) (rest : List text.Entry) (stmt : PlacedStmt) (t : plain.Tables)
+    → WalkedFrom score w t (text.plays stmt.spot stmt.what ∷ rest)
+    → IsStepOf w.known t stmt step (tables_view w.tables) → Walked score u rest
+
+-- a phrase that was outlined is defined between two walks
+abbrev pub PhraseDefined : Walk → text.Leaf → List Step → Walk → Type 0
+PhraseDefined w name steps u =
+    (score : text.Score) (rest : List text.Entry) (b : text.Body) (t : plain.Tables)
+    → WalkedFrom score w t (text.phrase name b ∷ rest) → named w.known.names name.text ≡ None
+    → IsBlockOf w.known t b steps (tables_view w.tables) → Walked score u rest
 
 -- an entry is done between two walks
 abbrev pub EntryDone : Walk → text.Entry → Walk → Type 0

@@ -6,12 +6,14 @@
 //! its number.
 #![tactic(auto)]
 
+mod begun;
 mod fork;
 mod known;
 mod lasting;
 mod leaf;
 mod number;
 mod outline;
+mod outliner;
 mod quality;
 mod refusal;
 mod shell;
@@ -19,12 +21,15 @@ mod sketch;
 mod statement;
 mod step;
 mod tables;
+mod tree;
 mod value;
 mod walk;
 
+pub use begun::Begun;
 pub use lasting::Lasting;
 pub use outline::Outline;
+pub use outliner::Outliner;
 pub use quality::Quality;
-pub use sketch::{Sketch, outline_of};
 pub use step::{Instruction, Step};
 pub use tables::Tables;
+pub use tree::outline_of;

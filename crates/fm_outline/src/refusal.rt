@@ -1,6 +1,7 @@
 //! What the checks of a statement answer, and what is made of it, as an answer of the walk.
 
 ghost use Rattle.std.specs.Prelude.{◌≡◌};
+ghost use Rattle.std.specs.Result.{result_err};
 ghost use Rattle.fm_outline.specs.Refusal.{answer_of, call_of, memory_answer};
 
 use crate::step::Instruction;
@@ -14,6 +15,16 @@ pub(crate) fn answered(check: Result<(), Fault>) -> Result<(), CheckFault>
     match check {
         Ok(()) => Ok(()),
         Err(fault) => Err(refused(fault)),
+    }
+}
+
+/// Want of memory, as the fault that it is.
+pub(crate) fn lacking(done: Result<(), AllocError>) -> Option<CheckFault>
+    ensures { result ≡ result_err (memory_answer done) }
+{
+    match done {
+        Ok(()) => None,
+        Err(_) => Some(CheckFault::Memory),
     }
 }
 

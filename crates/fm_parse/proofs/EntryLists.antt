@@ -1,11 +1,10 @@
 -- Entries, one behind another.
-use Rattle.std.proofs.Common.{◌≡◌, ℕ, ◌<◌, List, [], ◌∷◌, ◌++◌, Option, None, Result, Err, length, refl, sym, ap, ◌∙◌, subst, arith}
+use Rattle.std.proofs.Common.{◌≡◌, ℕ, ◌<◌, List, [], ◌∷◌, ◌++◌, Option, None, Bool, Result, Err, length, refl, sym, ap, ◌∙◌, subst, arith}
 use Rattle.std.specs.Prelude.{◌≢◌}
 use Rattle.fm_lex.specs.declared.kind.Kind.TheVariants.{Name}
 use Rattle.fm_lex.specs.declared.kind.Kind.TheVariants as kinds
 use Rattle.fm_lex.specs.declared.keyword.Keyword.TheVariants.{Shape, Phrase}
 use Rattle.fm_lex.specs.Tokens.{Lexed}
-use Rattle.fm_grammar.specs.declared.entry.Entry as code_entry
 use Rattle.fm_grammar.specs.Grammar.{EntryForm, shape, phrase, plays, EntriesForm, no_entry, entry}
 use Rattle.fm_grammar.specs.Signs.{semicolon, equals, tok}
 use Rattle.fm_grammar.specs.Spelling.{entry_text, entries_text, part_text}
@@ -24,7 +23,7 @@ use Rattle.fm_terms.proofs.Lengths.{part_more}
 use Rattle.fm_parse.proofs.StmtLengths.{listed_more, block_more, stmt_more}
 
 -- an answer that hands a fault on
-pub entry_stopped : (F : Option Fault) (below : List Sym) (r : Result (Option code_entry.Entry) ParseFault)
+pub entry_stopped : (F : Option Fault) (below : List Sym) (r : Result Bool ParseFault)
     (e : ParseFault) (new : List Lexed)
     → r ≡ Err e → Says e F → EntryLeads F below r new
 entry_stopped F below r e new is says = subst (λ x. EntryLeads F below x new) (sym is) says

@@ -7,7 +7,6 @@ use Rattle.fm_lex.specs.declared.spot.Spot.{Spot}
 use Rattle.fm_value.specs.declared.expr.Expr.{Expr}
 use Rattle.fm_grammar.specs.declared.number.Number.{Number}
 use Rattle.fm_grammar.specs.declared.name.Name.{Name}
-use Rattle.fm_grammar.specs.declared.length.Length.{Length}
 use Rattle.fm_grammar.specs.declared.pitch.Pitch as code_pitch
 use Rattle.fm_grammar.specs.declared.amount.Amount as code_amount
 use Rattle.fm_grammar.specs.declared.duration.Duration as code_duration
@@ -16,7 +15,7 @@ use Rattle.fm_grammar.specs.declared.item.What.TheVariants as code
 use Rattle.fm_grammar.specs.Score.{Body, Branches, Postfix, Leaf}
 use Rattle.fm_grammar.specs.Score as tree
 use Rattle.fm_grammar.specs.View.{placed, pitch_view, duration_view, amount_view, expr_view, name_view, items_view}
-use Rattle.fm_grammar.proofs.StatementViews.{seen, note_seen, play_seen, rest_seen, control_seen, program_seen, bend_seen, set_seen, repeat_seen, again_seen, call_seen, par_seen, warp_seen, channel_seen, volume_seen, gate_seen, rhythm_seen, artic_seen, loud_seen}
+use Rattle.fm_grammar.proofs.StatementViews.{seen, note_seen, play_seen, rest_seen, control_seen, set_seen, repeat_seen, again_seen, call_seen, par_seen}
 use Rattle.fm_parse.specs.Statements.{bodies_view}
 
 -- a note
@@ -44,27 +43,10 @@ pub control_view : (s : Spot) (a : Number) (b : code_amount.Amount)
 control_view s a b x y p q =
     control_seen s a b ∙ ap₂ (λ (v : Number) (w : tree.Amount). placed s (tree.control v w)) p q
 
--- a program change
-pub program_view : (s : Spot) (a : code_amount.Amount) (x : tree.Amount) → amount_view a ≡ x
-    → seen s (code.Program a) ≡ placed s (tree.program x)
-program_view s a x p = program_seen s a ∙ ap (λ (v : tree.Amount). placed s (tree.program v)) p
-
--- a pitch bend
-pub bend_view : (s : Spot) (a : code_amount.Amount) (x : tree.Amount) → amount_view a ≡ x
-    → seen s (code.Bend a) ≡ placed s (tree.bend x)
-bend_view s a x p = bend_seen s a ∙ ap (λ (v : tree.Amount). placed s (tree.bend v)) p
-
 -- the setting of a register
 pub set_view : (s : Spot) (a : ℕ) (b : Box Expr) (x : ℕ) (y : Postfix) → a ≡ x → expr_view b.value ≡ y
     → seen s (code.Set a b) ≡ placed s (tree.set x y)
 set_view s a b x y p q = set_seen s a b ∙ ap₂ (λ (v : ℕ) (w : Postfix). placed s (tree.set v w)) p q
-
--- a choice
-pub choice_stands : (s : Spot) (a x : Postfix) (b y c z : Body) → a ≡ x → b ≡ y → c ≡ z
-    → placed s (tree.choice a b c) ≡ placed s (tree.choice x y z)
-choice_stands s a x b y c z p q r =
-    ap₂ (λ (v : Postfix) (w : Body). placed s (tree.choice v w c)) p q
-    ∙ ap (λ (v : Body). placed s (tree.choice x y v)) r
 
 -- a loop with a fixed count
 pub repeat_view : (s : Spot) (a : Number) (b : Vec Item Global)
@@ -91,51 +73,3 @@ call_view s a x p = call_seen s a ∙ ap (λ (v : Leaf). placed s (tree.call v))
 pub par_view : (s : Spot) (a : Vec (Vec Item Global) Global) (x : Branches) → bodies_view a.items ≡ x
     → seen s (code.Par a) ≡ placed s (tree.par x)
 par_view s a x p = par_seen s a ∙ ap (λ (v : Branches). placed s (tree.par v)) p
-
--- a block under a deformation
-pub warp_view : (s : Spot) (a : Name) (b : Vec Item Global)
-    (x : Leaf) (y : Body) → name_view a ≡ x → items_view b.items ≡ y
-    → seen s (code.Warp a b) ≡ placed s (tree.warp x y)
-warp_view s a b x y p q = warp_seen s a b ∙ ap₂ (λ (v : Leaf) (w : Body). placed s (tree.warp v w)) p q
-
--- a block on a channel
-pub channel_view : (s : Spot) (a : Number) (b : Vec Item Global)
-    (x : Number) (y : Body) → a ≡ x → items_view b.items ≡ y
-    → seen s (code.Channel a b) ≡ placed s (tree.channel x y)
-channel_view s a b x y p q =
-    channel_seen s a b ∙ ap₂ (λ (v : Number) (w : Body). placed s (tree.channel v w)) p q
-
--- a block with a volume
-pub volume_view : (s : Spot) (a : Number) (b : Vec Item Global)
-    (x : Number) (y : Body) → a ≡ x → items_view b.items ≡ y
-    → seen s (code.Volume a b) ≡ placed s (tree.volume x y)
-volume_view s a b x y p q =
-    volume_seen s a b ∙ ap₂ (λ (v : Number) (w : Body). placed s (tree.volume v w)) p q
-
--- a block with an articulation
-pub gate_view : (s : Spot) (a : Number) (b : Vec Item Global)
-    (x : Number) (y : Body) → a ≡ x → items_view b.items ≡ y
-    → seen s (code.Gate a b) ≡ placed s (tree.gate x y)
-gate_view s a b x y p q =
-    gate_seen s a b ∙ ap₂ (λ (v : Number) (w : Body). placed s (tree.gate v w)) p q
-
--- a block with a list of lengths
-pub rhythm_view : (s : Spot) (a : Vec Length Global) (b : Vec Item Global)
-    (x : List Length) (y : Body) → a.items ≡ x → items_view b.items ≡ y
-    → seen s (code.Rhythm a b) ≡ placed s (tree.rhythm x y)
-rhythm_view s a b x y p q =
-    rhythm_seen s a b ∙ ap₂ (λ (v : List Length) (w : Body). placed s (tree.rhythm v w)) p q
-
--- a block with a list of articulations
-pub artic_view : (s : Spot) (a : Vec Number Global) (b : Vec Item Global)
-    (x : List Number) (y : Body) → a.items ≡ x → items_view b.items ≡ y
-    → seen s (code.Artic a b) ≡ placed s (tree.artic x y)
-artic_view s a b x y p q =
-    artic_seen s a b ∙ ap₂ (λ (v : List Number) (w : Body). placed s (tree.artic v w)) p q
-
--- a block with a list of velocities
-pub loud_view : (s : Spot) (a : Vec Number Global) (b : Vec Item Global)
-    (x : List Number) (y : Body) → a.items ≡ x → items_view b.items ≡ y
-    → seen s (code.Loud a b) ≡ placed s (tree.loud x y)
-loud_view s a b x y p q =
-    loud_seen s a b ∙ ap₂ (λ (v : List Number) (w : Body). placed s (tree.loud v w)) p q

@@ -10,3 +10,4 @@ pub mod Heads
 pub mod Verdicts
 pub mod EntryLists
 pub mod Onward
+pub mod Built

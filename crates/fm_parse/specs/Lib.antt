@@ -3,3 +3,5 @@ pub mod Sorts
 pub mod Openings
 pub mod Whole
 pub mod Begun
+pub mod Made
+pub mod Building

@@ -1,15 +1,14 @@
 -- What the reading of a whole text answers.
-use Rattle.std.specs.Prelude.{◌≡◌, ◌⊎◌, ℕ, Bool, ◌&&◌, ◌==◌, List, [], ◌∷◌, Option, Some, None, Result, Ok, Err}
+use Rattle.std.specs.Prelude.{◌≡◌, ◌⊎◌, ℕ, Bool, true, false, ◌&&◌, ◌==◌, List, [], ◌∷◌, Option, None, Result, Ok, Err}
 use Rattle.fm_lex.specs.declared.kind.Kind.TheVariants.{Name}
 use Rattle.fm_lex.specs.declared.kind.Kind.TheVariants as kinds
 use Rattle.fm_lex.specs.declared.keyword.Keyword.TheVariants.{Formula, Shape, Phrase}
 use Rattle.fm_lex.specs.Tokens.{Lexed}
 use Rattle.fm_grammar.specs.declared.number.Number.{Number}
-use Rattle.fm_grammar.specs.declared.entry.Entry as code_entry
 use Rattle.fm_grammar.specs.declared.score.Score as code_score
-use Rattle.fm_grammar.specs.Score.{Leaf, Score}
-use Rattle.fm_grammar.specs.View.{entry_view, score_view}
-use Rattle.fm_grammar.specs.Grammar.{NumForm, DivisionForm, SeedForm}
+use Rattle.fm_grammar.specs.Score.{Leaf, Entry, Score}
+use Rattle.fm_grammar.specs.View.{score_view}
+use Rattle.fm_grammar.specs.Grammar.{NumForm, DivisionForm, SeedForm, EntryForm}
 use Rattle.fm_grammar.specs.Signs.{tok, key, num, semicolon, equals, divided_version}
 use Rattle.fm_grammar.specs.Spelling.{division_text, seed_text, entry_text}
 use Rattle.fm_grammar.specs.Standing.{num_tree, division_tree, seed_tree, entry_tree}
@@ -19,18 +18,23 @@ use Rattle.fm_grammar.specs.Table.{says_division}
 use Rattle.fm_terms.specs.declared.fault.ParseFault.{ParseFault}
 use Rattle.fm_terms.specs.declared.fault.ParseFault.TheVariants.{Lex, Expected, TooNested, Memory}
 use Rattle.fm_parse.specs.declared.head.Head as code_head
-use Rattle.fm_terms.specs.Follow.{At, Says, Spelt}
+use Rattle.fm_terms.specs.Follow.{At, Says}
+
+-- the tokens of an entry were read, and between two states of a maker it was told of the entry
+pub record Entered {S : Type 0} (is : S → Entry → S → Type 0) (before behind : S) (old new : List Lexed) : Type 0 where
+  pub form : EntryForm
+  pub spells : old ≡ entry_text form new
+  pub told : is before (entry_tree form) behind
 
 -- an entry was read, or none begins there
-abbrev pub EntryRead : Option code_entry.Entry → List Lexed → List Lexed → Type 0
-EntryRead (Some e) old new = Spelt entry_text entry_tree (entry_view e) old new
-EntryRead None old new = old ≡ new
+abbrev pub EntryRead : {S : Type 0} → (S → Entry → S → Type 0) → S → Bool → S → List Lexed → List Lexed → Type 0
+EntryRead is before true behind old new = Entered is before behind old new
+EntryRead is before false behind old new = (before ≡ behind) × (old ≡ new)
 
 -- further entries may come behind an entry, and else what stands below
-abbrev pub EntryLeads :
-    Option Fault → List Sym → Result (Option code_entry.Entry) ParseFault → List Lexed → Type 0
-EntryLeads whole below (Ok (Some e)) new = At whole 0 (entries ∷ below) new
-EntryLeads whole below (Ok None) new = At whole 0 below new
+abbrev pub EntryLeads : Option Fault → List Sym → Result Bool ParseFault → List Lexed → Type 0
+EntryLeads whole below (Ok true) new = At whole 0 (entries ∷ below) new
+EntryLeads whole below (Ok false) new = At whole 0 below new
 EntryLeads whole below (Err e) new = Says e whole
 
 -- the end was found, and the text trips nowhere

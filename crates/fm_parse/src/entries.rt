@@ -1,23 +1,21 @@
-//! Reading the entries of a score.
+//! Reading the entries of a score, of each of which a maker is told.
 
-ghost use Rattle.std.specs.Prelude.{◌≡◌, true, ℕ, ◌+◌, List, [], ◌∷◌, ◌++◌, Option, map, IfOk};
+ghost use Rattle.std.specs.Prelude.{◌≡◌, true, ℕ, ◌+◌, List, [], ◌∷◌, ◌++◌, Option, IfOk};
 ghost use Rattle.fm_lex.specs.declared.kind.Kind.TheVariants.{Keyword as Word};
 ghost use Rattle.fm_grammar.specs.Reads.{Fault};
-ghost use Rattle.fm_grammar.specs.View.{entry_view};
-ghost use Rattle.fm_grammar.specs.Spelling.{entries_text};
-ghost use Rattle.fm_grammar.specs.Standing.{entries_tree};
 ghost use Rattle.fm_grammar.specs.Rules.{Sym, entries as entry_list};
 ghost use Rattle.fm_grammar.specs.Table.{opened};
-ghost use Rattle.fm_terms.specs.Follow.{At, FollowsIn, Spelt};
+ghost use Rattle.fm_terms.specs.Follow.{At};
 ghost use Rattle.fm_parse.specs.Statements.{begins};
 ghost use Rattle.fm_terms.specs.Reader.{first_kind};
 ghost use Rattle.fm_parse.specs.Whole.{EntryRead, EntryLeads, shape_syms, phrase_syms};
 
 use crate::items::{read_block, read_statement};
+use crate::relay::Relay;
 use crate::words::starter_of;
-use fm_grammar::Entry;
+use fm_grammar::Maker;
 use fm_lex::{Keyword, Kind};
-use fm_terms::{ParseFault, Reader, expect, read_name, read_parts};
+use fm_terms::{ParseFault, expect, read_name, read_parts};
 use std::alloc::Global;
 
 const SHAPE: Kind = Kind::Keyword(Keyword::Shape);
@@ -29,63 +27,71 @@ const EQUALS: Kind = Kind::Symbol(b'=');
 const SEMICOLON: Kind = Kind::Symbol(b';');
 
 // A definition of a shape.
-fn read_shape<'s>(alloc: Global, r: &mut Reader<'s>) -> Result<Option<Entry<'s>>, ParseFault>
-    ensures text { IfOk result (λ e. EntryRead e r.old r.new) }
+fn read_shape<'s, M: Maker<'s>>(alloc: Global, w: &mut Relay<'s, M>) -> Result<bool, ParseFault>
+    ensures text { IfOk result (λ found. EntryRead M.is_entered w.old.maker found w.new.maker
+        w.old.rest w.new.rest) }
     ensures follows { (whole : Option Fault) (used : ℕ) (below : List Sym)
-        → At whole used (shape_syms ++ (entry_list ∷ below)) r.old
-        → EntryLeads whole below result r.new }
+        → At whole used (shape_syms ++ (entry_list ∷ below)) w.old.rest
+        → EntryLeads whole below result w.new.rest }
 {
-    expect(r, SHAPE)?;
-    let name = read_name(r)?;
-    expect(r, EQUALS)?;
-    let parts = read_parts(alloc, r)?;
-    expect(r, SEMICOLON)?;
-    Ok(Some(Entry::Shape { name, parts }))
+    expect(&mut w.rest, SHAPE)?;
+    let name = read_name(&mut w.rest)?;
+    expect(&mut w.rest, EQUALS)?;
+    let parts = read_parts(alloc, &mut w.rest)?;
+    expect(&mut w.rest, SEMICOLON)?;
+    w.maker.shape(alloc, name, parts);
+    Ok(true)
 }
 
 // A definition of a phrase.
-fn read_phrase<'s>(alloc: Global, r: &mut Reader<'s>) -> Result<Option<Entry<'s>>, ParseFault>
-    ensures text { IfOk result (λ e. EntryRead e r.old r.new) }
+fn read_phrase<'s, M: Maker<'s>>(alloc: Global, w: &mut Relay<'s, M>) -> Result<bool, ParseFault>
+    ensures text { IfOk result (λ found. EntryRead M.is_entered w.old.maker found w.new.maker
+        w.old.rest w.new.rest) }
     ensures follows { (whole : Option Fault) (used : ℕ) (below : List Sym) → opened below ≡ 0
-        → At whole used (phrase_syms ++ (entry_list ∷ below)) r.old
-        → EntryLeads whole below result r.new }
+        → At whole used (phrase_syms ++ (entry_list ∷ below)) w.old.rest
+        → EntryLeads whole below result w.new.rest }
 {
-    expect(r, PHRASE)?;
-    let name = read_name(r)?;
-    let body = read_block(alloc, r, 0)?;
-    Ok(Some(Entry::Phrase { name, body }))
+    expect(&mut w.rest, PHRASE)?;
+    let name = read_name(&mut w.rest)?;
+    w.maker.name(&name);
+    let body = read_block(alloc, w, 0)?;
+    w.maker.phrase(name, body);
+    Ok(true)
 }
 
 // A statement that is played.
-fn read_played<'s>(
+fn read_played<'s, M: Maker<'s>>(
     alloc: Global,
-    r: &mut Reader<'s>,
+    w: &mut Relay<'s, M>,
     word: Keyword,
-) -> Result<Option<Entry<'s>>, ParseFault>
+) -> Result<bool, ParseFault>
     requires begins { begins word ≡ true }
-    requires first { first_kind r.old ≡ Word word }
-    ensures text { IfOk result (λ e. EntryRead e r.old r.new) }
+    requires first { first_kind w.old.rest ≡ Word word }
+    ensures text { IfOk result (λ found. EntryRead M.is_entered w.old.maker found w.new.maker
+        w.old.rest w.new.rest) }
     ensures follows { (whole : Option Fault) (used : ℕ) (below : List Sym) → opened below ≡ 0
-        → At whole used (entry_list ∷ below) r.old → EntryLeads whole below result r.new }
+        → At whole used (entry_list ∷ below) w.old.rest → EntryLeads whole below result w.new.rest }
 {
-    let item = read_statement(alloc, r, word, 0)?;
-    Ok(Some(Entry::Play { item }))
+    let made = read_statement(alloc, w, word, 0)?;
+    w.maker.play(made);
+    Ok(true)
 }
 
-/// Reads an entry, where one begins.
-pub fn read_entry<'s>(alloc: Global, r: &mut Reader<'s>) -> Result<Option<Entry<'s>>, ParseFault>
-    ensures text { IfOk result (λ e. EntryRead e r.old r.new) }
+/// Reads an entry, where one begins, and answers whether one does.
+pub fn read_entry<'s, M: Maker<'s>>(alloc: Global, w: &mut Relay<'s, M>) -> Result<bool, ParseFault>
+    ensures text { IfOk result (λ found. EntryRead M.is_entered w.old.maker found w.new.maker
+        w.old.rest w.new.rest) }
     ensures follows { (whole : Option Fault) (used : ℕ) (below : List Sym) → opened below ≡ 0
-        → At whole used (entry_list ∷ below) r.old → EntryLeads whole below result r.new }
+        → At whole used (entry_list ∷ below) w.old.rest → EntryLeads whole below result w.new.rest }
 {
-    if r.next_is(SHAPE) {
-        return read_shape(alloc, r);
+    if w.rest.next_is(SHAPE) {
+        return read_shape(alloc, w);
     }
-    if r.next_is(PHRASE) {
-        return read_phrase(alloc, r);
+    if w.rest.next_is(PHRASE) {
+        return read_phrase(alloc, w);
     }
-    match starter_of(r.kind()) {
-        Some(word) => read_played(alloc, r, word),
-        None => Ok(None),
+    match starter_of(w.rest.kind()) {
+        Some(word) => read_played(alloc, w, word),
+        None => Ok(false),
     }
 }

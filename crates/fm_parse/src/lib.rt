@@ -1,10 +1,13 @@
 //! The parser of score texts: statements, blocks and entries, above the readers of `fm_terms`.
 #![tactic(auto)]
 
+mod builder;
 mod entries;
 mod head;
 mod items;
 mod opening;
+mod reading;
+mod relay;
 mod simple;
 mod sorts;
 mod text;

@@ -1,9 +1,9 @@
 //! Reading a score.
 
-ghost use Rattle.std.specs.Prelude.{◌≡◌, ◌<◌, ◌≤◌, ℕ, List, [], ◌∷◌, Option, None, Ok, length, IfOk, OnOk, IfErr, IfSome};
+ghost use Rattle.std.specs.Prelude.{◌≡◌, ◌<◌, ◌≤◌, true, ℕ, List, [], ◌∷◌, Option, Ok, length, IfOk, OnOk, IfErr};
 ghost use Rattle.fm_lex.specs.declared.kind.Kind.TheVariants.{End};
 ghost use Rattle.fm_lex.specs.Tokens.{lexeme_of, tokens};
-ghost use Rattle.fm_grammar.specs.Score.{Score as Tree, Entry as EntryTree, Leaf};
+ghost use Rattle.fm_grammar.specs.Score.{Score as Tree, Leaf};
 ghost use Rattle.fm_grammar.specs.Signs.{tok};
 ghost use Rattle.fm_grammar.specs.View.{score_view};
 ghost use Rattle.fm_grammar.specs.Spelling.{division_text, seed_text};
@@ -14,13 +14,15 @@ ghost use Rattle.fm_grammar.specs.Rules.{one, entries, seeded, undivided, behind
 ghost use Rattle.fm_grammar.specs.Table.{is_divided};
 ghost use Rattle.fm_terms.specs.Follow.{At, Leads, FollowsStack, Spelt};
 ghost use Rattle.fm_parse.specs.Whole.{Closes, states, head_text, head_tree, head_view, IsFault, Answers, Refuses};
-ghost use Rattle.fm_parse.specs.Begun.{IsReadTo, ReadsOn, ReadsFrom};
+ghost use Rattle.fm_parse.specs.Begun.{IsBegun, ReadsFrom};
 
+use crate::builder::Builder;
 use crate::entries::read_entry;
 use crate::head::Head;
-use fm_grammar::{Entry, Number, Score};
+use crate::relay::Relay;
+use fm_grammar::{Maker, Number, Score};
 use fm_lex::{Keyword, Kind, MAX_TEXT, Token};
-use fm_terms::{ParseFault, Reader, expect, push, read_name, read_number};
+use fm_terms::{ParseFault, Reader, expect, read_name, read_number};
 use std::alloc::Global;
 use std::marker::Model;
 
@@ -130,7 +132,7 @@ impl<'s> EntryReader<'s> {
     /// trips, or that there was no memory.
     pub fn open(source: &'s [u8]) -> Result<EntryReader<'s>, ParseFault>
         requires { length source.now ≤ MAX_TEXT }
-        ensures begins { IfOk result (λ r. IsReadTo source.now [] r) }
+        ensures begins { IfOk result (λ r. IsBegun source.now r) }
         ensures trips { IfErr result (λ e. IsFault e (tokens source.now)) }
     {
         let mut rest = Reader::new(source)?;
@@ -145,34 +147,21 @@ impl<'s> EntryReader<'s> {
         self.head
     }
 
-    /// Reads the next entry, or finds that the text ends. Behind a fault nothing is said of what is
-    /// left.
-    pub fn next(&mut self, alloc: Global) -> Result<Option<Entry<'s>>, ParseFault>
-        ensures reads { (text : List ℕ) (done : List EntryTree) → IsReadTo text done self.old
-            → ReadsOn text done self.old self.new result }
-        ensures head { self.new.head ≡ self.old.head }
-        ensures fewer { IfOk result (λ found. IfSome found
-            (λ _. length self.new.left < length self.old.left)) }
-        ensures over { IfOk result (λ found. found ≡ None → self.new ≡ self.old) }
-    {
-        let Some(entry) = read_entry(alloc, &mut self.rest)? else {
-            check_end(&self.rest)?;
-            return Ok(None);
-        };
-        Ok(Some(entry))
-    }
-
-    /// Reads the entries that are left and lets each go, to find whether the text reads.
-    pub fn finish(mut self, alloc: Global) -> Result<(), ParseFault>
-        ensures reads { (text : List ℕ) (done : List EntryTree) → IsReadTo text done self.entry
-            → OnOk result (ReadsFrom text self.entry.head done) }
-        ensures trips { (text : List ℕ) (done : List EntryTree) → IsReadTo text done self.entry
+    /// Reads the entries, and tells the maker of each. It answers the maker, as it is behind all of
+    /// them, or a fault with which the text trips, or that there was no memory.
+    pub fn read<M: Maker<'s> + Drop>(self, alloc: Global, maker: M) -> Result<M, ParseFault>
+        ensures reads { (text : List ℕ) → IsBegun text self.entry
+            → IfOk result (ReadsFrom M.is_entered text self.entry.head maker) }
+        ensures trips { (text : List ℕ) → IsBegun text self.entry
             → IfErr result (λ e. IsFault e (tokens text)) }
     {
-        while let Some(entry) = self.next(alloc)? {
-            drop(entry);
-        }
-        Ok(())
+        let mut relay = Relay {
+            rest: self.rest,
+            maker,
+        };
+        while read_entry(alloc, &mut relay)? {}
+        check_end(&relay.rest)?;
+        Ok(relay.maker)
     }
 }
 
@@ -182,18 +171,10 @@ fn read_score<'s>(alloc: Global, source: &'s [u8]) -> Result<Score<'s>, ParseFau
     ensures reads { IfOk result (λ s. Reads limits (tokens source.now) (score_view s)) }
     ensures trips { IfErr result (λ e. IsFault e (tokens source.now)) }
 {
-    let mut reader = EntryReader::open(source)?;
-    let mut entries = Vec::new(alloc);
-    while let Some(entry) = reader.next(alloc)? {
-        push(&mut entries, entry)?;
-    }
+    let reader = EntryReader::open(source)?;
     let head = reader.head();
-    Ok(Score {
-        version: head.version,
-        division: head.division,
-        seed: head.seed,
-        entries,
-    })
+    let builder = reader.read(alloc, Builder::new(alloc))?;
+    builder.score(head)
 }
 
 /// Reads a text of at most 1,048,576 bytes as a score. It answers the one score as which the text

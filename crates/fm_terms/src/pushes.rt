@@ -9,15 +9,24 @@ use fm_lex::Spot;
 use fm_value::{Expr, Node, Spot2};
 use std::alloc::Global;
 
-/// Puts an item at the end of a list. The first and the second take room for themselves alone, since
-/// most lists of a score have one entry or two.
-pub fn push<T: Drop>(items: &mut Vec<T>, item: T) -> Result<(), ParseFault>
-    ensures ok { OnOk result (items.new.items ≡ items.old.items ++ item ∷ []) }
+/// Takes room for the next item of a list. The first and the second take it for themselves alone,
+/// since most lists of a score have one entry or two.
+pub fn make_room<T: Drop>(items: &mut Vec<T>) -> Result<(), ParseFault>
+    ensures same { items.new.items ≡ items.old.items }
     ensures memory { IfErr result (λ e. e ≡ ParseFault.Memory) }
 {
     if items.len() < 2 && items.reserve_exact(1).is_err() {
         return Err(ParseFault::Memory);
     }
+    Ok(())
+}
+
+/// Puts an item at the end of a list.
+pub fn push<T: Drop>(items: &mut Vec<T>, item: T) -> Result<(), ParseFault>
+    ensures ok { OnOk result (items.new.items ≡ items.old.items ++ item ∷ []) }
+    ensures memory { IfErr result (λ e. e ≡ ParseFault.Memory) }
+{
+    make_room(items)?;
     match items.push(item) {
         Ok(()) => Ok(()),
         Err(_) => Err(ParseFault::Memory),

@@ -2,8 +2,10 @@
 
 use crate::same::same;
 use crate::texts::read;
+use fm_grammar::{Item, Maker, Number, What};
 use fm_lex::Spot;
-use fm_outline::{Instruction, Lasting, Outline, outline_of};
+use fm_outline::{Instruction, Lasting, Outline, Outliner, Step, outline_of};
+use fm_rules::{CheckFault, Why};
 use std::alloc::Global;
 
 // The outline of a text that reads as a score without fault.
@@ -66,5 +68,70 @@ fn a_fork_in_a_phrase_is_found_in_a_loop(rt: HostRuntime) {
             same(&rt, &forks, &Some(true));
         }
         None => assert!(rt; false),
+    }
+}
+
+// A spot in the second line.
+fn at(column: u32) -> Spot {
+    Spot { line: 2, column }
+}
+
+// A loop over a rest of the rhythm's duration, as a reader tells it.
+fn looped<'s>(outliner: &mut Outliner<'s>, alloc: Global, rounds: u32) -> Step {
+    let count = Number {
+        value: rounds,
+        spot: at(8),
+    };
+    let body = Vec::new(alloc);
+    let what = What::Repeat { count, body };
+    let begun = outliner.begin(alloc, Item { spot: at(1), what });
+    let what = What::Skip;
+    let inside = outliner.make(alloc, Item { spot: at(20), what });
+    let mut body = Vec::new(alloc);
+    let _ = body.push(inside);
+    outliner.enclose(begun, body)
+}
+
+// The outline of two loops, as a reader tells them.
+fn told(alloc: Global, first: u32, second: u32) -> Result<Outline, CheckFault> {
+    match read(alloc, "formula 1; seed 7;") {
+        Ok(score) => {
+            let mut outliner = Outliner::open(alloc, &score);
+            let step = looped(&mut outliner, alloc, first);
+            outliner.play(step);
+            let step = looped(&mut outliner, alloc, second);
+            outliner.play(step);
+            outliner.close()
+        }
+        Err(_) => Err(CheckFault::Memory),
+    }
+}
+
+#[test]
+fn outlines_what_is_told(rt: HostRuntime) {
+    match told(rt.alloc(), 2, 3) {
+        Ok(outline) => {
+            same(&rt, &numbers(&outline), &(7, 0, 0, 2));
+            let inside = match outline.block.first() {
+                Some(step) => match &step.what {
+                    Instruction::Loop { body, .. } => body.len(),
+                    _ => 0,
+                },
+                None => 0,
+            };
+            same(&rt, &inside, &1);
+        }
+        Err(_) => assert!(rt; false),
+    }
+}
+
+#[test]
+fn the_first_fault_that_is_told_is_kept(rt: HostRuntime) {
+    match told(rt.alloc(), 1_000_001, 2_000_000) {
+        Ok(_) => assert!(rt; false),
+        Err(fault) => {
+            let (why, spot) = (Why::OutOfRange, at(8));
+            assert!(rt; fault == CheckFault::Refused { why, spot });
+        }
     }
 }

@@ -29,7 +29,7 @@ pub struct Setup {
     pub workers: u32,
     /// How many events each process may be ahead.
     pub room: u32,
-    /// How many ticks.
+    /// How many ticks each process may be ahead of the slowest one.
     pub lead: u64,
 }
 

@@ -1,60 +1,38 @@
--- A text, entry by entry.
-use Rattle.std.proofs.Common.{◌++◌, ◌∷◌, [], Err, ap, sym, subst}
-use Rattle.fm_grammar.specs.View.{entry_view}
+-- A text whose statements are outlined while it is read.
+use Rattle.std.proofs.Common.{[], Err, ap, subst}
 use Rattle.fm_parse.specs.Begun.{score_of}
-use Rattle.fm_parse.proofs.Onward.{found_more, found_over}
-use Rattle.fm_outline.specs.Sketched.{BeginsFaulty, Outlines}
-use Rattle.fm_judge.specs.Judging.{StaysFirst}
-use Rattle.fm_judge.proofs.Sketching.{stays_said}
+use Rattle.fm_parse.specs.Whole.{Head}
+use Rattle.fm_outline.specs.Outlining.{SoFar}
+use Rattle.fm_outline.proofs.EntryLemmas.{all_entered}
+use Rattle.fm_judge.proofs.Sketching.{first_walked}
 use Rattle.fm_judge.proofs.outlined.outline_text.Goals as goal
 
-pub returns-in-Err-open_sketch-clause-refused : goal.returns-in-Err-open_sketch-clause-refused
-returns-in-Err-open_sketch-clause-refused c =
-    c.fault_behind.ensures c.args.text.now [] c.requires c.in-Ok.ensures.begins
-    (stays_said c.in-Err-open_sketch.fault (score_of c.in-Ok.reader.head [])
-    (λ why spot is. subst (λ h. BeginsFaulty (score_of h []) spot why) c.head.ensures
-    (c.in-Err-open_sketch.ensures.refused why spot (ap Err is))))
+pub returns-in-Err-read-clause-refused : goal.returns-in-Err-read-clause-refused
+returns-in-Err-read-clause-refused c =
+    c.fault_of-in-Err-read.ensures c.args.text.now c.requires (c.in-Err-read.ensures.trips c.args.text.now c.in-Ok.ensures.begins)
 
-pub returns-in-Err-next-clause-refused : goal.returns-in-Err-next-clause-refused
-returns-in-Err-next-clause-refused c =
-    let so_far = c.loop-found.invariant in
-    c.fault_of-in-Err-next.ensures c.args.text.now c.requires
-    (c.in-Err-next.ensures.reads c.args.text.now so_far.done so_far.read)
-
-pub returns-in_default-clause-outlined : goal.returns-in_default-clause-outlined
-returns-in_default-clause-outlined c =
-    let so_far = c.loop-found.invariant in
-    let s = score_of c.loop-found.reader.head so_far.done in
+pub returns-in-Ok-close-clause-outlined : goal.returns-in-Ok-close-clause-outlined
+returns-in-Ok-close-clause-outlined c =
+    let from = c.in-Ok-read.ensures.reads c.args.text.now c.in-Ok.ensures.begins in
+    let s = score_of c.in-Ok.reader.head from.all in
+    let begun = subst (λ (h : Head). SoFar c.open_outliner-begun.result (score_of h [])) c.head.ensures
+    c.open_outliner-begun.ensures in
+    let so_far = all_entered _ from.all _ from.told (score_of c.in-Ok.reader.head []) begun in
     record {
       score = s;
-      reads = found_over c.args.text.now so_far.done c.loop-found.reader c.next.new.self _ c.in_default.is
-          (c.in-Ok-next.ensures.reads c.args.text.now so_far.done so_far.read);
+      reads = from.reads;
       made = record {
-        sound = record { is = c.close.ensures.outline s so_far.outlined; passage = c.close.ensures.passage s so_far.outlined };
-        faultless = c.close.ensures.faultless s so_far.outlined;
+        sound = record { is = c.in-Ok-close.ensures.outline s so_far; passage = c.in-Ok-close.ensures.passage s so_far };
+        faultless = c.in-Ok-close.ensures.faultless s so_far;
       };
     }
 
-pub returns-in-Err-entered-clause-refused : goal.returns-in-Err-entered-clause-refused
-returns-in-Err-entered-clause-refused c =
-    let so_far = c.loop-found.invariant in
-    let all = so_far.done ++ entry_view c.in-Some.entry ∷ [] in
-    c.fault_behind-in-Err-entered.ensures c.args.text.now all c.requires
-    (found_more c.args.text.now so_far.done c.loop-found.reader c.next.new.self _ c.in-Some.entry c.in-Some.is
-    (c.in-Ok-next.ensures.reads c.args.text.now so_far.done so_far.read))
-    (subst (λ h. StaysFirst c.in-Err-entered.fault (score_of h all)) (sym c.in-Ok-next.ensures.head)
-    (stays_said c.in-Err-entered.fault (score_of c.loop-found.reader.head all)
-    (λ why spot is. c.in-Err-entered.ensures.refused why spot (ap Err is)
-    (score_of c.loop-found.reader.head so_far.done) so_far.outlined)))
-
-pub loop-found-preserved : goal.loop-found-preserved
-loop-found-preserved c =
-    let so_far = c.loop-found.invariant in
-    let all = so_far.done ++ entry_view c.in-Some.entry ∷ [] in
-    record {
-      done = all;
-      read = found_more c.args.text.now so_far.done c.loop-found.reader c.next.new.self _ c.in-Some.entry c.in-Some.is
-          (c.in-Ok-next.ensures.reads c.args.text.now so_far.done so_far.read);
-      outlined = subst (λ h. Outlines c.enter-entered.new.self (score_of h all)) (sym c.in-Ok-next.ensures.head)
-          (c.in_default-entered.ensures.ok (score_of c.loop-found.reader.head so_far.done) so_far.outlined);
-    }
+pub returns-in-Err-close-clause-refused : goal.returns-in-Err-close-clause-refused
+returns-in-Err-close-clause-refused c =
+    let from = c.in-Ok-read.ensures.reads c.args.text.now c.in-Ok.ensures.begins in
+    let s = score_of c.in-Ok.reader.head from.all in
+    let begun = subst (λ (h : Head). SoFar c.open_outliner-begun.result (score_of h [])) c.head.ensures
+    c.open_outliner-begun.ensures in
+    let so_far = all_entered _ from.all _ from.told (score_of c.in-Ok.reader.head []) begun in
+    c.fault_of_check.ensures c.args.text.now s c.requires from.reads
+    (first_walked c.in-Err-close.fault s (λ why spot is. c.in-Err-close.ensures.refused why spot (ap Err is) s so_far))

@@ -1,9 +1,0 @@
-use Rattle.std.proofs.Common.{map, drop}
-use Rattle.fm_grammar.specs.View.{score_view, entry_view}
-use Rattle.fm_outline.proofs.SketchLemmas.{OutlinesBefore}
-use Rattle.fm_outline.proofs.sketch.outline_of.Given as goal
-
--- all is outlined but the entries that are left
-abbrev pub invariant-loop-entry : goal.invariant-loop-entry
-invariant-loop-entry l =
-    OutlinesBefore l.sketch (score_view l.score) (map entry_view (drop l.entry-index l.entry-items))
