@@ -6,7 +6,7 @@ import pathlib
 import unittest
 from typing import Any
 
-from formula_score.command import listing, render
+from formula_score.running.command import listing, render
 from tests.program import PROGRAM, TOP
 
 from .page import TUNE, PageTest, example

@@ -11,20 +11,20 @@ Lengths are parts of a whole note, and `ticks` counts 480 a quarter note, unless
 read first is `python/README.md`, which a package has as its description; `python/COOKBOOK.md` has generators.
 """
 
-from .command import (
+from .making.errors import BarError, CommandError, FileRefused, RecordRefused, Refused, ScoreError
+from .making.expected import Event
+from .making.lengths import LengthLike, dotted, euclid, ticks, triplet
+from .making.midi import DRUMS, DYNAMICS, INSTRUMENTS, drum
+from .making.music import (
+    Meter, Music, Part, Seq, accents, articulations, bend, breath, channel, control, crescendo, drums, dynamics, flat,
+    gate, hits, instrument, melody, note, par, pause, phrase, repeat, rest, seq, slope, stretch_of, swing, tempo,
+    tempo_change, warp,
+)
+from .making.pitch import CHORDS, MODES, Pitch, PitchLike, Scale, chord
+from .running.command import (
     FileEvent, Large, Listing, Located, audit, find_program, large, listing, locate, play, render,
 )
-from .errors import BarError, CommandError, FileRefused, RecordRefused, Refused, ScoreError
-from .expected import Event
-from .lengths import LengthLike, dotted, euclid, ticks, triplet
-from .midi import DRUMS, DYNAMICS, INSTRUMENTS, drum
-from .music import (
-    Meter, Music, Part, Seq, accents, articulations, bend, breath, channel, control, crescendo, drums, dynamics,
-    flat, gate, hits, instrument, melody, note, par, pause, phrase, repeat, rest, seq, slope, stretch_of, swing,
-    tempo, tempo_change, warp,
-)
-from .pitch import CHORDS, MODES, Pitch, PitchLike, Scale, chord
-from .score import Score, render_all
+from .running.score import Score, render_all
 
 __version__ = "0.1.0"
 

@@ -10,7 +10,7 @@ from unittest import mock
 
 from .program import PROGRAM
 
-from formula_score.companion.program import main
+from formula_companion.verbs.program import main
 
 
 class Answer(NamedTuple):

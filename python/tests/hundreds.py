@@ -20,7 +20,7 @@ import pathlib
 import re
 from typing import NamedTuple, Optional
 
-from formula_score.explain import Place, place_of, position, refusal
+from formula_score.explaining.explain import Place, place_of, position, refusal
 from formula_score.slips.judging import first_fault
 
 from .program import PROGRAM, run

@@ -7,7 +7,7 @@ import unittest
 from .companion import score
 from .program import TOP, needs_program
 
-from formula_score.companion.meter import Meter, groups_of
+from formula_score.reading.meter import Meter, groups_of
 from fractions import Fraction
 
 TUTORIAL = TOP / "examples" / "tutorial"

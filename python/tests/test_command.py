@@ -14,7 +14,7 @@ from formula_score import (
     FileEvent, FileRefused, Large, Listing, Located, RecordRefused, Refused, Score, ScoreError, audit, flat, large,
     listing, locate, note, par, play, render, render_all, repeat, rest, ticks, warp,
 )
-from formula_score.command import words_of
+from formula_score.running.command import words_of
 
 from .program import PROGRAM, TOP, foretold, needs_program
 
@@ -39,7 +39,7 @@ class Options(unittest.TestCase):
                        if option.kind is inspect.Parameter.KEYWORD_ONLY]
             self.assertEqual([option.name for option in options], names, call)
             self.assertTrue(all(option.annotation in ("Optional[int]", "bool") for option in options), call)
-        page = inspect.getdoc(formula_score.command)
+        page = inspect.getdoc(formula_score.running.command)
         self.assertTrue(page and all(f"`{name}`" in page for name in names))
 
     def test_their_words(self) -> None:

@@ -7,7 +7,7 @@ import unittest
 from .companion import score
 from .program import TOP, needs_program
 
-from formula_score.companion.program import VERBS
+from formula_companion.verbs.program import VERBS
 
 
 class Words(unittest.TestCase):

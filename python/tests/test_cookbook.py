@@ -11,7 +11,7 @@ import unittest
 import unittest.mock
 
 from formula_score import Score, flat, note, repeat, tempo, ticks, warp
-from formula_score.music import Par
+from formula_score.making.music import Par
 
 from .program import PROGRAM, TOP, foretold, needs_program, run
 

@@ -4,14 +4,14 @@ from __future__ import annotations
 
 import unittest
 
-from formula_score.editing.completion import completed
-from formula_score.editing.names import renamed, same_name, use_at
-from formula_score.editing.outline import Part, outline
-from formula_score.editing.places import Places, Position
-from formula_score.editing.reference import SAYS, form_of, row_at
-from formula_score.editing.refusal import refused
-from formula_score.explain import Place
-from formula_score.nodes import KEYWORDS
+from formula_companion.editing.completion import completed
+from formula_companion.editing.names import renamed, same_name, use_at
+from formula_companion.editing.outline import Part, outline
+from formula_companion.editing.places import Places, Position
+from formula_companion.editing.reference import SAYS, form_of, row_at
+from formula_companion.editing.refusal import refused
+from formula_score.explaining.explain import Place
+from formula_score.making.nodes import KEYWORDS
 
 TEXT = b"""formula 1;  # \xe2\x99\xaa \xf0\x9d\x84\x9e a tune
 phrase tune { note c4, eb4 1/4; }

@@ -7,8 +7,8 @@ import unittest
 from .companion import score
 from .program import TOP, needs_program
 
-from formula_score.companion.midi_file import MADE_BY
-from formula_score.companion.playing import listing_of_file, run
+from formula_score.reading.midi_file import MADE_BY
+from formula_score.reading.playing import listing_of_file, run
 
 SCORE = TOP / "examples" / "tutorial" / "8_end.score"
 

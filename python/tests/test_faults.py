@@ -5,12 +5,12 @@ import re
 import tempfile
 import unittest
 
-from formula_score.explain import (
+from formula_score.explaining.explain import (
     FilePlace, Place, bytes_round, excerpt, explanation, file_place_of, file_refusal, place_of, record_place_of,
     refusal,
 )
-from formula_score.faults import FAULTS, FILE_FAULTS, RECORD_FAULTS
-from formula_score.words import read
+from formula_score.explaining.faults import FAULTS, FILE_FAULTS, RECORD_FAULTS
+from formula_score.explaining.words import read
 
 from .program import TOP
 

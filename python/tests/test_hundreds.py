@@ -3,7 +3,7 @@
 import re
 import unittest
 
-from formula_score.explain import place_of, refusal
+from formula_score.explaining.explain import place_of, refusal
 from formula_score.slips import told
 from formula_score.slips.checking import stands
 from formula_score.slips.cures import Known

@@ -14,11 +14,11 @@ from .companion import score
 from .midi_files import meta, midi, notes, track
 from .program import TOP, needs_program
 
-from formula_score.companion.playing import listed
-from formula_score.importer.compare import compared
-from formula_score.importer.parts import piece_of
-from formula_score.importer.repeats import Numbers
-from formula_score.importer.score import fitting_text
+from formula_score.reading.playing import listed
+from formula_companion.importer.compare import compared
+from formula_companion.importer.parts import piece_of
+from formula_companion.importer.repeats import Numbers
+from formula_companion.importer.score import fitting_text
 
 import score_model
 

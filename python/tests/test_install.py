@@ -23,7 +23,8 @@ debian: Any = importlib.import_module("debian")
 
 WANTED = (
     "bin/formula", "bin/formula-score", "lib/formula/formula", "lib/formula/proved.txt", "lib/formula/runs.sh",
-    "lib/formula/python/formula_score/__init__.py", "share/man/man1/formula.1", "share/man/man1/formula-score.1",
+    "lib/formula/python/formula_score/__init__.py", "lib/formula/python/formula_companion/verbs/program.py",
+    "share/doc/rosetrowel/python/formula_score/README.md", "share/man/man1/formula.1", "share/man/man1/formula-score.1",
     "share/bash-completion/completions/formula", "share/vim/vimfiles/syntax/formula.vim",
     "share/vim/vimfiles/compiler/formula.vim", "share/formula/editors/vscode/package.json",
     "share/formula/editors/vscode/tasks.json", "share/doc/rosetrowel/README.md", "share/doc/rosetrowel/COPYING",
@@ -113,7 +114,7 @@ class Packaged(unittest.TestCase):
 class Suggested(unittest.TestCase):
     def test_what_the_companion_asks_for_is_suggested(self) -> None:
         asked: set[str] = set()
-        for path in (TOP / "python" / "formula_score").rglob("*.py"):
+        for path in (TOP / "python").glob("formula_*/**/*.py"):
             text = path.read_text(encoding="utf-8")
             for names in re.findall(r"apt-get install ([a-z0-9 .+-]+)", text):
                 asked.update(names.split())

@@ -11,8 +11,8 @@ from formula_score import (
     Music, Score, ScoreError, accents, channel, dynamics, note, par, pause, phrase, repeat, rest, seq, tempo, ticks,
     warp,
 )
-from formula_score.music import body_of
-from formula_score.score import text_of
+from formula_score.making.music import body_of
+from formula_score.running.score import text_of
 
 from .program import needs_program, run
 

@@ -52,29 +52,37 @@ class Package(unittest.TestCase):
         if python is None:
             self.skipTest("NOT TRIED: no Python here has setuptools and wheel (python3-setuptools, python3-wheel)")
         with tempfile.TemporaryDirectory() as folder:
-            home = shutil.copytree(TOP / "python", pathlib.Path(folder, "python"),
-                                   ignore=shutil.ignore_patterns("__pycache__", ".mypy_cache", "build", "*.egg-info"))
-            # what `pip install --no-build-isolation` calls
-            build = "from setuptools.build_meta import build_wheel; print(build_wheel('..'))"
-            done = subprocess.run([python, "-c", build], cwd=home, stdout=subprocess.PIPE, stderr=subprocess.STDOUT,
-                                  text=True, check=False)
-            self.assertEqual(done.returncode, 0, done.stdout)
-            with zipfile.ZipFile(pathlib.Path(folder, done.stdout.splitlines()[-1])) as wheel:
-                names = wheel.namelist()
-                about = email.message_from_bytes(wheel.read(next(name for name in names if name.endswith("METADATA"))))
-                wheel.extractall(pathlib.Path(folder, "installed"))
-            said = subprocess.run([sys.executable, "-c", "import formula_score; print(formula_score.__version__)"],
-                                  cwd=folder, env={"PYTHONPATH": f"{folder}/installed"}, stdout=subprocess.PIPE,
-                                  text=True, check=True).stdout
-        self.assertEqual((about["Version"], said), (formula_score.__version__, f"{formula_score.__version__}\n"))
-        self.assertEqual(about["License"], "No licence has been granted yet")
+            for package in ("formula_score", "formula_companion"):
+                self.is_built(python, package, folder)
+            say = "import formula_score, formula_companion.verbs.program as program; program.main(['--version'])"
+            said = subprocess.run([sys.executable, "-c", say], cwd=folder, env={"PYTHONPATH": f"{folder}/installed"},
+                                  stdout=subprocess.PIPE, text=True, check=True).stdout
+        self.assertEqual(said, f"formula-score {formula_score.__version__}\n")
+
+    def is_built(self, python: str, package: str, folder: str) -> None:
+        """Builds a wheel as `pip install --no-build-isolation` does, judges what it has, and unpacks it."""
+        home = shutil.copytree(TOP / "python" / package, pathlib.Path(folder, package),
+                               ignore=shutil.ignore_patterns("__pycache__", "build", "dist", "*.egg-info"))
+        build = "from setuptools.build_meta import build_wheel; print(build_wheel('..'))"
+        done = subprocess.run([python, "-c", build], cwd=home, stdout=subprocess.PIPE, stderr=subprocess.STDOUT,
+                              text=True, check=False)
+        self.assertEqual(done.returncode, 0, done.stdout)
+        with zipfile.ZipFile(pathlib.Path(folder, done.stdout.splitlines()[-1])) as wheel:
+            names = wheel.namelist()
+            about = email.message_from_bytes(wheel.read(next(name for name in names if name.endswith("METADATA"))))
+            wheel.extractall(pathlib.Path(folder, "installed"))
+        self.assertEqual((about["Version"], about["License"]), (formula_score.__version__, "No licence has been granted yet"))
         self.assertIn("Topic :: Multimedia :: Sound/Audio :: MIDI", about.get_all("Classifier", []))
-        for name in ("py.typed", "studio/page/index.html", "studio/page/main.js", "studio/page/formula.tmLanguage.json"):
-            self.assertIn(f"formula_score/{name}", names)
-        self.assertTrue(str(about.get_payload()).lstrip().startswith("# formula_score"))
+        left = [path.relative_to(home.parent).as_posix() for path in home.rglob("*.py")
+                if path.relative_to(home).parts[0] != "build"]
+        pages = ["studio/page/index.html", "studio/page/main.js", "studio/page/formula.tmLanguage.json"]
+        wanted = [f"{package}/{name}" for name in ("py.typed", *(pages if package == "formula_companion" else []))]
+        self.assertEqual({*left, *wanted} - {*names}, set())
+        self.assertTrue(str(about.get_payload()).lstrip().startswith(f"# {package}"))
 
     def test_what_a_build_leaves_is_no_part_of_the_repository(self) -> None:
-        for name in ("python/build/lib/a.py", "python/formula_score.egg-info/PKG-INFO", "python/dist/a.whl"):
+        for name in ("python/formula_score/build/lib/a.py", "python/formula_companion/formula_companion.egg-info/PKG-INFO",
+                     "python/formula_score/dist/a.whl"):
             done = subprocess.run(["git", "check-ignore", "-q", name], cwd=TOP, check=False)
             self.assertEqual(done.returncode, 0, name)
 

@@ -21,9 +21,9 @@ NOTE, OTHER, REFUSED = b"formula 1; note c4 1/4;", b"formula 1; repeat 300 { not
 FAULT = b"formula: score refused: 1:20 fault 8\n"
 WORDS, WRITE = b"formula: words refused\n", b"formula: write fault\n"
 #: How the verb is run, by a module that is changed before.
-START = "import sys; sys.argv[0] = 'formula-score'; from formula_score.companion.program import main; sys.exit(main())"
+START = "import sys; sys.argv[0] = 'formula-score'; from formula_companion.verbs.program import main; sys.exit(main())"
 #: A file system where each file has a name.
-NAMED = "import formula_score.companion.outs as o; o._file_without_a_name = lambda *_: None; "
+NAMED = "import formula_companion.verbs.outs as o; o._file_without_a_name = lambda *_: None; "
 #: A call of the host that fails for the new file.
 FAILS = "import os\ndef {0}(*_, was=os.{0}, **__):\n if {1}: raise OSError(122, 'Disk quota exceeded')\n return was(*_, **__)\nos.{0} = {0}; "
 NOBODY = 65534
@@ -176,7 +176,8 @@ class Play(unittest.TestCase):
         python = "/usr/bin/python3"
         if not os.path.exists(python) or not os.access(TOP / "python", os.R_OK):
             self.skipTest("NOT TRIED: no Python here that another user may run")
-        shutil.copytree(TOP / "python" / "formula_score", self.top / "library" / "formula_score")
+        for package in ("formula_score", "formula_companion"):
+            shutil.copytree(TOP / "python" / package, self.top / "library" / package)
 
         def as_nobody(score: str) -> Answer:
             return Answer(subprocess.run(

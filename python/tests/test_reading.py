@@ -11,11 +11,11 @@ from fractions import Fraction
 from .program import TOP, needs_program
 from .random_texts import Texts
 
-from formula_score.companion.playing import Failed, listing_of, located
-from formula_score.companion.reading import read
-from formula_score.companion.ticks import Spot, ticks_of
-from formula_score.companion.walk import Place, Played, Walk, parts_of, tick_of
-from formula_score.expected import outside
+from formula_score.reading.playing import Failed, listing_of, located
+from formula_score.reading.reader import read
+from formula_score.reading.ticks import Spot, ticks_of
+from formula_score.reading.walk import Place, Played, Walk, parts_of, tick_of
+from formula_score.making.expected import outside
 
 SCORES = int(os.environ.get("SCORES", "100"))
 LAST = 2 ** 40
@@ -92,7 +92,7 @@ class Apart(unittest.TestCase):
                 'if __name__ == "__main__":'}
 
         model = set[str]().union(*map(lines, (TOP / "tools" / "score_model").glob("*.py")))
-        for path in sorted((TOP / "python" / "formula_score" / "companion").glob("*.py")):
+        for path in sorted((TOP / "python" / "formula_score" / "reading").glob("*.py")):
             self.assertEqual(lines(path) & model, set(), path.name)
 
 

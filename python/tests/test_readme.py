@@ -16,7 +16,7 @@ from .program import PROGRAM, TOP, needs_program, run
 
 def examples() -> Iterator[tuple[str, list[str]]]:
     """What each example prints, and the scores that it makes."""
-    for text in re.findall(r"^```python\n(.*?)^```", (TOP / "python" / "README.md").read_text(), re.M | re.S):
+    for text in re.findall(r"^```python\n(.*?)^```", (TOP / "python" / "formula_score" / "README.md").read_text(), re.M | re.S):
         printed, home = io.StringIO(), os.getcwd()
         names: dict[str, object] = {}
         with tempfile.TemporaryDirectory() as folder:

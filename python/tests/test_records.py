@@ -3,7 +3,7 @@
 import re
 import unittest
 
-from formula_score.records import Record, length, lines, parts, steps
+from formula_score.explaining.records import Record, length, lines, parts, steps
 
 from .program import TOP
 

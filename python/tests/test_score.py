@@ -11,7 +11,7 @@ from formula_score import (
     crescendo, dotted, drum, dynamics, euclid, flat, gate, instrument, melody, note, par, pause, phrase, repeat,
     rest, seq, slope, swing, tempo, tempo_change, ticks, triplet, warp,
 )
-from formula_score.music import deformed
+from formula_score.making.music import deformed
 
 
 def starts(score: Score) -> list[tuple[int, int, int]]:

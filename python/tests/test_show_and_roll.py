@@ -13,9 +13,9 @@ import xml.etree.ElementTree
 from fractions import Fraction
 from unittest import mock
 
-from formula_score import records
-from formula_score.companion.drawing import Rule, bars
-from formula_score.companion.meter import Group, Meter, Signature
+from formula_score.explaining import records
+from formula_score.pictures.drawing import Rule, bars
+from formula_score.reading.meter import Group, Meter, Signature
 
 from .companion import score
 from .program import PROGRAM, TOP, needs_program

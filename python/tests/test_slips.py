@@ -3,7 +3,7 @@
 import re
 import unittest
 
-from formula_score.explain import place_of, position
+from formula_score.explaining.explain import place_of, position
 from formula_score.slips import told
 
 from .program import needs_program, run

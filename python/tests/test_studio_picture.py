@@ -10,10 +10,10 @@ from array import array
 from typing import Any
 from unittest import mock
 
-from formula_score.command import locate
-from formula_score.companion.playing import Failed, run
-from formula_score.studio import examples, frames
-from formula_score.studio.picture import Picture, meter_of
+from formula_score.running.command import locate
+from formula_score.reading.playing import Failed, run
+from formula_companion.studio import examples, frames
+from formula_companion.studio.picture import Picture, meter_of
 
 from .program import PROGRAM, TOP, needs_program
 

@@ -12,8 +12,8 @@ import time
 import unittest
 from typing import Any
 
-from formula_score.command import render
-from formula_score.studio.frames import Frame, unpacked
+from formula_score.running.command import render
+from formula_companion.studio.frames import Frame, unpacked
 
 from .program import PROGRAM
 from .studio import LONGEST, Running, StudioTest

@@ -5,7 +5,7 @@ from __future__ import annotations
 import random
 import unittest
 
-from formula_score.explain import position
+from formula_score.explaining.explain import position
 from formula_score.slips import told
 from formula_score.slips.cures import Known
 from formula_score.slips.following import followed

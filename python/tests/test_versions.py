@@ -9,7 +9,7 @@ from formula_score import (
     Meter, Score, ScoreError, breath, flat, melody, note, par, repeat, rest, seq, slope, swing, tempo, tempo_change,
     ticks, warp,
 )
-from formula_score.score import text_of
+from formula_score.running.score import text_of
 
 from .program import foretold, needs_program, run, score_model
 from .test_random import Maker

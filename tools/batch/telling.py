@@ -6,7 +6,7 @@ import collections
 from typing import Sequence
 
 from folder import RAW, Batch
-from formula_score.explain import explanation, place_of, refusal
+from formula_score.explaining.explain import explanation, place_of, refusal
 
 #: At most so many scores that were not played are printed.
 MOST_SHOWN = 20

@@ -12,7 +12,7 @@ from typing import Iterator, Optional, Sequence
 
 import harness
 import texts
-from formula_score import records as recording
+from formula_score.explaining import records as recording
 from measuring import Bench, head, row, wrong
 from performing import MOST_OF_ALONE
 

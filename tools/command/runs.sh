@@ -72,7 +72,7 @@ tells() {
     [ "$status" = 1 ] || idle
     if [ "$status" != 0 ] && command -v python3 >/dev/null; then
         python3 -I -B -c 'import sys; sys.path.insert(0, sys.argv[1])
-from formula_score.explain import main; sys.exit(main(sys.argv[2:]))' "$library" "$status" "$said" "$@" >&2 2>/dev/null
+from formula_score.explaining.explain import main; sys.exit(main(sys.argv[2:]))' "$library" "$status" "$said" "$@" >&2 2>/dev/null
     fi
     if [ "$status" -gt 128 ]; then
         ulimit -c 0

@@ -17,7 +17,7 @@ from values import Made, Record, listed
 
 sys.path += [os.path.join(TOP, "tools", "score_model"), os.path.join(TOP, "python")]
 #: The reader of the command's words in Python.
-command_line: Any = importlib.import_module("formula_score.words")
+command_line: Any = importlib.import_module("formula_score.explaining.words")
 #: The player of texts, which is apart from the program and has no types.
 score_model: Any = importlib.import_module("score_model")
 

@@ -3,16 +3,21 @@
 from __future__ import annotations
 
 import pathlib
+import re
 from typing import Iterator, NamedTuple, Optional, Sequence
 
 from proved import STRANGE, files_below, page
 
 #: Folders below the prefix that hold nothing else.
 OWN = "lib/formula", "share/doc/rosetrowel", "share/formula"
-PROGRAM, PAGE, LIBRARY = "lib/formula/formula", "lib/formula/proved.txt", "lib/formula/python/formula_score"
+PROGRAM, PAGE, LIBRARY = "lib/formula/formula", "lib/formula/proved.txt", "lib/formula/python"
+#: The packages of Python in it.
+PACKAGES = "formula_score", "formula_companion"
 PAGES = "README.md", "CHANGELOG.md", "COPYING"
 #: Names of folders that are not installed: `releases` is for the tests alone.
 LEFT_OUT = {"__pycache__", ".mypy_cache", "releases"}
+#: What a package of Python has for those who build it, and what its build leaves.
+FOR_BUILDING = re.compile(r"pyproject\.toml|README\.md|build|dist|.*\.egg-info")
 
 
 class File(NamedTuple):
@@ -37,7 +42,12 @@ def contents(top: pathlib.Path, program: bytes, gate: Optional[Sequence[str]] = 
 
 def _pages_and_code(top: pathlib.Path) -> Iterator[tuple[str, pathlib.Path]]:
     yield "lib/formula/runs.sh", top / "tools/command/runs.sh"
-    yield from _below(top / "python/formula_score", LIBRARY)
+    for package in PACKAGES:
+        home = top / "python" / package
+        for name, path in _below(home, f"{LIBRARY}/{package}"):
+            if not FOR_BUILDING.fullmatch(path.relative_to(home).parts[0]):
+                yield name, path
+        yield f"share/doc/rosetrowel/python/{package}/README.md", home / "README.md"
     for name in ("formula.1", "formula-score.1"):
         yield f"share/man/man1/{name}", top / "docs" / name
     yield "share/bash-completion/completions/formula", top / "editors/bash/formula"

@@ -9,11 +9,11 @@ import re
 import shutil
 from typing import NamedTuple
 
-from contents import LIBRARY, PROGRAM, File
+from contents import LIBRARY, PACKAGES, PROGRAM, File
 
 NAME = "rosetrowel"
-#: Where Debian has modules of Python; the library's own place becomes a link to it.
-MODULES = "lib/python3/dist-packages/formula_score"
+#: Where Debian has modules of Python; the own place of each package becomes a link to it.
+MODULES = "lib/python3/dist-packages"
 
 #: What verbs of the companion need beside python3: `listen` one player with its sounds, `studio` and `lsp` their modules.
 SUGGESTED = ("fluidsynth", "fluid-soundfont-gm", "timidity", "freepats", "python3-aiohttp", "libjs-codemirror",
@@ -159,7 +159,7 @@ def files_of(top: pathlib.Path, files: dict[str, File], facts: Facts) -> dict[st
 
 def links_of() -> dict[str, str]:
     """The links below /usr, and where they lead."""
-    return {LIBRARY: os.path.relpath(MODULES, os.path.dirname(LIBRARY))}
+    return {f"{LIBRARY}/{package}": os.path.relpath(f"{MODULES}/{package}", LIBRARY) for package in PACKAGES}
 
 
 def control_of(files: dict[str, File], facts: Facts) -> str:

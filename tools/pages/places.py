@@ -12,7 +12,7 @@ from typing import Callable, Iterator, Mapping, NamedTuple, Optional
 
 Range = tuple[int, int]
 
-CODE, WORDS, MANUAL = "crates/fm_words/src", "python/formula_score/words.py", "docs/formula.1"
+CODE, WORDS, MANUAL = "crates/fm_words/src", "python/formula_score/explaining/words.py", "docs/formula.1"
 COMPLETION, README = "editors/bash/formula", "README.md"
 
 
@@ -59,14 +59,14 @@ def of_code(top: pathlib.Path) -> Options:
 
 def of_words(top: pathlib.Path) -> Options:
     """What the library knows."""
-    words = importlib.import_module("formula_score.words")
+    words = importlib.import_module("formula_score.explaining.words")
     return {**{name: Option(True, limits) for name, limits in words.RANGES.items()},
             **{name: Option(False) for name in words.FLAGS}}
 
 
 def of_usage(top: pathlib.Path) -> Options:
     """What the library says as the usage of the command."""
-    usage: str = importlib.import_module("formula_score.words").USAGE
+    usage: str = importlib.import_module("formula_score.explaining.words").USAGE
     return {name: Option(bool(value)) for name, value in re.findall(r"\[(--\w+)( \w)?\]", usage)}
 
 

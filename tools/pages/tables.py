@@ -5,13 +5,13 @@ from __future__ import annotations
 import pathlib
 from typing import Callable, Iterator, Mapping
 
-from formula_score.faults import FAULTS, FILE_FAULTS, RECORD_FAULTS, Fault
-from formula_score.index import INDEX
+from formula_score.explaining.faults import FAULTS, FILE_FAULTS, RECORD_FAULTS, Fault
+from formula_score.slips.index import INDEX
 from tests.hundreds import NAMES, hundred
 from tests.slips import SLIPS
 
-FAULTS_FROM = "python/formula_score/faults.py"
-INDEX_FROM = "python/formula_score/index.py"
+FAULTS_FROM = "python/formula_score/explaining/faults.py"
+INDEX_FROM = "python/formula_score/slips/index.py"
 SLIPS_FROM = "python/tests/slips.py"
 HUNDREDS_FROM = "python/tests/fresh"
 
@@ -88,7 +88,7 @@ PAGES: Mapping[str, Mapping[str, tuple[str, Callable[[], Iterator[str]]]]] = {
 }
 
 #: Files that are copies of others.
-COPIES = {"python/formula_score/studio/page/formula.tmLanguage.json": "editors/vscode/syntaxes/formula.tmLanguage.json"}
+COPIES = {"python/formula_companion/studio/page/formula.tmLanguage.json": "editors/vscode/syntaxes/formula.tmLanguage.json"}
 
 
 def _written(path: pathlib.Path, tables: Mapping[str, tuple[str, Callable[[], Iterator[str]]]]) -> str:

@@ -22,7 +22,7 @@ from typing import Callable, ClassVar, NamedTuple, Optional, Sequence
 
 import harness
 from bent import Texts
-from formula_score import words as command_line
+from formula_score.explaining import words as command_line
 
 WAYS: tuple[list[str], ...] = (
     ["--workers", "0"],

@@ -14,7 +14,7 @@ import re
 import sys
 from typing import Any, Iterator, Optional, Sequence
 
-from formula_score import records as record_parts
+from formula_score.explaining import records as record_parts
 from harness import EXAMPLES, TOP, Count, Runs, bytes_of, content, difference
 
 sys.path[:0] = [str(TOP / "tools" / name) for name in ("file_model", "score_model", "core_model", "bench")]

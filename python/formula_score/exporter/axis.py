@@ -10,9 +10,9 @@ from __future__ import annotations
 from fractions import Fraction
 from typing import NamedTuple, Optional
 
-from ..companion.walk import Happening, Level, Played, Process, messages_of, parts_of
-from ..expected import Made, come_out, outside
-from ..shapes import Part
+from ..making.expected import Made, come_out, outside
+from ..making.shapes import Part
+from ..reading.walk import Happening, Level, Played, Process, messages_of, parts_of
 
 
 class Spot(NamedTuple):

@@ -7,7 +7,7 @@ from collections import defaultdict
 from fractions import Fraction
 from typing import NamedTuple
 
-from ..companion.playing import Listing
+from ..reading.playing import Listing
 
 
 class Checked(NamedTuple):

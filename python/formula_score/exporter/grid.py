@@ -4,8 +4,8 @@ from __future__ import annotations
 
 from typing import NamedTuple
 
-from ..companion.meter import Meter
-from ..companion.walk import Level, Played
+from ..reading.meter import Meter
+from ..reading.walk import Level, Played
 from .axis import Axis, Heard, Spot, heard
 from .tempo import PLAIN, SLOWEST, Point, Region, tempos
 

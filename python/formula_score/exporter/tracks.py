@@ -4,10 +4,10 @@ from __future__ import annotations
 
 from typing import Iterator, NamedTuple, Optional
 
-from ..companion.marks import bars_of
-from ..companion.tree import Block, Reading, Statement
-from ..companion.walk import Place, Played
-from ..midi import INSTRUMENTS
+from ..making.midi import INSTRUMENTS
+from ..reading.marks import bars_of
+from ..reading.tree import Block, Reading, Statement
+from ..reading.walk import Place, Played
 from .axis import Heard
 
 

@@ -6,7 +6,7 @@ import re
 import unicodedata
 from typing import Callable, NamedTuple, Optional
 
-from ..nodes import KEYWORDS
+from ..making.nodes import KEYWORDS
 from .bytes import at_byte, at_number
 from .calls import called
 from .checking import says_a_change, stands
@@ -17,13 +17,13 @@ from .programs import of_programs
 from .ranges import known_name, nearest, no_ticks, out_of_range, unknown_name
 from .smallest import meant, rearranged, smallest
 from .spot import Spot
-from .stray import lines_begun, or_away, outside, quoted_away
 from .statement import at_statement
+from .stray import lines_begun, or_away, outside, quoted_away
 from .sureness import conditional
-from .trying import Change, mends
 from .telling import failing
-from .typed import mistyped
 from .tokens import END, INDEX, NAME, NUMBER, PITCH, REGISTER, kind_of
+from .trying import Change, mends
+from .typed import mistyped
 from .wording import in_range, without_rhythm, worded
 
 __all__ = ["Told", "told"]

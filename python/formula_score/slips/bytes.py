@@ -7,12 +7,12 @@ import unicodedata
 from fractions import Fraction
 from typing import Optional
 
-from ..index import musical
-from ..midi import DYNAMICS
-from ..nodes import KEYWORDS
+from ..making.midi import DYNAMICS
+from ..making.nodes import KEYWORDS
 from .common import FUNCTIONS
 from .cures import Computed, Known, Sure
 from .foreign import length_at, pitch_at, sum_at
+from .index import musical
 from .indexed import by_index, by_mark, meaning
 from .near import near
 from .pitches import is_chord_name

@@ -5,13 +5,13 @@ from __future__ import annotations
 import re
 from typing import Callable, Optional
 
-from ..index import musical
-from ..midi import DYNAMICS
+from ..making.midi import DYNAMICS
 from .checking import stands
 from .common import ended, goes_on, open_block, parenthesized, statement_text, token_before
 from .cures import Computed, Known
 from .foreign import length_at, pitch_at, sum_at
 from .forms import FORMS
+from .index import musical
 from .indexed import by_index, by_mark, meaning
 from .marks import angle, mark_behind
 from .near import near

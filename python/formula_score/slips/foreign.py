@@ -6,7 +6,7 @@ import re
 from fractions import Fraction
 from typing import NamedTuple, Optional
 
-from ..pitch import Pitch
+from ..making.pitch import Pitch
 
 _STEPS = {"c": 0, "d": 2, "e": 4, "f": 5, "g": 7, "a": 9, "b": 11, "h": 11}
 _ACCIDENTALS = {

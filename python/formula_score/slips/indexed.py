@@ -5,11 +5,10 @@ from __future__ import annotations
 import re
 from typing import Optional
 
-from ..index import Word, musical
-from ..midi import DYNAMICS, INSTRUMENTS
+from ..making.midi import DYNAMICS, INSTRUMENTS
 from .cures import Computed, Known
+from .index import Word, musical
 from .near import near
-
 
 
 def by_index(word: str, number: str = "") -> Optional[str]:

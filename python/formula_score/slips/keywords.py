@@ -12,7 +12,6 @@ from .spot import Spot
 from .tokens import NAME, PITCH
 
 
-
 def head_word(word: str, spot: Spot) -> str:
     if word == "formula":
         return Sure("the head stands once, at the beginning of the text: take this one away")

@@ -5,7 +5,7 @@ from __future__ import annotations
 import re
 from typing import Optional
 
-from ..midi import DYNAMICS
+from ..making.midi import DYNAMICS
 from .common import FUNCTIONS, insert, parenthesized, statement_text
 from .cures import Computed
 from .foreign import length_at, pitch_at, sum_at

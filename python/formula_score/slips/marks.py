@@ -5,7 +5,7 @@ from __future__ import annotations
 import re
 from typing import Optional
 
-from ..midi import DYNAMICS
+from ..making.midi import DYNAMICS
 from .common import statement_text
 from .cures import Known
 from .indexed import by_index, by_mark, meaning

@@ -4,7 +4,7 @@ from __future__ import annotations
 
 from typing import Iterable
 
-from ..nodes import KEYWORDS
+from ..making.nodes import KEYWORDS
 
 
 def distance(one: str, other: str) -> int:

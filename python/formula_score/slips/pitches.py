@@ -6,7 +6,7 @@ import math
 import re
 from typing import Optional
 
-from ..pitch import Pitch
+from ..making.pitch import Pitch
 from .common import FUNCTIONS, parenthesized, token_before
 from .cures import Computed, Known, Sure
 from .drawing import drawn_at

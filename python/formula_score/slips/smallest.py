@@ -5,7 +5,7 @@ from __future__ import annotations
 import re
 from typing import Iterator, NamedTuple, Optional, Sequence
 
-from ..nodes import KEYWORDS
+from ..making.nodes import KEYWORDS
 from .common import goes_on
 from .near import is_begun_alike, near
 from .spot import Spot, is_statement

@@ -6,11 +6,11 @@ import re
 from fractions import Fraction
 from typing import Optional
 
-from ..index import musical
-from ..midi import DYNAMICS, INSTRUMENTS
+from ..making.midi import DYNAMICS, INSTRUMENTS
 from .cures import Computed, Known
 from .elsewhere import ELSEWHERE, elsewhere
 from .foreign import length_at, pitch_at
+from .index import musical
 from .indexed import by_index, instrument, meaning
 from .keywords import at_keyword, head_word
 from .layout import unclosed
@@ -19,7 +19,6 @@ from .reading import OUTSIDE, STATEMENTS
 from .spot import Spot, is_statement
 from .symbols import at_number_of_statement, at_symbol
 from .tokens import END, INDEX, NAME, NUMBER, OTHER, PITCH, REGISTER
-
 
 
 #: Commands of LilyPond, also where their `\\` is missing.

@@ -5,8 +5,8 @@ from __future__ import annotations
 import re
 from typing import Optional
 
-from ..index import musical
 from .cures import Computed, Known
+from .index import musical
 from .spot import Spot
 from .tokens import END, NUMBER
 from .trying import Change, changed, mends, reads_past

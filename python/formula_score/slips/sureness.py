@@ -7,7 +7,7 @@ import unicodedata
 from difflib import SequenceMatcher
 from typing import NamedTuple, Sequence
 
-from ..nodes import KEYWORDS
+from ..making.nodes import KEYWORDS
 from .common import goes_on, statement_text
 from .cures import Sure
 from .following import followed

@@ -14,7 +14,6 @@ from .spot import Spot, is_statement
 from .tokens import NUMBER, PITCH, kind_of
 
 
-
 def at_symbol(spot: Spot) -> Optional[str]:
     text, last = spot.here.text, spot.last.text
     if text == ";":

@@ -5,7 +5,7 @@ from __future__ import annotations
 import re
 from typing import Iterator, NamedTuple
 
-from ..nodes import KEYWORDS
+from ..making.nodes import KEYWORDS
 
 #: Kinds of tokens. A keyword or a symbol has its own text as its kind.
 NUMBER, PITCH, REGISTER, INDEX, NAME, OTHER, END = "NUMBER", "PITCH", "REGISTER", "INDEX", "NAME", "OTHER", "END"

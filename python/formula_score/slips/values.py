@@ -5,7 +5,7 @@ from __future__ import annotations
 import re
 from typing import Optional
 
-from ..pitch import Pitch
+from ..making.pitch import Pitch
 from .common import FUNCTIONS, goes_on, insert
 from .cures import Computed, Known, Sure
 from .drawing import drawn_at

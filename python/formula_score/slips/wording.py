@@ -5,7 +5,7 @@ from __future__ import annotations
 import re
 from collections import Counter
 
-from ..nodes import KEYWORDS
+from ..making.nodes import KEYWORDS
 from .common import statement_text
 from .cures import Computed, Known
 from .limits import MILLION

@@ -1,0 +1,117 @@
+"""The language server: messages in, answers and diagnostics out."""
+
+from __future__ import annotations
+
+from typing import Any, BinaryIO, Callable, Optional
+
+from pylsp_jsonrpc.endpoint import Endpoint
+from pylsp_jsonrpc.exceptions import JsonRpcInvalidParams
+from pylsp_jsonrpc.streams import JsonRpcStreamReader, JsonRpcStreamWriter
+
+from formula_score import __version__
+from ..editing.refusal import Refusal
+from .answers import Text, Value
+from .judging import Judge
+
+#: Whole texts are sent with each change.
+_FULL = 1
+_WARNING = 2
+NO_PROGRAM = "there is no program, so nothing is judged: let FORMULA name it, or put formula into PATH"
+
+
+class Server:
+    """The documents that are open, and what is answered about them."""
+
+    def __init__(self, incoming: BinaryIO, outgoing: BinaryIO, program: Optional[str]):
+        self.program = program
+        self.texts: dict[str, Text] = {}
+        self.judges: dict[str, Judge] = {}
+        self.is_shut_down = False
+        self.reader = JsonRpcStreamReader(incoming)
+        handlers: dict[str, Callable[[Value], Any]] = {
+            "initialize": self.initialize, "initialized": self.initialized, "shutdown": self.shut_down,
+            "exit": self.exit, "textDocument/didOpen": self.did_open, "textDocument/didChange": self.did_change,
+            "textDocument/didClose": self.did_close, "textDocument/didSave": lambda _: None,
+            "textDocument/hover": lambda asked: self._text(asked).hover(asked["position"]),
+            "textDocument/completion": lambda asked: self._text(asked).completion(asked["position"]),
+            "textDocument/definition": lambda asked: self._text(asked).definition(asked["position"]),
+            "textDocument/references": lambda asked: self._text(asked).references(
+                asked["position"], bool(asked.get("context", {}).get("includeDeclaration", True))),
+            "textDocument/documentSymbol": lambda asked: self._text(asked).symbols(),
+            "textDocument/prepareRename": lambda asked: self._text(asked).may_rename(asked["position"]),
+            "textDocument/rename": self.rename,
+        }
+        self.endpoint = Endpoint(handlers, JsonRpcStreamWriter(outgoing).write)
+
+    def serve(self) -> int:
+        """Answers until the editor ends it, and gives the status."""
+        self.reader.listen(self.endpoint.consume)
+        for judge in self.judges.values():
+            judge.stop()
+        return 0 if self.is_shut_down else 1
+
+    # ---- the beginning and the end
+
+    def initialize(self, _: Value) -> Value:
+        """What the server can do."""
+        return {"serverInfo": {"name": "formula-score", "version": __version__}, "capabilities": {
+            "positionEncoding": "utf-16", "textDocumentSync": {"openClose": True, "change": _FULL},
+            "hoverProvider": True, "completionProvider": {"triggerCharacters": [" "]}, "definitionProvider": True,
+            "referencesProvider": True, "documentSymbolProvider": True, "renameProvider": {"prepareProvider": True}}}
+
+    def initialized(self, _: Value) -> None:
+        """Says where there is no program."""
+        if self.program is None:
+            self.endpoint.notify("window/showMessage", {"type": _WARNING, "message": NO_PROGRAM})
+
+    def shut_down(self, _: Optional[Value]) -> None:
+        """The editor will end it."""
+        self.is_shut_down = True
+
+    def exit(self, _: Optional[Value]) -> None:
+        """Ends."""
+        self.endpoint.shutdown()
+        self.reader.close()
+
+    # ---- documents
+
+    def did_open(self, notice: Value) -> None:
+        """A document is open."""
+        document = notice["textDocument"]
+        self._take(Text(document["uri"], document.get("version"), document["text"]))
+
+    def did_change(self, notice: Value) -> None:
+        """A document has another text."""
+        document = notice["textDocument"]
+        self._take(Text(document["uri"], document.get("version"), notice["contentChanges"][-1]["text"]))
+
+    def did_close(self, notice: Value) -> None:
+        """A document is closed; nothing is said of it any more."""
+        uri = notice["textDocument"]["uri"]
+        self.texts.pop(uri, None)
+        judge = self.judges.pop(uri, None)
+        if judge:
+            judge.stop()
+        self.endpoint.notify("textDocument/publishDiagnostics", {"uri": uri, "diagnostics": []})
+
+    def _take(self, text: Text) -> None:
+        self.texts[text.uri] = text
+        if self.program is not None:
+            judge = self.judges.setdefault(text.uri, Judge(self.program))
+            judge.judge(text.data, lambda refusal: self._publish(text, refusal))
+
+    def _publish(self, text: Text, refusal: Optional[Refusal]) -> None:
+        self.endpoint.notify("textDocument/publishDiagnostics", text.diagnostics(refusal))
+
+    def _text(self, asked: Value) -> Text:
+        text = self.texts.get(asked["textDocument"]["uri"])
+        if text is None:
+            raise JsonRpcInvalidParams(message="this document is not open")
+        return text
+
+    def rename(self, asked: Value) -> Value:
+        """The changes for a new name, or why it may not be one."""
+        try:
+            return self._text(asked).rename(asked["position"], asked["newName"])
+        except ValueError as error:
+            raise JsonRpcInvalidParams(message=str(error)) from error

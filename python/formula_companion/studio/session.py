@@ -1,0 +1,99 @@
+"""One page that is open: its text comes with each change, and answers go back as they are known.
+
+Each text has a number. A newer one ends what is still running for an older one. The first answer is the program's: its
+file, or its refusal. The companion's follow: processes and places of the events, and bars.
+"""
+
+from __future__ import annotations
+
+import asyncio
+import contextlib
+import os
+import time
+from typing import Any, Awaitable, Callable, Optional
+
+from formula_score.explaining.explain import explanation, place_of
+from formula_score.reading.playing import Failed
+from .frames import packed
+from .runs import Program, Ran, Workers, remove
+
+#: A frame is sent to the page by this.
+Send = Callable[[bytes], Awaitable[None]]
+#: What the page asks beside its text, and which of it a newer one of the same kind ends.
+ASKED = ("bars", "facts", "curves", "complete", "hover", "outline", "names")
+
+
+class Session:
+    """What is running for a page."""
+
+    def __init__(self, program: Program, workers: Workers, send: Send):
+        self.program, self.workers, self.send = program, workers, send
+        self.text = b""
+        self.number = -1
+        self.file: Optional[str] = None
+        self._running: dict[str, asyncio.Task[None]] = {}
+
+    def take(self, message: dict[str, Any]) -> None:
+        """Begins what a message of the page asks for; what it does away with is ended."""
+        kind = message.get("do")
+        if kind == "text":
+            for task in self._running.values():
+                task.cancel()
+            self.text, self.number = str(message["text"]).encode("utf-8", "replace"), int(message["number"])
+            self._begin("text", self._play(self.text, self.number, message))
+        elif kind in ASKED:
+            self._begin(str(kind), self._ask(str(kind), message))
+
+    def close(self) -> None:
+        """Ends all that runs."""
+        for task in self._running.values():
+            task.cancel()
+        if self.file:
+            remove(self.file)
+
+    def _begin(self, kind: str, work: Awaitable[None]) -> None:
+        before = self._running.get(kind)
+        if before is not None:
+            before.cancel()
+        self._running[kind] = asyncio.ensure_future(_told(work))
+
+    async def _play(self, text: bytes, number: int, message: dict[str, Any]) -> None:
+        begun = time.monotonic()
+        ran = await self.program.play(text)
+        if ran.status != 0:
+            remove(ran.file)
+            await self._refuse(ran, text, number)
+            return
+        old, self.file = self.file, ran.file
+        if old:
+            remove(old)
+        with open(ran.file, "rb") as file:
+            data = file.read()
+        await self.send(packed({"kind": "file", "number": number, "seconds": time.monotonic() - begun}, data))
+        await self._answer("picture", {}, text, number)
+        await self._answer("bars", message, text, number)
+
+    async def _refuse(self, ran: Ran, text: bytes, number: int) -> None:
+        place = place_of(ran.said)
+        if place is None:
+            why = explanation(ran.status, ran.said, ["--", "score", ran.file])
+            await self.send(packed({"kind": "failed", "number": number, "failed": why or ran.said}))
+            return
+        await self._answer("refusal", {"place": list(place)}, text, number)
+
+    async def _ask(self, kind: str, message: dict[str, Any]) -> None:
+        await self._answer(kind, message, self.text, self.number)
+
+    async def _answer(self, kind: str, message: dict[str, Any], text: bytes, number: int) -> None:
+        """Lets a worker answer, and hands it on with the number of the text and of the question."""
+        head = {name: message[name] for name in ("meter", "upbeat", "event", "process", "position", "place")
+                if name in message}
+        answer = await self.workers.ask({**head, "do": kind, "file": self.file or os.devnull}, text)
+        await self.send(packed({**answer.head, "kind": kind, "number": number, "question": message.get("question")},
+                               answer.body))
+
+
+async def _told(work: Awaitable[None]) -> None:
+    """Work that may be ended, and whose page may have gone."""
+    with contextlib.suppress(asyncio.CancelledError, ConnectionError, Failed):
+        await work

@@ -1,0 +1,213 @@
+"""The verb `play`: runs the program on its own words, and keeps what OUT was until the new file is whole."""
+
+from __future__ import annotations
+
+import contextlib
+import os
+import signal
+import stat
+import subprocess
+import sys
+from types import FrameType
+from typing import Iterator, NamedTuple, Optional, Sequence
+
+from formula_score.explaining.explain import explanation
+from formula_score.explaining.words import USAGE, Words, read
+from formula_score.reading.playing import Failed, program
+from formula_score.running.command import environment
+from .origin import origin
+from .outs import SIGNALS, Beside, Descriptor, Out, Straight, descriptor_of, out_of
+
+#: The statuses of the program that this verb gives by itself, and the program's lines.
+WORDS, WRITE, UNSAID = 1, 4, 5
+LINES = {WORDS: "formula: words refused", WRITE: "formula: write fault"}
+#: The status where there is no program, as `scripts/formula` has it.
+NO_PROGRAM = 70
+
+ABOUT = """\
+Runs formula on the same words, and is safe in the hand:
+
+- IN and OUT that are one file are refused, before anything is read.
+- OUT is the old file or the whole new one. The new one is written beside it, synced, closed and renamed at status 0,
+  and each answer of the host is looked at. Mode, owner and attributes stay; where OUT is a link, its target is
+  replaced. Another hard link to the old file keeps the old one. A FIFO or a device is written straight.
+- `-`, /dev/stdout and other open descriptors may be OUT, with `>`, `>>` and pipes, whatever is asked for: the file is
+  made first, and then copied there. What the program says then goes to standard error. `-` as IN is standard input.
+
+The options are those of formula(1). --help prints this, --version from what the program was proved.
+
+status: that of the program, as formula(1) and README tell it. 1 also where IN and OUT are one file; 4 also where OUT
+could not be synced, closed or renamed, or its owner would change; 70 where there is no program; 128 + N where the
+signal N ended the run. OUT is what it was, but at 0, and at 5 where only the line of a file that is there failed."""
+
+
+def main(words: Sequence[str], name: str, version: str) -> int:
+    """Plays, or helps, and gives the status."""
+    options = words[:words.index("--")] if "--" in words else words
+    if "--help" in options or "-h" in options:
+        print(f"{USAGE.replace('formula', name, 1)}\n\n{ABOUT}")
+        return 0
+    if "--version" in options:
+        print(f"{version}\n{origin()}")
+        return 0
+    _open_what_is_closed()
+    asked = read(words)
+    if asked.wrong:
+        return _end(End(WORDS, LINES[WORDS], f"{asked.wrong}\n{USAGE.replace('formula', name, 1)}"))
+    target = asked.files[1]
+    if _is_in(target, asked.files[0]):
+        end = End(WORDS, LINES[WORDS], f"IN and OUT are one file, {target!r}: give OUT another name")
+        return _end(end, _means_output(descriptor_of(target)))
+    try:
+        return _play(asked)
+    except Failed as failed:
+        return _end(End(NO_PROGRAM, "", failed.why))
+
+
+class End(NamedTuple):
+    """How a run ended: its status, its line, and the same in more words."""
+
+    status: int
+    said: str
+    why: str
+
+
+def _play(asked: Words) -> int:
+    source, target = asked.files
+    options = [f"{option}={asked.numbers[option]}" if option in asked.numbers else option for option in asked.options]
+    command = [program(), *options, "--", "/dev/stdin" if source == "-" else source]
+    # with --locate OUT is not opened
+    out: Out = Straight(target) if asked.task == "--locate" else out_of(target)
+    try:
+        with _signals() as run:
+            end = run.answer([*command, out.name])
+            if not run.number:
+                end = _kept(out, target, end)
+    finally:
+        out.drop()
+    if run.number:
+        signal.signal(run.number, signal.SIG_DFL)
+        os.kill(os.getpid(), run.number)
+    if end.status and not end.why:
+        end = end._replace(why=explanation(end.status, end.said, [*options, "--", source, target]))
+    return _end(end, isinstance(out, Descriptor) and _means_output(out.number))
+
+
+def _kept(out: Out, target: str, end: End) -> End:
+    """How the run ends once OUT is what it is to be."""
+    if end.status == WRITE and isinstance(out, (Descriptor, Beside)):
+        return end._replace(why=_unwritten(target, out.why_full()))
+    if end.status not in (0, WRITE):
+        return end
+    try:
+        out.keep()
+    except OSError as error:
+        return End(WRITE, LINES[WRITE], _unwritten(target, error.strerror or "the host does not say why"))
+    return end
+
+
+def _unwritten(target: str, why: str) -> str:
+    what = "standard output" if target == "-" else repr(target)
+    return f"{what} cannot be written: {why}"
+
+
+class _Run:
+    """The program at work, and the signal that is to end it."""
+
+    def __init__(self) -> None:
+        self.number = 0
+        self.process: Optional["subprocess.Popen[bytes]"] = None
+
+    def signalled(self, number: int, _: Optional[FrameType] = None) -> None:
+        """Hands a signal on, and notes it."""
+        self.number = number
+        if self.process:
+            self.process.send_signal(number)
+
+    def answer(self, words: Sequence[str]) -> End:
+        """Runs the program with the descriptors that are open here, and gives its status and its line."""
+        try:
+            self.process = subprocess.Popen(words, stdout=subprocess.PIPE, stderr=subprocess.DEVNULL, close_fds=False,
+                                            restore_signals=False, env=environment())
+        except (OSError, ValueError) as error:
+            raise Failed(NO_PROGRAM, f"{words[0]} cannot be run: {error}") from error
+        with self.process as process:
+            if self.number:
+                process.send_signal(self.number)
+            said = process.communicate()[0].decode("utf-8", "replace").strip()
+        status = process.returncode
+        return End(status, said, "") if status >= 0 else End(128 - status, said, _by_signal(-status))
+
+
+def _by_signal(number: int) -> str:
+    try:
+        name = signal.Signals(number).name
+    except ValueError:
+        name = str(number)
+    return f"the signal {name} ended the program"
+
+
+@contextlib.contextmanager
+def _signals() -> Iterator[_Run]:
+    """A run to which signals are handed on, but those that are ignored here."""
+    run = _Run()
+    before = {number: signal.getsignal(number) for number in SIGNALS}
+    for number, handler in before.items():
+        if handler != signal.SIG_IGN:
+            signal.signal(number, run.signalled)
+    try:
+        yield run
+    finally:
+        for number, handler in before.items():
+            signal.signal(number, handler)
+
+
+def _open_what_is_closed() -> None:
+    """Lets a closed standard descriptor be /dev/null, as in the program: no file that is opened takes its place."""
+    for number in range(3):
+        try:
+            os.fstat(number)
+        except OSError:
+            os.set_inheritable(os.open(os.devnull, os.O_RDONLY), True)
+
+
+def _is_in(target: str, source: str) -> bool:
+    """Whether OUT is the file that is read: devices may be both."""
+    number = descriptor_of(target)
+    try:
+        source_facts = os.fstat(0) if source == "-" else os.stat(source)
+        target_facts = os.stat(target) if number is None else os.fstat(number)
+    except (OSError, ValueError):
+        return False
+    mode = source_facts.st_mode
+    return os.path.samestat(source_facts, target_facts) and not stat.S_ISCHR(mode) and not stat.S_ISDIR(mode)
+
+
+def _means_output(number: Optional[int]) -> bool:
+    """Whether a descriptor is standard output, where a line would stand in OUT."""
+    try:
+        return number is not None and os.path.samestat(os.fstat(number), os.fstat(1))
+    except OSError:
+        return False
+
+
+def _put(number: int, text: str) -> bool:
+    """Writes a line to a descriptor, and tells whether all of it was taken."""
+    stream = sys.stdout if number == 1 else sys.stderr
+    line = memoryview(f"{text}\n".encode(getattr(stream, "encoding", None) or "utf-8", "replace"))
+    try:
+        while line:
+            line = line[os.write(number, line):]
+    except OSError:
+        return False
+    return True
+
+
+def _end(end: End, is_output: bool = False) -> int:
+    """Says the line, and why, and gives the status; where OUT is standard output both go to standard error."""
+    status, said, why = end
+    if said and not _put(2 if is_output else 1, said) and not is_output:
+        status, why = UNSAID, explanation(UNSAID, said, [])
+    if why:
+        _put(2, why)
+    return status

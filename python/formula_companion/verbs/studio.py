@@ -1,0 +1,99 @@
+"""The verb `studio`: a page in the browser that shows and plays a score while it is written."""
+
+from __future__ import annotations
+
+import argparse
+import asyncio
+import os
+import shutil
+import socket
+import subprocess
+
+from formula_score.reading.playing import Failed, program
+from ..studio.folder import Folder
+from .needs import needs
+
+
+def arguments(parser: argparse.ArgumentParser) -> None:
+    """What the verb takes."""
+    parser.add_argument("path", metavar="SCORE | FOLDER", nargs="?", default=".", help="a score, which may be a new "
+                        "one, or a folder with scores; the present folder where it is not given")
+    parser.add_argument("--read-only", action="store_true", help="save nothing")
+    parser.add_argument("--no-open", action="store_true", help="open no browser; the address is printed in any case")
+    parser.add_argument("--port", type=_port, default=0, metavar="N", help="the port; a free one where it is not given")
+    parser.description = f"""{parser.description}
+
+The page has the text with its colours, what is refused in it and why, the piano roll, the processes, the deformations
+of time, and sound by fluidsynth, or else by the browser. All ticks that it shows are the proved program's. It works
+without a network, and on this computer alone: the address has a secret, and only the folder or the score that is named
+is read and written. End it with Ctrl-C. It needs Debian's packages python3-aiohttp and libjs-codemirror, and for sound
+fluidsynth and fluid-soundfont-gm."""
+
+
+def _port(word: str) -> int:
+    number = int(word)
+    if not 0 <= number < 65536:
+        raise argparse.ArgumentTypeError("a port is a number from 0 to 65535")
+    return number
+
+
+def run(options: argparse.Namespace) -> int:
+    """Serves the page until it is ended."""
+    words = ["studio", *(["--read-only"] if options.read_only else []), *(["--no-open"] if options.no_open else []),
+             "--port", str(options.port), "--", options.path]
+    needs("aiohttp", "python3-aiohttp", words)
+    from ..studio import server  # it needs aiohttp
+
+    if not (server.EDITOR / f"{server.EDITOR_PARTS[0]}.js").exists():
+        raise Failed(1, "the editor CodeMirror is missing: apt-get install libjs-codemirror")
+    folder, opened = _folder(options.path, options.read_only)
+    listener = _listener(options.port)
+
+    def tell(address: str, home: str) -> None:
+        print(f"the studio is at {address}\nend it with Ctrl-C", flush=True)
+        opener = None if options.no_open else shutil.which("xdg-open")
+        if opener:
+            subprocess.Popen([opener, _page_that_leads(address, home)], stdin=subprocess.DEVNULL,
+                             stdout=subprocess.DEVNULL, stderr=subprocess.DEVNULL, start_new_session=True)
+
+    try:
+        asyncio.run(server.serve(server.Settings(program(), folder, opened, listener), tell))
+    except KeyboardInterrupt:
+        print()
+    finally:
+        listener.close()
+        folder.close()
+    return 0
+
+
+def _folder(path: str, read_only: bool) -> tuple[Folder, str]:
+    """The folder that may be read and written, and the score that is opened."""
+    if os.path.isdir(path):
+        return Folder(path, None, read_only), ""
+    home, name = os.path.split(path)
+    if not name.endswith(".score"):
+        raise Failed(2, f"{path!r} is neither a folder nor a score: the name of a score ends in .score")
+    if not os.path.isdir(home or "."):
+        raise Failed(2, f"there is no folder {home!r}")
+    return Folder(home or ".", name, read_only), name
+
+
+def _page_that_leads(address: str, home: str) -> str:
+    """The name of a file that leads a browser on. The words of a process can be read by every user of this computer, so
+    the address with its secret is none of them."""
+    path = os.path.join(home, "studio.html")
+    with open(os.open(path, os.O_WRONLY | os.O_CREAT | os.O_EXCL, 0o600), "w", encoding="ascii") as file:
+        file.write(f'<!doctype html><title>Studio</title><meta http-equiv="refresh" content="0; url={address}">\n')
+    return path
+
+
+def _listener(port: int) -> socket.socket:
+    """A socket that this computer alone can reach."""
+    listener = socket.socket()
+    listener.setsockopt(socket.SOL_SOCKET, socket.SO_REUSEADDR, 1)
+    try:
+        listener.bind(("127.0.0.1", port))
+    except OSError as error:
+        listener.close()
+        raise Failed(1, f"the studio cannot listen on port {port}: {error.strerror}") from error
+    return listener

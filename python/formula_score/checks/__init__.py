@@ -1,0 +1,1 @@
+"""What is accepted in a score and hardly meant, and its bars."""

@@ -1,0 +1,136 @@
+"""Runs of the proved program: its files, its listings, and what it says of a text that it refuses."""
+
+from __future__ import annotations
+
+import os
+import pathlib
+import subprocess
+import tempfile
+from typing import Iterable, NamedTuple, Optional, Sequence
+
+from ..explaining.explain import explanation
+from ..making.errors import CommandError
+from ..running import command
+from ..running.command import FileEvent as Event
+from ..slips.kinds import BY_VERBS
+
+__all__ = ["Event", "Failed", "Listing", "Run", "judge", "listed", "listing_of", "listing_of_file", "located",
+           "counted", "must_differ", "needs", "program", "run", "text_of"]
+
+_TOP = pathlib.Path(__file__).resolve().parents[3]
+
+
+class Failed(Exception):
+    """Why a verb cannot go on: the status it ends with, a line for standard output, and the reason."""
+
+    def __init__(self, status: int, why: str, said: str = ""):
+        super().__init__(why)
+        self.status, self.why, self.said = status, why, said
+
+
+class Run(NamedTuple):
+    """A run of the program: its status, its line, and what the line means."""
+
+    status: int
+    said: str
+    why: str
+
+
+class Listing(command.Listing):
+    """The events of a file."""
+
+    __slots__ = ()
+
+    @property
+    def end(self) -> int:
+        """The tick of the last End of Track."""
+        return max((event.tick for event in self.events if event.message[:2] == b"\xff\x2f"), default=0)
+
+
+def program() -> str:
+    """The proved program; built on first use, where this package stands in the repository."""
+    found = command.find_program()
+    if found is None and (_TOP / "scripts" / "formula").exists():
+        built = subprocess.run([_TOP / "scripts" / "formula", "--program"], stdout=subprocess.PIPE, check=False)
+        found = built.stdout.decode().strip() if built.returncode == 0 else None
+    if not found:
+        raise Failed(1, "there is no program: let FORMULA name it, or put formula into PATH")
+    return found
+
+
+def run(source: str, target: str, *options: str) -> Run:
+    """Runs the program on two files; nobody is told anything."""
+    words = [*options, "--", source, target]
+    try:
+        status, said = command.answer(program(), words)
+    except CommandError as error:
+        raise Failed(1, error.why) from error
+    why = explanation(status, said, words) if status else ""
+    before, line = why.rpartition("\n")[::2]
+    return Run(status, said, f"{before}\n{BY_VERBS[line]}" if line in BY_VERBS else why)
+
+
+def needs(run: Run, refused: Optional[int] = None) -> Run:
+    """The run, where it ended with 0; else its status ends the verb, or `refused` in place of a refusal's."""
+    if run.status == 0:
+        return run
+    raise Failed(refused if refused is not None and run.status == 3 else run.status, run.why, run.said)
+
+
+def text_of(path: str) -> bytes:
+    """The bytes of a score or a file."""
+    try:
+        with open(path, "rb") as file:
+            return file.read()
+    except OSError as error:
+        raise Failed(2, f"{path!r} cannot be read: {error.strerror}") from error
+
+
+def listed(lines: Iterable[str]) -> Listing:
+    """What the lines of a listing say; a `ValueError` where they are none."""
+    return Listing(*command.listing_of(lines))
+
+
+def listing_of_file(path: str, refused: Optional[int] = None) -> Listing:
+    """The listing of a MIDI file."""
+    with tempfile.TemporaryDirectory() as folder:
+        out = os.path.join(folder, "out.listing")
+        needs(run(path, out, "--list"), refused)
+        with open(out, encoding="ascii") as file:
+            return listed(file)
+
+
+def listing_of(text: bytes, options: Sequence[str] = ()) -> Listing:
+    """The listing of what a text plays."""
+    with tempfile.TemporaryDirectory() as folder:
+        source, target = os.path.join(folder, "in.score"), os.path.join(folder, "out.mid")
+        with open(source, "wb") as file:
+            file.write(text)
+        needs(run(source, target, "--workers", "0", *options))
+        return listing_of_file(target)
+
+
+def located(text: bytes, tick: int, process: int) -> Optional[tuple[int, ...]]:
+    """The positions of a tick in the levels that are open where a process starts; None where there is none."""
+    try:
+        return command.locate(text, tick, process, program()).positions
+    except CommandError as error:
+        raise Failed(error.status, error.why, error.said) from error
+
+
+def counted(number: int, thing: str) -> str:
+    """So many of something, as `1 note` or `2 notes`."""
+    return f"{number:,} {thing}{'' if number == 1 else 'es' if thing.endswith('ch') else 's'}"
+
+
+def must_differ(source: str, target: str) -> None:
+    """Refuses to write a file over what it is made of."""
+    if os.path.exists(source) and os.path.exists(target) and os.path.samefile(source, target):
+        raise Failed(2, f"{target!r} is the file that is read: give another name to what is written")
+
+
+def judge(path: str, refused: Optional[int] = 1) -> bytes:
+    """The text of a score that the program accepts; nothing is played."""
+    text = text_of(path)
+    needs(run(path, os.devnull, "--locate", "0"), refused)
+    return text

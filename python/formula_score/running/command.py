@@ -1,0 +1,256 @@
+"""Runs the command, and turns what it says into values and exceptions.
+
+The options that change how a score is computed, and never its file: `workers`, how many threads compute ahead, 0 to
+16 (4 where it is not given); `lead`, how many ticks a process may run ahead, 0 to 1,000,000 (7680); `room`, how many
+events of a process may wait, 1 to 64 (32); `rounds`, that the threads play in rounds. Those that ask for another
+file, one of them at a time: `parts`, a track for each channel; `from_` and `to`, an excerpt between these ticks;
+`record`, the record of the run.
+"""
+
+from __future__ import annotations
+
+import os
+import re
+import shutil
+import subprocess
+import tempfile
+from typing import Iterable, NamedTuple, Optional, Sequence, Union
+
+from ..explaining.explain import (
+    explanation, file_place_of, file_refusal, place_of, record_place_of, record_refusal, refusal,
+)
+from ..explaining.words import RANGES
+from ..making.errors import CommandError, FileRefused, RecordRefused, Refused, ScoreError
+from ..making.values import truth, whole
+
+#: PREFIX/lib/formula, where the library is installed with the command.
+_HOME = os.path.abspath(os.path.join(os.path.dirname(__file__), *[os.pardir] * 3))
+
+Path = Union[str, "os.PathLike[str]"]
+
+
+class Located(NamedTuple):
+    """Where a tick of the file lies in each deformation that is open where a `process` starts: docs/POSITIONS.md.
+
+    `start` is the tick at which the process starts. `positions` has a position for each of its `levels`, in ticks as
+    they are written in the block, the outermost first; it is None where the level `never` does not come there.
+    """
+
+    process: int
+    levels: int
+    start: int
+    positions: Optional[tuple[int, ...]]
+    never: Optional[int]
+
+
+class FileEvent(NamedTuple):
+    """An event of a MIDI file: its `track` from 0, its `tick` from the beginning of the file, and its bytes as
+    `message`, the status byte always among them."""
+
+    track: int
+    tick: int
+    message: bytes
+
+
+class Listing(NamedTuple):
+    """The `events` of a MIDI file, track by track; its `format`, how many `tracks` it has, and as `division` the ticks
+    of a quarter note."""
+
+    format: int
+    tracks: int
+    division: int
+    events: list[FileEvent]
+
+
+class Large(NamedTuple):
+    """A large score that was played: how many `processes` and `events` it has, the tick of its End of Track as
+    `last`, and the `bytes` of the file."""
+
+    processes: int
+    events: int
+    last: int
+    bytes: int
+
+
+def find_program(program: Optional[str] = None) -> Optional[str]:
+    """The program that is named here or in FORMULA, that beside which this library is installed, or `formula` in PATH;
+    None where there is none."""
+    named = program or os.environ.get("FORMULA")
+    if named:
+        return named
+    beside = os.path.join(_HOME, "formula")
+    return beside if os.path.basename(_HOME) == "formula" and os.access(beside, os.X_OK) else _in_path()
+
+
+def _in_path() -> Optional[str]:
+    """`formula` in PATH; where that is the command as it is installed, the program itself, which explains nothing."""
+    found = shutil.which("formula")
+    if found is None:
+        return None
+    inner = os.path.join(os.path.dirname(os.path.dirname(os.path.realpath(found))), "lib", "formula", "formula")
+    return inner if os.access(inner, os.X_OK) else found
+
+
+def play(text: Union[str, bytes], path: Path, program: Optional[str] = None, *, workers: Optional[int] = None,
+         lead: Optional[int] = None, room: Optional[int] = None, rounds: bool = False, parts: bool = False,
+         from_: Optional[int] = None, to: Optional[int] = None, record: bool = False) -> None:
+    """Lets the command play a text into the file `path`; the options are those of this module.
+
+    A text that has a fault raises `Refused`, with the place and the meaning; any other end above 0 a `CommandError`.
+    Then the file is what README says of that status: at 1, 2, 3, 6 and 7 as it was.
+    """
+    _play(text, path, program, words_of(workers, lead, room, rounds, parts, from_, to, record))
+
+
+def render(text: Union[str, bytes], program: Optional[str] = None, *, workers: Optional[int] = None,
+           lead: Optional[int] = None, room: Optional[int] = None, rounds: bool = False, parts: bool = False,
+           from_: Optional[int] = None, to: Optional[int] = None, record: bool = False) -> bytes:
+    """Plays a text as `play` does, and gives the bytes of the file."""
+    options = words_of(workers, lead, room, rounds, parts, from_, to, record)
+    with tempfile.TemporaryDirectory() as folder:
+        path = os.path.join(folder, "out.mid")
+        _play(text, path, program, options)
+        with open(path, "rb") as file:
+            return file.read()
+
+
+def locate(text: Union[str, bytes], tick: int, process: int = 0, program: Optional[str] = None) -> Located:
+    """Where a tick of the file lies in the deformations round a process; a `CommandError` where there is none."""
+    words = ["--locate", str(whole("a tick", tick, *RANGES["--locate"])),
+             "--process", str(whole("a process", process, *RANGES["--process"]))]
+    said = _play(text, os.devnull, program, words)
+    found = re.fullmatch(r"process (\d+) levels (\d+) start (\d+) (positions|never)((?: \d+)*)", said)
+    if not found:
+        raise CommandError(0, said, f"the program said something else than where the tick lies: {said!r}")
+    number, levels, start = map(int, found.group(1, 2, 3))
+    numbers = tuple(map(int, found.group(5).split()))
+    if found.group(4) == "never":
+        return Located(number, levels, start, None, numbers[0])
+    return Located(number, levels, start, numbers, None)
+
+
+def listing(source: Union[Path, bytes], program: Optional[str] = None) -> Listing:
+    """The events of a MIDI file of format 0 or 1, of whatever program: a path, or the bytes themselves.
+
+    What is no such file raises `FileRefused`, with the byte.
+    """
+    with tempfile.TemporaryDirectory() as folder:
+        name, path = _stored(source, folder, "in.mid"), os.path.join(folder, "out")
+        _run(program, ["--list"], name, path)
+        with open(path, encoding="ascii") as file:
+            try:
+                return listing_of(file)
+            except ValueError:
+                raise CommandError(0, "", "the program wrote something else than a listing") from None
+
+
+def listing_of(lines: Iterable[str]) -> Listing:
+    """The events that the lines of a listing tell, as the command writes them; a `ValueError` for other lines."""
+    rows = iter(lines)
+    head = re.fullmatch(r"format (\d+) tracks (\d+) division (\d+)\n?", next(rows, ""))
+    if head is None:
+        raise ValueError("the first line has no format, tracks and division")
+    events = [FileEvent(int(track), int(tick), bytes.fromhex(message))
+              for track, tick, message in (line.split(" ", 2) for line in rows)]
+    form, tracks, division = map(int, head.groups())
+    return Listing(form, tracks, division, events)
+
+
+def large(number: int, path: Path, program: Optional[str] = None, *, workers: Optional[int] = None,
+          lead: Optional[int] = None, room: Optional[int] = None, rounds: bool = False, parts: bool = False,
+          from_: Optional[int] = None, to: Optional[int] = None, record: bool = False) -> Large:
+    """Plays the large score of a number, 0 to 999,999,999, which is for measuring; the options are those of `play`."""
+    words = ["--generate", str(whole("a large score", number, *RANGES["--generate"]))]
+    words += words_of(workers, lead, room, rounds, parts, from_, to, record)
+    said = _run(program, words, os.devnull, os.fspath(path))
+    found = re.fullmatch(r"processes (\d+) events (\d+) last (\d+) bytes (\d+)", said)
+    if not found:
+        raise CommandError(0, said, f"the program said something else than the totals: {said!r}")
+    return Large(*map(int, found.groups()))
+
+
+def audit(record: Union[Path, bytes], path: Path, program: Optional[str] = None) -> None:
+    """Checks the record of a run step by step, and writes the file of its score: of a path, or of the bytes.
+
+    A record whose steps are no run raises `RecordRefused`, one whose score has a fault `Refused`.
+    """
+    with tempfile.TemporaryDirectory() as folder:
+        _run(program, ["--audit"], _stored(record, folder, "in.record"), os.fspath(path))
+
+
+def words_of(workers: Optional[int] = None, lead: Optional[int] = None, room: Optional[int] = None,
+             rounds: bool = False, parts: bool = False, from_: Optional[int] = None, to: Optional[int] = None,
+             record: bool = False) -> list[str]:
+    """The options as words of the command line."""
+    words: list[str] = []
+    for name, number in (("workers", workers), ("lead", lead), ("room", room), ("from", from_), ("to", to)):
+        if number is not None:
+            words += [f"--{name}", str(whole(f"the option {name}", number, *RANGES[f"--{name}"]))]
+    for name, is_asked in (("rounds", rounds), ("parts", parts), ("record", record)):
+        if truth(f"the option {name}", is_asked):
+            words.append(f"--{name}")
+    asked = ("--parts" in words) + ("--record" in words) + ("--from" in words or "--to" in words)
+    if asked > 1:
+        raise ScoreError("parts, a record and an excerpt are asked for one at a time")
+    return words
+
+
+def _stored(source: Union[Path, bytes], folder: str, name: str) -> str:
+    """The name of a file that has the bytes."""
+    if not isinstance(source, bytes):
+        return os.fspath(source)
+    path = os.path.join(folder, name)
+    with open(path, "wb") as file:
+        file.write(source)
+    return path
+
+
+def _play(text: Union[str, bytes], path: Path, program: Optional[str], options: Sequence[str]) -> str:
+    """Runs the command on a text, and gives its line."""
+    data = text.encode("utf-8") if isinstance(text, str) else text
+    with tempfile.TemporaryDirectory() as folder:
+        return _run(program, options, _stored(data, folder, "in.score"), os.fspath(path), data)
+
+
+def environment() -> dict[str, str]:
+    """The environment without FORMULA: a program that runs `scripts/formula` would be run by it again."""
+    return {name: value for name, value in os.environ.items() if name != "FORMULA"}
+
+
+def _run(program: Optional[str], options: Sequence[str], source: str, target: str,
+         text: Optional[bytes] = None) -> str:
+    """Runs the command, and gives its line; raises what its status says."""
+    status, said = answer(program, [*options, "--", source, target])
+    if status == 0:
+        return said
+    if status == 3:
+        _refuse(said, source, text, "--audit" in options)
+    raise CommandError(status, said, explanation(status, said, [*options, "--", source, target]))
+
+
+def answer(program: Optional[str], words: Sequence[str]) -> tuple[int, str]:
+    """Runs the command on these words, and gives its status and its line."""
+    command = find_program(program)
+    if command is None:
+        raise CommandError(127, "", "there is no program: name it, or let FORMULA name it, or put formula into PATH")
+    try:
+        run = subprocess.run([command, *words], stdin=subprocess.DEVNULL, stdout=subprocess.PIPE,
+                             stderr=subprocess.DEVNULL, check=False, env=environment())
+    except (OSError, ValueError) as error:  # a name that no file has is the one or the other
+        reason = error.strerror if isinstance(error, OSError) else str(error)
+        raise CommandError(127, "", f"{command} cannot be run: {reason}") from error
+    return run.returncode, run.stdout.decode("utf-8", "replace").strip()
+
+
+def _refuse(said: str, source: str, text: Optional[bytes], is_record: bool) -> None:
+    """Raises what a line of status 3 says, where it says a place."""
+    place, file_place, record_place = place_of(said), file_place_of(said), record_place_of(said)
+    if place is not None and is_record:
+        raise Refused(said, explanation(3, said, ["--audit", "--", source, ""]), *place)
+    if place is not None:
+        raise Refused(said, refusal("score", text, place), *place)
+    if file_place is not None:
+        raise FileRefused(said, file_refusal(source, file_place), *file_place)
+    if record_place is not None:
+        with open(source, "rb") as file:
+            raise RecordRefused(said, record_refusal(source, file.read(), record_place), *record_place)

@@ -1,0 +1,1 @@
+"""Which synthesizer is there to play a file."""
