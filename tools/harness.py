@@ -1,7 +1,7 @@
 """What the scripts share that try the program: they find it, run it, judge what it did, and count.
 
 The program is the one that `--program FILE` names, else the one that FORMULA names, else the proved one, which
-scripts/formula builds if it has to."""
+bin/formula builds if it has to."""
 
 from __future__ import annotations
 
@@ -35,7 +35,7 @@ def no_program(reason: str) -> NoReturn:
 def find(named: Optional[str] = None) -> str:
     """The program, as a whole name; FORMULA is then out of the environment, so that no run goes through it again."""
     if not named:
-        built = subprocess.run([TOP / "scripts" / "formula", "--program"], stdout=subprocess.PIPE, text=True, check=False)
+        built = subprocess.run([TOP / "bin" / "formula", "--program"], stdout=subprocess.PIPE, text=True, check=False)
         if built.returncode:
             no_program("the program could not be built")
         named = built.stdout.strip()

@@ -28,7 +28,7 @@ class Follow(unittest.TestCase):
         self.score, self.page = pathlib.Path(home.name, "tune.score"), pathlib.Path(home.name, "roll.html")
         self.score.write_text(TUNE)
         words = ["roll", str(self.score), str(self.page), "--meter", "4/4", "--follow"]
-        follower = subprocess.Popen([sys.executable, str(TOP / "scripts" / "score"), *words], stdout=subprocess.DEVNULL)
+        follower = subprocess.Popen([sys.executable, str(TOP / "bin" / "formula-score"), *words], stdout=subprocess.DEVNULL)
         self.addCleanup(follower.wait)
         self.addCleanup(follower.terminate)
         self.wait(self.page.exists, "the page")

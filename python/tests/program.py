@@ -1,4 +1,4 @@
-"""The built program for the tests that play: FORMULA names it, else the one that scripts/formula built. No test builds it."""
+"""The built program for the tests that play: FORMULA names it, else the one that bin/formula built. No test builds it."""
 
 from __future__ import annotations
 

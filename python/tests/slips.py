@@ -317,12 +317,12 @@ SLIPS = (
          "take one of the two away, else move it there"),
     Slip("note c4 1/4; | note e4 1/4;", "note c4 1/4; note e4 1/4;", "1:14", 1,
          "`|` begins no word of the language",
-         "if this is a bar line, take the `|` away: it is not in the file: a comment counts bars, and `scripts/score "
+         "if this is a bar line, take the `|` away: it is not in the file: a comment counts bars, and `formula-score "
          "bars` checks it, and prints the tick of a bar"),
     Slip("note c4 1/4 || note e4 1/4;", "note c4 1/4; note e4 1/4;", "1:13", 1,
          "`|` begins no word of the language",
          "a statement ends with `;`: if this is a bar line, write `;` in place of the `||`; a bar line is not in the "
-         "file: a comment counts bars, and `scripts/score bars` checks it, and prints the tick of a bar"),
+         "file: a comment counts bars, and `formula-score bars` checks it, and prints the tick of a bar"),
     Slip("|: note c4 1/4; :|", "repeat 2 { note c4 1/4; }", "1:1", 1,
          "`|` begins no word of the language",
          "if `|:` stands for repeat, first and second ending, write it as in `repeat 2 { note c4 3/4; if n0 { note "
@@ -350,7 +350,7 @@ SLIPS = (
     Slip("time 3/4; note c4 1/4;", "note c4 1/4;", "1:1", 3,
          "`time` begins no statement",
          "if `time` stands for time signature, write it as in `note c4 1/4; note e4 1/4; note g4 1/4;` (not in the "
-         "file: lengths say all, as of a bar of 3/4 here. `scripts/score bars --meter 3/4` counts bars, and so does "
+         "file: lengths say all, as of a bar of 3/4 here. `formula-score bars --meter 3/4` counts bars, and so does "
          "`Meter` of `python/README.md`); a remark stands behind a `#`"),
     Slip("tempo 90; note c4 1/4;", "shape tempo_90 = flat 500/1 by 1333; warp tempo_90 { note c4 1/4; }", "1:1", 3,
          "`tempo` begins no statement",

@@ -41,7 +41,7 @@ class Running:
         if program is None:  # the command would build one
             raise unittest.SkipTest("NOT TRIED: there is no program, and FORMULA names none")
         self.process = subprocess.Popen(
-            [sys.executable, str(TOP / "scripts" / "score"), "studio", *([] if opens else ["--no-open"]),
+            [sys.executable, str(TOP / "bin" / "formula-score"), "studio", *([] if opens else ["--no-open"]),
              *map(str, words)],
             env={**os.environ, "FORMULA": program}, stdin=subprocess.DEVNULL, stdout=subprocess.PIPE,
             stderr=subprocess.PIPE, text=True, start_new_session=True)

@@ -1,4 +1,4 @@
-"""Folders of scores: what scripts/batch plays, tells and leaves behind, here and over ssh."""
+"""Folders of scores: what formula-score batch plays, tells and leaves behind, here and over ssh."""
 
 from __future__ import annotations
 
@@ -21,7 +21,7 @@ from formula_score import Score, note, repeat, ticks
 from .program import PROGRAM, TOP, foretold, needs_program
 from .test_scripts import written
 
-BATCH = str(TOP / "scripts" / "batch")
+BATCH = [str(TOP / "bin" / "formula-score"), "batch"]
 SSHD = shutil.which("sshd", path="/usr/sbin:/usr/local/sbin:/usr/bin")
 LONGEST = 60
 
@@ -57,7 +57,7 @@ class Folder(unittest.TestCase):
         self.folder.mkdir()
 
     def run_it(self, *words: str, program: Optional[str] = PROGRAM) -> "subprocess.CompletedProcess[str]":
-        return subprocess.run([BATCH, *words, str(self.folder), str(self.out)], stdout=subprocess.PIPE,
+        return subprocess.run([*BATCH, *words, str(self.folder), str(self.out)], stdout=subprocess.PIPE,
                               stderr=subprocess.PIPE, text=True, check=False,
                               env={**os.environ, "FORMULA": program or ""})
 
@@ -83,7 +83,7 @@ class Folder(unittest.TestCase):
     def interrupted(self, words: list[str], program: str, number: int,
                     is_so: Callable[[], bool]) -> tuple[int, str, str]:
         """How a run ends that gets a signal once it is so, and what it says."""
-        with subprocess.Popen([BATCH, *words, str(self.folder), str(self.out)], stdout=subprocess.PIPE,
+        with subprocess.Popen([*BATCH, *words, str(self.folder), str(self.out)], stdout=subprocess.PIPE,
                               stderr=subprocess.PIPE, text=True, env={**os.environ, "FORMULA": program}) as run:
             self.until(is_so)
             run.send_signal(number)
@@ -174,7 +174,7 @@ case $last in */0.part) : >"$last" ;; *) sleep 300.25 ;; esac
 
 
 def own_lines(text: str) -> str:
-    """The lines that scripts/batch says itself."""
+    """The lines that formula-score batch says itself."""
     return "".join(line for line in text.splitlines(keepends=True) if line.startswith("batch:"))
 
 

@@ -37,9 +37,9 @@ class Words(unittest.TestCase):
         os.chdir(TOP)
         try:
             for page in ("TUTORIAL", "POSITIONS"):
-                for block in re.findall(r"^```\n(\$ scripts/score .*?)^```", (TOP / "docs" / f"{page}.md").read_text(),
+                for block in re.findall(r"^```\n(\$ bin/formula-score .*?)^```", (TOP / "docs" / f"{page}.md").read_text(),
                                         re.M | re.S):
-                    for command, said in re.findall(r"^\$ scripts/score (.*)\n((?:[^$].*\n)*)", block, re.M):
+                    for command, said in re.findall(r"^\$ bin/formula-score (.*)\n((?:[^$].*\n)*)", block, re.M):
                         self.assertEqual(score(*command.split()).said, said, command)
                         count += 1
         finally:

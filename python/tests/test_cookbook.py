@@ -58,7 +58,7 @@ class Cookbook(unittest.TestCase):
                 self.assertIn(f"(../docs/pictures/{name})", PAGE)
                 file, picture = pathlib.Path(folder, "a.mid"), pathlib.Path(folder, "a.svg")
                 file.write_bytes(score_of(GENERATORS[number]).render(PROGRAM, workers=0))
-                subprocess.run([TOP / "scripts" / "score", "roll", file, picture], check=True)
+                subprocess.run([TOP / "bin" / "formula-score", "roll", file, picture], check=True)
                 self.assertEqual(picture.read_text(), (TOP / "docs" / "pictures" / name).read_text(), name)
 
     def test_voices_meet_where_the_page_says(self) -> None:

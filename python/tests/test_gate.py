@@ -1,9 +1,11 @@
-"""What tools/gate/watch.py makes of the processes and of the lines of a run of the gate."""
-import os
+"""What tools/gate/watch.py makes of the processes and of the lines of a run of the gate; the order of the crates."""
+import pathlib
+import re
 import sys
 import unittest
 
-sys.path.insert(0, os.path.join(os.path.dirname(__file__), "..", "..", "tools", "gate"))
+TOP = pathlib.Path(__file__).resolve().parents[2]
+sys.path.insert(0, str(TOP / "tools" / "gate"))
 import report  # noqa: E402
 from sampling import Sampler, Task, task_of  # noqa: E402
 
@@ -53,6 +55,14 @@ class Report(unittest.TestCase):
         printed = ["rt: noise", "rt: must-fail fm_crew/no_lead.edit: refused, as it must be: src/limits.rt:7:1: error",
                    "rt: must-fail fm_crew/never_done.edit: NOT REFUSED: the crate is still proved"]
         self.assertEqual(report.goals(printed), {("fm_crew", "no_lead"): "src/limits.rt:7:1: error"})
+
+
+class Crates(unittest.TestCase):
+    def test_they_stand_in_the_sections_of_the_architecture(self) -> None:
+        page = (TOP / "docs" / "ARCHITECTURE.md").read_text(encoding="utf-8")
+        table = re.findall(r"^\| (?:\*\*([1-7]\. .*?)\*\*|`(fm_\w+)`) \|", page, re.M)
+        lines = re.findall(r"^(?:# ([1-7]\. .*)|(fm_\w+)[ :].*)$", (TOP / "crates.txt").read_text(encoding="utf-8"), re.M)
+        self.assertEqual([line for line in lines if not line[1].endswith("_tests")], table)
 
 
 if __name__ == "__main__":

@@ -22,7 +22,7 @@ proved: Any = importlib.import_module("proved")
 debian: Any = importlib.import_module("debian")
 
 WANTED = (
-    "bin/formula", "bin/formula-score", "lib/formula/formula", "lib/formula/proved.txt", "lib/formula/runs.sh",
+    "bin/formula", "bin/formula-score", "lib/formula/formula", "lib/formula/proved.txt",
     "lib/formula/python/formula_score/__init__.py", "lib/formula/python/formula_companion/verbs/program.py",
     "share/doc/rosetrowel/python/formula_score/README.md", "share/man/man1/formula.1", "share/man/man1/formula-score.1",
     "share/bash-completion/completions/formula", "share/vim/vimfiles/syntax/formula.vim",

@@ -45,7 +45,7 @@ vim.cmd('qa!')
 
 
 def words_of_server() -> list[str]:
-    return [sys.executable, str(TOP / "scripts" / "score"), "lsp"]
+    return [sys.executable, str(TOP / "bin" / "formula-score"), "lsp"]
 
 
 class Spoken(unittest.TestCase):

@@ -26,9 +26,9 @@ from .program import TOP
 
 #: The scripts and tools whose types are judged, by the folders of tools/ that have their modules.
 TYPED = {
-    "batch bench gate jobs package pages releases stress tries": (
-        "scripts/batch", "scripts/bench", "scripts/examples", "scripts/install", "scripts/package", "scripts/pages",
-        "scripts/score", "scripts/stress", "tools/gate/build.py", "tools/gate/watch.py", "tools/releases/keep.py",
+    "bench gate jobs package pages releases stress tries": (
+        "bin/formula-score", "scripts/bench", "scripts/examples", "scripts/install", "scripts/package", "scripts/pages",
+        "scripts/stress", "tools/gate/build.py", "tools/gate/watch.py", "tools/releases/keep.py",
         "tools/tries/limits.py"),
     "definitions gate jobs names stress": (
         "scripts/claims", "scripts/definitions", "tools/definitions/alone.py", "tools/definitions/rows.py",

@@ -46,18 +46,19 @@ class Scripts(unittest.TestCase):
         self.addCleanup(folder.cleanup)
         self.top = pathlib.Path(folder.name)
         self.built = written(self.top / "crates" / "fm_main" / "out" / "fm_main", STAND_IN)
-        (self.top / "scripts").mkdir()
-        for name in ("formula", "batch"):
-            shutil.copy(TOP / "scripts" / name, self.top / "scripts")
-        shutil.copytree(TOP / "tools" / "command", self.top / "tools" / "command")
-        self.script = str(self.top / "scripts" / "formula")
+        for name in ("bin/formula", "bin/formula-score", "scripts/formula", "scripts/batch", "tools/gate/checkout.sh"):
+            (self.top / name).parent.mkdir(parents=True, exist_ok=True)
+            shutil.copy(TOP / name, self.top / name)
+        self.script = str(self.top / "bin" / "formula")
 
     def test_a_script_that_formula_names_is_no_program(self) -> None:
         link = str(self.top / "link")
         os.symlink(self.script, link)
-        for name in (self.script, link, str(self.top / "scripts" / "batch")):
-            self.assertEqual(said([self.script, "--program"], name), f"{self.built}\n", name)
-            self.assertEqual(said([self.script, "in", "out"], name), "FORMULA is not set\n", name)
+        old = str(self.top / "scripts" / "formula")
+        for name in (self.script, link, old, str(self.top / "scripts" / "batch")):
+            for script in (self.script, old):
+                self.assertEqual(said([script, "--program"], name), f"{self.built}\n", name)
+                self.assertEqual(said([script, "in", "out"], name), "FORMULA is not set\n", name)
 
     def test_a_program_that_runs_the_script_ends(self) -> None:
         wrapper = written(self.top / "wrapper", f"#!/bin/sh\nexec '{self.script}' \"$@\"\n")

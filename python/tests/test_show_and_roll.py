@@ -146,7 +146,7 @@ class Roll(InAFolder, Picture):
 
     def test_it_follows_a_score(self):
         path, page = self.file("t.score", b"formula 1; note c4 1/4;"), self.folder / "t.html"
-        command = [sys.executable, "-B", TOP / "scripts" / "score", "roll", "--follow", path, page]
+        command = [sys.executable, "-B", TOP / "bin" / "formula-score", "roll", "--follow", path, page]
         with subprocess.Popen(command, stdout=subprocess.DEVNULL, stderr=subprocess.DEVNULL,
                               env={**os.environ, "FORMULA": PROGRAM}) as run:
             try:

@@ -1,6 +1,6 @@
 #!/usr/bin/env python3
 """Proves the crates of the program, as many at a time as there are processors, and builds the program in the folder of
-fm_main. scripts/formula calls it if the program does not exist or is older than its sources.
+fm_main. bin/formula calls it if the program does not exist or is older than its sources.
 
     tools/gate/build.py [--seconds FILE]
 

@@ -143,7 +143,7 @@ def measured() -> dict[Limit, list[Found]]:
     found[NAMES] += names_of_types()
     found[MODULE] += [Found(path, "", len(lines_of(path))) for folder in ("tools", "python")
                       for path in files_below(folder, (".py", ".sh"))]
-    found[MODULE] += [Found(path, "", len(lines_of(path))) for path in files_below("scripts", ("",))]
+    found[MODULE] += [Found(path, "", len(lines_of(path))) for folder in ("bin", "scripts") for path in files_below(folder, ("",))]
     return found
 
 

@@ -11,7 +11,9 @@ from proved import STRANGE, files_below, page
 #: Folders below the prefix that hold nothing else.
 OWN = "lib/formula", "share/doc/rosetrowel", "share/formula"
 PROGRAM, PAGE, LIBRARY = "lib/formula/formula", "lib/formula/proved.txt", "lib/formula/python"
-#: The packages of Python in it.
+#: What a user runs: the same files as in a checkout.
+COMMANDS = "bin/formula", "bin/formula-score"
+#: The packages of Python in the library.
 PACKAGES = "formula_score", "formula_companion"
 PAGES = "README.md", "CHANGELOG.md", "COPYING"
 #: Names of folders that are not installed: `releases` is for the tests alone.
@@ -33,15 +35,13 @@ def contents(top: pathlib.Path, program: bytes, gate: Optional[Sequence[str]] = 
     files = {
         PROGRAM: File(program, 0o755),
         PAGE: File((STRANGE if is_strange else page(top, program, gate)).encode(), 0o644),
-        "bin/formula": File((top / "tools/command/formula").read_bytes(), 0o755),
-        "bin/formula-score": File((top / "tools/command/formula-score").read_bytes(), 0o755),
+        **{name: File((top / name).read_bytes(), 0o755) for name in COMMANDS},
     }
     files.update((name, File(path.read_bytes(), 0o644)) for name, path in _pages_and_code(top))
     return dict(sorted(files.items()))
 
 
 def _pages_and_code(top: pathlib.Path) -> Iterator[tuple[str, pathlib.Path]]:
-    yield "lib/formula/runs.sh", top / "tools/command/runs.sh"
     for package in PACKAGES:
         home = top / "python" / package
         for name, path in _below(home, f"{LIBRARY}/{package}"):

@@ -27,7 +27,7 @@ class Drawing:
         file, listing = self.folder / "piece.mid", self.folder / "piece.listing"
         subprocess.run([self.program, score, file], check=True)
         subprocess.run([self.program, file, listing, "--list"], check=True)
-        subprocess.run([self.top / "scripts" / "score", "roll", listing, picture], check=True)
+        subprocess.run([self.top / "bin" / "formula-score", "roll", listing, picture], check=True)
 
     def generator(self, number: int) -> pathlib.Path:
         """The score that a generator of the cookbook makes."""

@@ -5,7 +5,7 @@ if exists("current_compiler")
 endif
 let current_compiler = "formula"
 
-" g:formula_command names another command, such as a checkout's scripts/formula
+" g:formula_command names another command, such as a checkout's bin/formula
 let s:command = get(g:, "formula_command", "formula")
 execute "CompilerSet makeprg=" . escape(s:command . " %:p:S %:p:r:S.mid", " \\|\"")
 

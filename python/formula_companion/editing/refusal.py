@@ -1,4 +1,4 @@
-"""A refused text: the place, the heading and the cure that `scripts/formula` tells, as an editor shows them."""
+"""A refused text: the place, the heading and the cure that `bin/formula` tells, as an editor shows them."""
 
 from __future__ import annotations
 
@@ -12,7 +12,7 @@ _NAME = "score"
 
 
 class Refusal(NamedTuple):
-    """What stands at a place, and one thing to do; `said` is the whole as `scripts/formula` says it."""
+    """What stands at a place, and one thing to do; `said` is the whole as `bin/formula` says it."""
 
     number: int
     heading: str

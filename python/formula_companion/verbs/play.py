@@ -21,7 +21,7 @@ from .outs import SIGNALS, Beside, Descriptor, Out, Straight, descriptor_of, out
 #: The statuses of the program that this verb gives by itself, and the program's lines.
 WORDS, WRITE, UNSAID = 1, 4, 5
 LINES = {WORDS: "formula: words refused", WRITE: "formula: write fault"}
-#: The status where there is no program, as `scripts/formula` has it.
+#: The status where there is no program, as `bin/formula` has it.
 NO_PROGRAM = 70
 
 ABOUT = """\

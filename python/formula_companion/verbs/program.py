@@ -1,4 +1,4 @@
-"""The program `scripts/score`, installed as `formula-score`: a verb, and what it is to work on."""
+"""The program `formula-score`, installed as `formula-score`: a verb, and what it is to work on."""
 
 from __future__ import annotations
 
@@ -20,7 +20,7 @@ OK, FOUND, MISUSED = 0, 1, 2
 ABOUT = """\
 A companion of formula, the music performance compiler. It is outside the proof: what it counts, cuts, filters and
 draws is tested only. What it tells of ticks are answers of the proved program. FORMULA names it; else it is the one
-that is installed beside this companion, else `formula` in PATH, else the one that scripts/formula builds."""
+that is installed beside this companion, else `formula` in PATH, else the one that bin/formula builds."""
 
 STATUSES = """\
 status: 0 all is well; 1 something was found, or refused; 2 the words are no use of the verb, or a file cannot be
@@ -48,6 +48,7 @@ VERBS: dict[str, Verb] = {
     "listen": Verb("listen", "play a score, or some bars of it, through fluidsynth or timidity"),
     "studio": Verb("studio", "show and play a score in the browser while it is written"),
     "lsp": Verb("lsp", "serve an editor that speaks LSP: what is refused, completion, names, an outline"),
+    "batch": Verb("batch", "play every score of a folder, over all processors and other machines", True),
     "lint": Verb("lint", "say what is accepted in a score, and hardly meant"),
     "export": Verb("exporting", "write a score for notation programs, with a tempo map, a meter and names"),
     "import": Verb("importing", "write a score from a MIDI file, play it, and compare each event"),

@@ -1,4 +1,4 @@
-"""What the command's refusals mean: the tables behind `scripts/formula`, this library's exceptions
+"""What the command's refusals mean: the tables behind `bin/formula`, this library's exceptions
 and those of docs/LANGUAGE.md, docs/MIDI_FILE.md and docs/RECORDS.md (which `scripts/pages` writes)."""
 
 from __future__ import annotations
@@ -108,7 +108,7 @@ RECORD_FAULTS = {fault.number: fault for fault in (
           "copy the record again, or make it anew: it was cut or damaged at this step or before it"),
     Fault(44, "this step is not allowed there: the steps are not those of a run over this score",
           "the number of the step, counted from 0",
-          "make the record anew; `scripts/score show` prints its steps, and docs/SCHEDULER.md says where each is "
+          "make the record anew; `formula-score show` prints its steps, and docs/SCHEDULER.md says where each is "
           "allowed"),
     Fault(45, "the steps end before every event is out and every process at its end", "how many steps there are",
           "copy the record again, or make it anew: its end is missing"),

@@ -50,8 +50,8 @@ class Listing(command.Listing):
 def program() -> str:
     """The proved program; built on first use, where this package stands in the repository."""
     found = command.find_program()
-    if found is None and (_TOP / "scripts" / "formula").exists():
-        built = subprocess.run([_TOP / "scripts" / "formula", "--program"], stdout=subprocess.PIPE, check=False)
+    if found is None and (_TOP / "bin" / "formula").exists():
+        built = subprocess.run([_TOP / "bin" / "formula", "--program"], stdout=subprocess.PIPE, check=False)
         found = built.stdout.decode().strip() if built.returncode == 0 else None
     if not found:
         raise Failed(1, "there is no program: let FORMULA name it, or put formula into PATH")

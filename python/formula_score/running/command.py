@@ -213,7 +213,7 @@ def _play(text: Union[str, bytes], path: Path, program: Optional[str], options: 
 
 
 def environment() -> dict[str, str]:
-    """The environment without FORMULA: a program that runs `scripts/formula` would be run by it again."""
+    """The environment without FORMULA: a program that runs `bin/formula` would be run by it again."""
     return {name: value for name, value in os.environ.items() if name != "FORMULA"}
 
 

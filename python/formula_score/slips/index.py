@@ -36,7 +36,7 @@ INDEX = (
          "arpeggios strum strummed arpeggiato broken_chord rolled"),
     Word("bar",
          "note c4 1/2; note g4 1/2; # bar 1",
-         "*not in the file*: a comment counts bars, and `scripts/score bars` checks it, and prints the tick of a bar",
+         "*not in the file*: a comment counts bars, and `formula-score bars` checks it, and prints the tick of a bar",
          "barline bars measure measures takt"),
     Word("bend, glissando",
          "repeat 8 { bend (n0 * 512); note c4 1/32; } bend 0;",
@@ -139,7 +139,7 @@ INDEX = (
          "tied ties"),
     Word("time signature",
          "note c4 1/4; note e4 1/4; note g4 1/4;",
-         "*not in the file*: lengths say all, as of a bar of 3/4 here. `scripts/score bars --meter 3/4` counts bars, "
+         "*not in the file*: lengths say all, as of a bar of 3/4 here. `formula-score bars --meter 3/4` counts bars, "
          "and so does `Meter` of `python/README.md`",
          "time meter metre time_signature timesig timesignature"),
     Word("transpose",
@@ -156,7 +156,7 @@ INDEX = (
          "tr trills mordent turn"),
     Word("upbeat",
          "note g4 1/4; note c5 3/4;",
-         "the first note; `scripts/score bars --upbeat 1/4` counts bars from the next one",
+         "the first note; `formula-score bars --upbeat 1/4` counts bars from the next one",
          "pickup anacrusis partial auftakt"),
     Word("voice",
          "par { branch { note c5 1/1; } branch { channel 1 { note c4 1/2; note e4 1/2; } } }",

@@ -1,14 +1,14 @@
-# The command as it is installed, and scripts/formula: what they explain, and names below /dev; for scripts/faults.
+# The command as it is installed, and bin/formula: what they explain, and names below /dev; for scripts/faults.
 # shellcheck shell=bash disable=SC2034,SC2154 # scripts/faults and its modules share their variables
 
-# The command as it is installed, and scripts/formula, in a copy that a wrong one may spoil.
+# The command as it is installed, and bin/formula, in a copy that a wrong one may spoil.
 FORMULA=$program "$top/scripts/install" "$scratch/installed" >/dev/null
-mkdir -p "$scratch/copy/scripts" "$scratch/copy/tools"
-cp "$top/scripts/formula" "$scratch/copy/scripts"
-cp -r "$top/tools/command" "$scratch/copy/tools"
+mkdir -p "$scratch/copy/tools/gate"
+cp -r "$top/bin" "$scratch/copy"
+cp "$top/tools/gate/checkout.sh" "$scratch/copy/tools/gate"
 installed() { timeout 20 "$scratch/installed/bin/formula" "$@"; }
-scripted() { FORMULA=$program timeout 20 "$scratch/copy/scripts/formula" "$@"; }
-explained_script() { FORMULA=$program "$top/scripts/formula" "$@"; }
+scripted() { FORMULA=$program timeout 20 "$scratch/copy/bin/formula" "$@"; }
+explained_script() { FORMULA=$program "$top/bin/formula" "$@"; }
 
 # What both say beside the program's line, on standard error.
 # explains NAME STATUS LINE TEXT WORDS: it ends so, tells this line, and explains it with this text. Standard input is a
@@ -102,10 +102,10 @@ copy or download the file again; where the program that wrote it was stopped, wr
 write \`--record\` in place of \`--audit\`, which makes the record of a run, and audit that" "$score" "$out" --audit
     fi
     clear_out
-    if FORMULA=$program "$top/scripts/formula" "$scratch/file" /dev/stdout --list | cmp -s - "$scratch/listing"; then
+    if FORMULA=$program "$top/bin/formula" "$scratch/file" /dev/stdout --list | cmp -s - "$scratch/listing"; then
         pass
     else
-        fail "scripts/formula, a listing into a pipe" "it came otherwise"
+        fail "bin/formula, a listing into a pipe" "it came otherwise"
     fi
     explains "one byte too many" 3 "$(fault '1:1 fault 18')" \
         "$scratch/too_much:1:1: more than 1,048,576 bytes (fault 18)
@@ -119,11 +119,11 @@ the text holds nothing, and a score begins with its head: write \`formula 1;\`" 
     for way in closed full unread; do
         [ "$way" != full ] || [ -c /dev/full ] || continue
         # shellcheck disable=SC2016 # bash -c expands it
-        ends "scripts/formula, standard output $way" 5 "" "$way" env FORMULA="$program" \
-            bash -c '"$0" "$@" 2>/dev/null' "$top/scripts/formula" "$refused" "$out"
+        ends "bin/formula, standard output $way" 5 "" "$way" env FORMULA="$program" \
+            bash -c '"$0" "$@" 2>/dev/null' "$top/bin/formula" "$refused" "$out"
     done
 else
-    echo "not tried: what scripts/formula explains, since there is no python3"
+    echo "not tried: what bin/formula explains, since there is no python3"
 fi
 
 # Names below /dev, and closed descriptors, without explanations.
@@ -207,10 +207,10 @@ for way in installed scripted; do
     ends "$way, OUT is standard error, closed" 0 "" error_closed "$way" "$score" /dev/stderr
     leaves "$way, OUT is standard error, closed"
 done
-if cmp -s "$top/scripts/formula" "$scratch/copy/scripts/formula"; then
+if cmp -s "$top/bin/formula" "$scratch/copy/bin/formula"; then
     pass
 else
-    fail "scripts/formula" "a run has written to it"
+    fail "bin/formula" "a run has written to it"
 fi
 
 # scripts/faults goes on from a module that was read to its end.

@@ -1,4 +1,4 @@
-"""A folder of scores, what became of each, and the files that say so: for scripts/batch."""
+"""A folder of scores, what became of each, and the files that say so."""
 
 from __future__ import annotations
 

@@ -9,7 +9,7 @@ import subprocess
 import sys
 from typing import TYPE_CHECKING, BinaryIO, Iterator, Sequence, cast
 
-from folder import RAW, Batch, remove
+from .folder import RAW, Batch, remove
 
 if TYPE_CHECKING:
     import tarfile

@@ -1,12 +1,12 @@
-"""What scripts/batch prints at its end, and its table as CSV."""
+"""What the verb `batch` prints at its end, and its table as CSV."""
 
 from __future__ import annotations
 
 import collections
 from typing import Sequence
 
-from folder import RAW, Batch
 from formula_score.explaining.explain import explanation, place_of, refusal
+from .folder import RAW, Batch
 
 #: At most so many scores that were not played are printed.
 MOST_SHOWN = 20

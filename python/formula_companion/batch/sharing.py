@@ -9,8 +9,8 @@ import signal
 import sys
 from typing import Callable, Optional, Sequence
 
-from folder import RAW, Batch
-from slots import HERE, Slot
+from .folder import RAW, Batch
+from .slots import HERE, Slot
 
 #: A machine is sent so many scores at a time.
 MOST_SENT = 50

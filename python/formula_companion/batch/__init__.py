@@ -1,0 +1,1 @@
+"""Folders of scores, played over all processors and over other machines: the verb `batch`."""
