@@ -21,10 +21,10 @@ MOST_OF_README = 120, 1100
 #: The most lines of a crate's README, and the most characters of a line there.
 MOST_LINES, MOST_OF_A_LINE = 60, 160
 
-HELD = ("README.md", "CHANGELOG.md", "CONTRIBUTING.md", "docs/PROOF.md", "docs/POSITIONS.md", "docs/MIDI_FILE.md",
+HELD = ("README.md", "docs/INSTALL.md", "CHANGELOG.md", "CONTRIBUTING.md", "docs/PROOF.md", "docs/POSITIONS.md", "docs/MIDI_FILE.md",
         "docs/SCHEDULER.md", "docs/RECORDS.md", "docs/ARCHITECTURE.md", "docs/GUARANTEES.md", "docs/CLAIMS.md",
         "docs/TUTORIAL.md", "docs/STUDIO.md", "docs/GLOSSARY.md", "docs/LANGUAGE.md", "python/README.md", "python/COOKBOOK.md", "editors/README.md",
-        "docs/INSTALL.md", "examples/README.md", "examples/releases/README.md")
+        "examples/README.md", "examples/releases/README.md")
 NOT_YET = ("docs/SLIPS.md",)
 
 #: Pages of which the beginning keeps the limits, each with the heading at which it ends. An entry of DECISIONS is never changed.
