@@ -61,6 +61,11 @@ class Prose(unittest.TestCase):
                      "[A link](#what-stands-here) says its target apart."):
             self.assertEqual(plain.faults_of(text), [], text)
 
+    def test_the_length_of_the_readme(self) -> None:
+        for text, problem in (("x\n" * 121, "121 lines"), ("x " * 1101, "1101 words")):
+            self.assertIn(problem, "\n".join(fault.problem for fault in plain.faults_of_length(text)), text)
+        self.assertEqual(plain.faults_of_length("x " * 981 + "x\n" * 119), [])
+
     def test_the_readme_of_a_crate(self) -> None:
         for text, problem in (("x\n" * 61, "61 lines"), ("x" * 161, "a line of 161 characters"),
                               ("It stood there.\n", "`stood` means")):
@@ -82,14 +87,14 @@ class Options(unittest.TestCase):
             (places.MANUAL, ".RB [ \\-\\-parts ]\n", "", "its synopsis: --parts is missing"),
             (places.COMPLETION, "--process --parts", "--process", "--parts is missing"),
             (places.COMPLETION, "--process | --from", "--from", "--process has no number"),
-            (places.README, "1 to 64", "0 to 64", "--room has the range (0, 64) in place of (1, 64)"),
-            (places.README, "| `--record` |", "| `--records` |", "--records is not an option"),
+            (places.MANUAL, "1 to 64", "0 to 64", "--room has the range (0, 64) in place of (1, 64)"),
+            (places.MANUAL, ".TP\n.B \\-\\-record\n", ".TP\n.B \\-\\-records\n", "--records is not an option"),
         )
         for name, old, new, problem in changes:
             with tempfile.TemporaryDirectory() as folder:
                 top = pathlib.Path(folder)
                 shutil.copytree(TOP / places.CODE, top / places.CODE)
-                for place in (places.MANUAL, places.COMPLETION, places.README):
+                for place in (places.MANUAL, places.COMPLETION):
                     (top / place).parent.mkdir(parents=True, exist_ok=True)
                     shutil.copy(TOP / place, top / place)
                 text = (top / name).read_text(encoding="utf-8")

@@ -1,7 +1,7 @@
 """Compares the places in which an option of the command is named: its name, whether it has a number, and the number's range.
 
 The first place is the code that reads the words, crates/fm_words. The others are the library's table of words, the man
-page, the completion for bash and the tables of README.md."""
+page and the completion for bash."""
 
 from __future__ import annotations
 
@@ -13,7 +13,7 @@ from typing import Callable, Iterator, Mapping, NamedTuple, Optional
 Range = tuple[int, int]
 
 CODE, WORDS, MANUAL = "crates/fm_words/src", "python/formula_score/explaining/words.py", "docs/formula.1"
-COMPLETION, README = "editors/bash/formula", "README.md"
+COMPLETION = "editors/bash/formula"
 
 
 class Option(NamedTuple):
@@ -100,22 +100,9 @@ def of_completion(top: pathlib.Path) -> Options:
     return {name: Option(name in numbered and name in values) for name in (listed[1].split() if listed else ())}
 
 
-def of_readme(top: pathlib.Path) -> Options:
-    """The tables of the section on options; an option is also named in a cell of another one."""
-    text = (top / README).read_text(encoding="utf-8")
-    section = re.search(r"^## Options\n(.*?)^## ", text, re.M | re.S)
-    found: dict[str, Option] = {}
-    for row in re.findall(r"^\| .*`--.*$", section[1] if section else "", re.M):
-        for name in re.finditer(r"`(--\w+)( [A-Z])?`", row):
-            # a name without its number also stands where the option is only spoken of
-            if name[2] or name[1] not in found:
-                found[name[1]] = Option(bool(name[2]), range_in(row[name.end():]) if name[2] else None)
-    return found
-
-
 PLACES: Mapping[str, Callable[[pathlib.Path], Options]] = {
     CODE: of_code, WORDS: of_words, f"{WORDS}, its usage": of_usage, MANUAL: of_manual, f"{MANUAL}, its synopsis": of_synopsis,
-    COMPLETION: of_completion, README: of_readme}
+    COMPLETION: of_completion}
 
 
 def differences(top: pathlib.Path) -> Iterator[str]:

@@ -2,7 +2,7 @@
 
 The pages of HELD keep the limits, and so do the beginnings of those of HELD_TO. Those of NOT_YET do not yet: they are
 measured, and not judged. A page that is rewritten goes from one list to the other. The README of a crate keeps them, and
-limits of its own."""
+limits of its own. README.md is for somebody who has two minutes, and keeps to a length."""
 
 from __future__ import annotations
 
@@ -15,10 +15,13 @@ from prose import Passage, passages, without_code
 #: The most words of a sentence, the most in the mean, and the most characters of a cell.
 MOST_WORDS, MOST_IN_THE_MEAN, MOST_OF_A_CELL = 30, 18, 250
 
+#: The most lines and words of README.md.
+MOST_OF_README = 120, 1100
+
 #: The most lines of a crate's README, and the most characters of a line there.
 MOST_LINES, MOST_OF_A_LINE = 60, 160
 
-HELD = ("README.md", "CHANGELOG.md", "CONTRIBUTING.md", "docs/PROOF.md", "docs/POSITIONS.md", "docs/MIDI_FILE.md",
+HELD = ("README.md", "docs/INSTALL.md", "CHANGELOG.md", "CONTRIBUTING.md", "docs/PROOF.md", "docs/POSITIONS.md", "docs/MIDI_FILE.md",
         "docs/SCHEDULER.md", "docs/RECORDS.md", "docs/ARCHITECTURE.md", "docs/GUARANTEES.md", "docs/CLAIMS.md",
         "docs/TUTORIAL.md", "docs/STUDIO.md", "docs/GLOSSARY.md", "docs/LANGUAGE.md", "python/README.md", "python/COOKBOOK.md", "editors/README.md",
         "examples/README.md", "examples/releases/README.md")
@@ -99,6 +102,12 @@ def faults_of_readme(page: str) -> list[Fault]:
     return found + faults_of(page)
 
 
+def faults_of_length(page: str) -> list[Fault]:
+    """What is too long of README.md as a whole."""
+    found = zip((len(page.removesuffix("\n").split("\n")), len(page.split())), MOST_OF_README, ("lines", "words"))
+    return [Fault(1, f"{count} {unit} where {most} are the most") for count, most, unit in found if count > most]
+
+
 def _judged_text(top: pathlib.Path, name: str) -> str:
     """A page, or the beginning of it that is held."""
     page = (top / name).read_text(encoding="utf-8")
@@ -109,6 +118,7 @@ def judged(top: pathlib.Path) -> list[str]:
     """What is wrong with the pages that are held, and pages that are in no list."""
     problems = [f"{name}:{fault.line}: {fault.problem}" for name in (*HELD, *HELD_TO)
                 for fault in faults_of(_judged_text(top, name))]
+    problems += [f"README.md:{fault.line}: {fault.problem}" for fault in faults_of_length(_judged_text(top, "README.md"))]
     problems += [f"{path.relative_to(top)}:{fault.line}: {fault.problem}" for path in sorted(top.glob("crates/*/README.md"))
                  for fault in faults_of_readme(path.read_text(encoding="utf-8"))]
     present = {path.relative_to(top).as_posix() for folder in (".", "docs", "python", "editors", "examples", "examples/releases")

@@ -2,7 +2,7 @@
 
 The four ways are one thread, rounds, free threads by default, and 16 free threads with room 1 and no lead: all have to end
 in the same way. Trouble is one of: words at random, no IN, OUT a folder, OUT that may not grow, a closed standard output,
-little memory; each has to end as README's table says. A text is the same for the same seed and number, whatever else is
+little memory; each has to end as formula(1) says. A text is the same for the same seed and number, whatever else is
 tried. Texts that fail are kept in FOLDER (else in fuzz_failed). At the end it prints how often each status came."""
 
 from __future__ import annotations

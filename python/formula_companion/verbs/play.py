@@ -36,7 +36,7 @@ Runs formula on the same words, and is safe in the hand:
 
 The options are those of formula(1). --help prints this, --version from what the program was proved.
 
-status: that of the program, as formula(1) and README tell it. 1 also where IN and OUT are one file; 4 also where OUT
+status: that of the program, as formula(1) tells it. 1 also where IN and OUT are one file; 4 also where OUT
 could not be synced, closed or renamed, or its owner would change; 70 where there is no program; 128 + N where the
 signal N ended the run. OUT is what it was, but at 0, and at 5 where only the line of a file that is there failed."""
 

@@ -97,7 +97,7 @@ def play(text: Union[str, bytes], path: Path, program: Optional[str] = None, *, 
     """Lets the command play a text into the file `path`; the options are those of this module.
 
     A text that has a fault raises `Refused`, with the place and the meaning; any other end above 0 a `CommandError`.
-    Then the file is what README says of that status: at 1, 2, 3, 6 and 7 as it was.
+    Then the file is what formula(1) says of that status: at 1, 2, 3, 6 and 7 as it was.
     """
     _play(text, path, program, words_of(workers, lead, room, rounds, parts, from_, to, record))
 
