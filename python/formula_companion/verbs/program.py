@@ -1,4 +1,4 @@
-"""The program `formula-score`, installed as `formula-score`: a verb, and what it is to work on."""
+"""The program `formula-score`: a verb, and what it is to work on."""
 
 from __future__ import annotations
 
@@ -31,7 +31,8 @@ read; where a verb plays (play, excerpt, listen, roll), the status of formula.""
 class Verb(NamedTuple):
     """A module of this package that has `arguments(parser)` and `run(options) -> int`, and what it is for.
 
-    One that takes the words of the program has `main(words, name, version) -> int`.
+    One that takes words in its own way has `main(words, name, version) -> int`. None imports at its head what Python has
+    not by itself: the libraries of a verb stand in `FEATURES` of `formula_score.host.packages`.
     """
 
     module: str
