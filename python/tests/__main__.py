@@ -1,10 +1,11 @@
 """Runs the tests, each module in a process of its own, as many at a time as there are processors: `python3 -m tests`
-in the folder python. What a module that fails says is printed; the status is 1 where one does."""
+in the folder python. What a module that fails says is printed, and what was not tried; the status is 1 where one fails."""
 
 from __future__ import annotations
 
 import os
 import pathlib
+import re
 import signal
 import subprocess
 import sys
@@ -15,12 +16,13 @@ HOME = pathlib.Path(__file__).resolve().parent
 LONG = ("test_packaging", "test_batch")
 #: How many seconds a module may take.
 LONGEST = 900
+NOT_TRIED = re.compile(r"""skipped ['"](NOT TRIED: .*)['"]$""", re.M)
 
 
 def run(module: str) -> tuple[str, int, str]:
     """The name of a module of tests, the status of its run and what that says."""
     try:
-        done = subprocess.run([sys.executable, "-B", "-m", "unittest", f"tests.{module}"], cwd=HOME.parent, timeout=LONGEST,
+        done = subprocess.run([sys.executable, "-B", "-m", "unittest", "-v", f"tests.{module}"], cwd=HOME.parent, timeout=LONGEST,
                               stdout=subprocess.PIPE, stderr=subprocess.STDOUT, text=True, errors="replace", check=False)
     except subprocess.TimeoutExpired:
         return module, 1, f"not done after {LONGEST} seconds"
@@ -38,9 +40,13 @@ def main() -> int:
     heed_signals()
     modules = sorted((path.stem for path in HOME.glob("test_*.py")), key=lambda name: (name not in LONG, name))
     with ThreadPoolExecutor(len(os.sched_getaffinity(0))) as pool:
-        failed = [(module, said) for module, status, said in pool.map(run, modules) if status]
+        ended = list(pool.map(run, modules))
+    failed = [(module, said) for module, status, said in ended if status]
     for module, said in failed:
         print(f"{module}:\n{said}")
+    for _, _, said in ended:
+        for line in NOT_TRIED.findall(said):
+            print(line)
     print(f"{len(modules) - len(failed)} of {len(modules)} modules of tests pass")
     return 1 if failed else 0
 

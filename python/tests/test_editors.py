@@ -81,7 +81,7 @@ class Editors(unittest.TestCase):
                 self.assertEqual([done.returncode, *(match[pattern[group]] for group in ("file", "line", "column", "message"))],
                                  [3, score, "2", "12", "fault 3"])
 
-    @unittest.skipUnless(shutil.which("vim"), "vim is not installed")
+    @unittest.skipUnless(shutil.which("vim"), "NOT TRIED: vim is not installed")
     def test_vim_jumps_to_the_place_of_a_refusal(self) -> None:
         with tempfile.TemporaryDirectory() as folder:
             score, place = os.path.join(folder, "a tune.score"), os.path.join(folder, "place")

@@ -111,17 +111,5 @@ class Packaged(unittest.TestCase):
         self.assertEqual(versions, [False, True, False, False])
 
 
-class Suggested(unittest.TestCase):
-    def test_what_the_companion_asks_for_is_suggested(self) -> None:
-        asked: set[str] = set()
-        for path in (TOP / "python").glob("formula_*/**/*.py"):
-            text = path.read_text(encoding="utf-8")
-            for names in re.findall(r"apt-get install ([a-z0-9 .+-]+)", text):
-                asked.update(names.split())
-            asked.update(re.findall(r'needs\("\w+", "([a-z0-9-]+)"', text))
-        self.assertGreaterEqual(asked, {"fluidsynth", "libjs-codemirror", "python3-aiohttp", "python3-pylsp-jsonrpc"})
-        self.assertEqual(asked - {*debian.SUGGESTED}, set())
-
-
 if __name__ == "__main__":
     unittest.main()

@@ -8,6 +8,7 @@ import inspect
 import itertools
 import os
 import pathlib
+import re
 import shutil
 import subprocess
 import sys
@@ -35,6 +36,9 @@ TYPED = {
         "tools/definitions/trial.py", "tools/names/measures.py", "tools/names/names.py"),
     "definitions": ("scripts/statement",),
 }
+
+#: The head of a file of shell: how it is run, or what shellcheck is told.
+SHELL = re.compile(rb"\A(#!(/bin/sh|/usr/bin/env bash)|(#.*\n)*# shellcheck shell=)")
 
 
 def builder() -> Optional[str]:
@@ -100,6 +104,17 @@ class Package(unittest.TestCase):
             done = subprocess.run(words, cwd=TOP / "python", stdout=subprocess.PIPE, stderr=subprocess.STDOUT,
                                   env={**os.environ, "MYPYPATH": path}, text=True, check=False)
             self.assertEqual(done.returncode, 0, f"{names}\n{done.stdout}")
+
+    def test_shell_is_clean(self) -> None:
+        shellcheck = shutil.which("shellcheck")
+        if shellcheck is None:
+            self.skipTest("NOT TRIED: there is no shellcheck")
+        names = subprocess.run(["git", "ls-files", "-z"], cwd=TOP, stdout=subprocess.PIPE, text=True, check=True).stdout
+        shell = [name for name in names.split("\0")[:-1] if (TOP / name).is_file() and SHELL.search((TOP / name).read_bytes())]
+        self.assertIn("bin/formula", shell)
+        done = subprocess.run([shellcheck, "-x", "--", *shell], cwd=TOP, stdout=subprocess.PIPE, stderr=subprocess.STDOUT,
+                              text=True, check=False)
+        self.assertEqual(done.returncode, 0, done.stdout)
 
     def test_each_name_is_there(self) -> None:
         for name in [*formula_score.__all__, "LengthLike", "PitchLike", "Part", "Seq"]:

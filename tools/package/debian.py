@@ -11,13 +11,11 @@ from typing import NamedTuple
 
 from contents import LIBRARY, PACKAGES, PROGRAM, File
 
+from formula_score.host.packages import suggested
+
 NAME = "rosetrowel"
 #: Where Debian has modules of Python; the own place of each package becomes a link to it.
 MODULES = "lib/python3/dist-packages"
-
-#: What verbs of the companion need beside python3: `listen` one player with its sounds, `studio` and `lsp` their modules.
-SUGGESTED = ("fluidsynth", "fluid-soundfont-gm", "timidity", "freepats", "python3-aiohttp", "libjs-codemirror",
-             "python3-pylsp-jsonrpc", "vim")
 
 CONTROL = """\
 Package: {name}
@@ -166,4 +164,4 @@ def control_of(files: dict[str, File], facts: Facts) -> str:
     """The file control."""
     size = sum(-(-len(file.content) // 1024) for file in files.values())
     return CONTROL.format(name=NAME, version=facts.version, maintainer=facts.maintainer, size=size,
-                          libc=least_libc(files[PROGRAM].content), suggested=", ".join(SUGGESTED))
+                          libc=least_libc(files[PROGRAM].content), suggested=", ".join(suggested()))

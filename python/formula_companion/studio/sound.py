@@ -10,6 +10,7 @@ import resource
 import shutil
 from typing import Optional
 
+from formula_score.host.packages import install_line, names
 from formula_score.sound.player import FONTS
 from .runs import ended, remove
 
@@ -19,7 +20,7 @@ MOST_BYTES = 30 * 60 * RATE * 4
 #: How many bytes of sound are kept.
 KEPT = 2 * MOST_BYTES
 
-PACKAGES = "apt-get install fluidsynth fluid-soundfont-gm"
+PACKAGES = install_line(names("sound"))
 
 
 class Unheard(Exception):

@@ -1,5 +1,5 @@
-"""The companion of `formula` for musicians, `formula-score`: bars, excerpts, listings for a person, pictures, warnings.
+"""The verbs of `formula-score`: the words of each, and what it prints.
 
-It is outside the proof, and tested only. What it tells of ticks are answers of the proved program. `program.py` has
-the table of verbs, each a module of its own; `reading.py` and `walk.py` are the reading of a score that they share.
+`program.py` has their table, and each is a module of its own. What a verb tells of ticks are answers of the proved
+program. `libraries.py` lets Debian's Python go on where this one lacks a library of a verb.
 """

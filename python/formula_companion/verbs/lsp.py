@@ -6,7 +6,8 @@ import argparse
 import os
 import sys
 
-from .needs import needs
+from formula_score.host.packages import names
+from .libraries import needs
 
 
 def arguments(parser: argparse.ArgumentParser) -> None:
@@ -16,12 +17,12 @@ def arguments(parser: argparse.ArgumentParser) -> None:
 An editor starts it, and speaks LSP with it on standard input and output. It tells at each change what is refused, with
 the place and what to do; what may be written at a place; what a word means; where a phrase or shape is defined and
 used; the outline; and it renames phrases and shapes. editors/README.md says how Neovim starts it. It needs Debian's
-package python3-pylsp-jsonrpc."""
+package {names("lsp")[0]}."""
 
 
 def run(_: argparse.Namespace) -> int:
     """Serves until the editor ends it."""
-    needs("pylsp_jsonrpc", "python3-pylsp-jsonrpc", ["lsp"])
+    needs("lsp")
     from ..lsp.judging import program_for_judging
     from ..lsp.server import Server  # it needs the library
 

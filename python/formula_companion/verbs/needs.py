@@ -1,42 +1,40 @@
-"""Libraries that a verb needs beside Python's own, and where they are found."""
+"""The verb `needs`: which of Debian's packages are there that verbs and tests need beside the command."""
 
 from __future__ import annotations
 
-import importlib.util
-import os
-import pathlib
-import subprocess
-import sys
-from typing import Sequence
+import argparse
 
-from formula_score.reading.playing import Failed
-
-#: Debian's Python, for which its packages are installed. Another one may come first in PATH.
-DEBIAN = "/usr/bin/python3"
-_PACKAGE = str(pathlib.Path(__file__).resolve().parents[2])
+from formula_score.host.packages import FEATURES, install_line, is_there, lacking
 
 
-def has(module: str) -> bool:
-    """Whether this Python has a library."""
-    return importlib.util.find_spec(module) is not None
+def arguments(parser: argparse.ArgumentParser) -> None:
+    """What the verb takes."""
+    parser.add_argument("features", metavar="FEATURE", nargs="*", type=_feature, help=f"one of {', '.join(FEATURES)}; all "
+                        "that are for users where none is given")
+    parser.add_argument("--names", action="store_true", help="print the packages that are missing, and no more")
+    parser.description = f"""{parser.description}
+
+The last line is what to write in a shell, as root, for the rest. A library of Python counts as there where Debian's
+Python has it: a verb that needs it then goes on by that one. The status is 1 where something is missing."""
 
 
-def needs(module: str, package: str, words: Sequence[str]) -> None:
-    """Goes on where this Python has a library. Else Debian's Python does the whole once more, where that has it.
-
-    `words` are those of the companion. `Failed` names the package where neither has it.
-    """
-    if has(module):
-        return
-    if os.path.exists(DEBIAN) and not os.path.samefile(sys.executable, DEBIAN) and _debian_has(module):
-        path = os.pathsep.join(filter(None, [_PACKAGE, os.environ.get("PYTHONPATH")]))
-        sys.stdout.flush()
-        os.execve(DEBIAN, [DEBIAN, "-B", "-m", "formula_companion.verbs.program", *words],
-                  {**os.environ, "PYTHONPATH": path})
-    raise Failed(1, f"the library {module} is missing: apt-get install {package}, or python3 -m pip install "
-                    f"{module.replace('pylsp_jsonrpc', 'python-lsp-jsonrpc')}")
+def _feature(word: str) -> str:
+    if word not in FEATURES:
+        raise argparse.ArgumentTypeError(f"there is no feature {word!r}; there are {', '.join(FEATURES)}")
+    return word
 
 
-def _debian_has(module: str) -> bool:
-    return subprocess.run([DEBIAN, "-c", f"import {module}"], stderr=subprocess.DEVNULL, check=False,
-                          stdin=subprocess.DEVNULL).returncode == 0
+def run(options: argparse.Namespace) -> int:
+    """Prints what is there."""
+    asked = options.features or [name for name, feature in FEATURES.items() if feature.is_for_users]
+    wanted = lacking(*asked)
+    if options.names:
+        print(" ".join(wanted))
+        return int(bool(wanted))
+    for name in asked:
+        print(f"{name}: {FEATURES[name].about}")
+        for package in FEATURES[name].packages:
+            state = "there" if is_there(package) else "missing" if package.name in wanted else "not there, nor needed"
+            print(f"  {package.name:<22} {state}")
+    print(install_line(wanted) if wanted else "nothing is missing")
+    return int(bool(wanted))

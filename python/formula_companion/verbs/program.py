@@ -1,4 +1,4 @@
-"""The program `formula-score`, installed as `formula-score`: a verb, and what it is to work on."""
+"""The program `formula-score`: a verb, and what it is to work on."""
 
 from __future__ import annotations
 
@@ -12,6 +12,7 @@ from typing import NamedTuple, NoReturn, Optional, Sequence
 
 from formula_score import __version__
 from formula_score.reading.playing import Failed
+from .libraries import restart
 
 VERSION = f"formula-score {__version__}"
 
@@ -30,7 +31,8 @@ read; where a verb plays (play, excerpt, listen, roll), the status of formula.""
 class Verb(NamedTuple):
     """A module of this package that has `arguments(parser)` and `run(options) -> int`, and what it is for.
 
-    One that takes the words of the program has `main(words, name, version) -> int`.
+    One that takes words in its own way has `main(words, name, version) -> int`. None imports at its head what Python has
+    not by itself: the libraries of a verb stand in `FEATURES` of `formula_score.host.packages`.
     """
 
     module: str
@@ -49,6 +51,7 @@ VERBS: dict[str, Verb] = {
     "studio": Verb("studio", "show and play a score in the browser while it is written"),
     "lsp": Verb("lsp", "serve an editor that speaks LSP: what is refused, completion, names, an outline"),
     "batch": Verb("batch", "play every score of a folder, over all processors and other machines", True),
+    "needs": Verb("needs", "say which of Debian's packages are missing, for sound, the studio, editors and tests"),
     "lint": Verb("lint", "say what is accepted in a score, and hardly meant"),
     "export": Verb("exporting", "write a score for notation programs, with a tempo map, a meter and names"),
     "import": Verb("importing", "write a score from a MIDI file, play it, and compare each event"),
@@ -97,8 +100,9 @@ def main(words: Optional[Sequence[str]] = None, name: str = "formula-score") -> 
     verb = VERBS[given[0]]
     module = importlib.import_module(f".{verb.module}", __package__)
     try:
-        status: int = (module.main(given[1:], f"{name} {given[0]}", VERSION) if verb.takes_words
-                       else module.run(_options(module, verb, f"{name} {given[0]}", given[1:])))
+        options = None if verb.takes_words else _options(module, verb, f"{name} {given[0]}", given[1:])
+        restart(given)
+        status: int = module.run(options) if options else module.main(given[1:], f"{name} {given[0]}", VERSION)
         if sys.stdout:
             sys.stdout.flush()
     except SystemExit as ended:

@@ -9,9 +9,10 @@ import shutil
 import socket
 import subprocess
 
+from formula_score.host.packages import install_line, names
 from formula_score.reading.playing import Failed, program
 from ..studio.folder import Folder
-from .needs import needs
+from .libraries import needs
 
 
 def arguments(parser: argparse.ArgumentParser) -> None:
@@ -26,8 +27,8 @@ def arguments(parser: argparse.ArgumentParser) -> None:
 The page has the text with its colours, what is refused in it and why, the piano roll, the processes, the deformations
 of time, and sound by fluidsynth, or else by the browser. All ticks that it shows are the proved program's. It works
 without a network, and on this computer alone: the address has a secret, and only the folder or the score that is named
-is read and written. End it with Ctrl-C. It needs Debian's packages python3-aiohttp and libjs-codemirror, and for sound
-fluidsynth and fluid-soundfont-gm."""
+is read and written. End it with Ctrl-C. It needs Debian's packages {" and ".join(names("studio"))}, and for sound
+{" and ".join(names("sound"))}."""
 
 
 def _port(word: str) -> int:
@@ -39,13 +40,11 @@ def _port(word: str) -> int:
 
 def run(options: argparse.Namespace) -> int:
     """Serves the page until it is ended."""
-    words = ["studio", *(["--read-only"] if options.read_only else []), *(["--no-open"] if options.no_open else []),
-             "--port", str(options.port), "--", options.path]
-    needs("aiohttp", "python3-aiohttp", words)
+    needs("studio")
     from ..studio import server  # it needs aiohttp
 
     if not (server.EDITOR / f"{server.EDITOR_PARTS[0]}.js").exists():
-        raise Failed(1, "the editor CodeMirror is missing: apt-get install libjs-codemirror")
+        raise Failed(1, f"the editor CodeMirror is missing: {install_line(['libjs-codemirror'])}")
     folder, opened = _folder(options.path, options.read_only)
     listener = _listener(options.port)
 

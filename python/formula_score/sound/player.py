@@ -6,12 +6,14 @@ import glob
 import shutil
 from typing import Optional
 
+from ..host.packages import install_line, names
+
 #: Where Debian's packages put sound fonts, the better ones first.
 FONTS = ("/usr/share/sounds/sf2/FluidR3_GM.sf2", "/usr/share/sounds/sf3/*.sf3", "/usr/share/sounds/sf2/*.sf2",
          "/usr/share/soundfonts/*.sf[23]")
-PACKAGES = """no synthesizer is there. On Debian:
-  apt-get install fluidsynth fluid-soundfont-gm
-  apt-get install timidity freepats"""
+PACKAGES = f"""no synthesizer is there. On Debian:
+  {install_line(names("sound"))}
+  {install_line(names("timidity"))}"""
 
 
 def player(font: Optional[str]) -> Optional[list[str]]:

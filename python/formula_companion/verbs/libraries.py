@@ -1,0 +1,40 @@
+"""Libraries that a verb needs beside Python's own, and where they are found."""
+
+from __future__ import annotations
+
+import os
+import pathlib
+import sys
+from typing import Sequence
+
+from formula_score.host.packages import DEBIAN, FEATURES, Package, debian_has, has, install_line, is_other_python
+from formula_score.reading.playing import Failed
+
+_PACKAGE = str(pathlib.Path(__file__).resolve().parents[2])
+
+
+def of_verb(verb: str) -> list[Package]:
+    """The libraries that a verb needs."""
+    return [package for feature in FEATURES.values() if verb in feature.verbs
+            for package in feature.packages if package.library]
+
+
+def restart(words: Sequence[str]) -> None:
+    """Goes on where this Python has the libraries of the verb. Else Debian's Python does the whole once more, where that
+    has them. `words` are those of the companion."""
+    libraries = [package.library for package in of_verb(words[0])]
+    if all(map(has, libraries)) or not is_other_python() or not debian_has(libraries):
+        return
+    path = os.pathsep.join(filter(None, [_PACKAGE, os.environ.get("PYTHONPATH")]))
+    for stream in (sys.stdout, sys.stderr):
+        stream.flush()
+    os.execve(DEBIAN, [DEBIAN, "-B", "-m", "formula_companion.verbs.program", *words],
+              {**os.environ, "PYTHONPATH": path})
+
+
+def needs(verb: str) -> None:
+    """Goes on where all libraries of a verb are there, else names the package."""
+    for package in of_verb(verb):
+        if not has(package.library):
+            raise Failed(1, f"the library {package.library} is missing: {install_line([package.name])}, or python3 -m pip "
+                            f"install {package.pip or package.library}")

@@ -1,0 +1,1 @@
+"""What a machine has for what goes beyond the command, and what it lacks."""
