@@ -13,6 +13,7 @@ from .lexing import Lexeme, Line
 BEHIND = 1500
 #: How many bytes a statement may have that is looked at.
 LONGEST = 20_000
+_COMMENT = re.compile(rb"#[^\n]*")
 _MARKS = re.compile(rb"#[^\n]*|[;{}]")
 BRACES = re.compile(rb"#[^\n]*|[{}]")
 _NAMED = re.compile(rb"(?:^|(?<=[\s;{}]))(phrase|shape)\s+([a-z][a-z0-9_]*)")
@@ -45,7 +46,7 @@ def around(data: bytes, place: int) -> Around:
             continue
         closed = ""
         if mark == 123:
-            head = re.sub(rb"#[^\n]*", b"", data[begun:found.start()]).split()
+            head = _COMMENT.sub(b"", data[begun:found.start()]).split()
             blocks.append(Open(re.sub(r"[^a-z].*", "", head[0].decode("latin-1")) if head else "", begun,
                                found.start()))
         elif mark == 125 and blocks:
@@ -99,7 +100,7 @@ class Spot:
     @property
     def is_long(self) -> bool:
         """Whether the present statement is too long to be read here."""
-        return self.place - self.around.begun > LONGEST
+        return len(_COMMENT.sub(b"", self.data[self.around.begun:self.place])) > LONGEST
 
     @cached_property
     def names(self) -> dict[str, str]:
