@@ -17,8 +17,8 @@ from .messages import without_controllers, without_idle
 from .moved import Choices, Moved, MovedPart, Tone, moved, unmoved
 from .parts import piece_of
 from .spelling import Ways, bars_of, usual_percent
-from .tempo import Tempo, TempoMap, tempo_of
-from .text import Writer, tempo_lines, without_warp
+from .tempo import Tempo, TempoMap, lines_of, tempo_of
+from .text import Writer, without_warp
 from .voicing import voices_of
 from .words import plain, said_of
 
@@ -111,7 +111,7 @@ class _Way:
 
         branches = branches_of(list(self.voices()), length, self.piece.signatures)
         writer = Writer(self.piece, self.lines, branches, length, self.choices.with_phrases)
-        text = writer.text([*self._head(source), *tempo_lines(self.tempo, length)],
+        text = writer.text([*self._head(source), *lines_of(self.tempo, length)],
                            Tempo() if self.choices.is_exact else self.tempo)
         if len(text) > _MOST_BYTES:
             text = "\n".join(line.partition("  #")[0].strip() for line in text.splitlines()) + "\n"

@@ -12,6 +12,7 @@ from .words import Defaults
 _LONGEST_LOOP = 16
 _LONGEST_RHYTHM = 8
 _LEAST_RAMP = 4
+_VOLUME, _GATE = ("volume", "loud"), ("gate", "artic")
 #: About how many characters a loop and a rhythm cost; and how many have to be saved.
 _LOOP, _RHYTHM = 14, 13
 _WORTH_A_LOOP, _WORTH_A_RHYTHM = 6, 12
@@ -55,7 +56,7 @@ def nodes_of(atoms: Sequence[Atom], defaults: Defaults, words: Words) -> list[No
     louds, artics = levels(loud, defaults.velocity, marks), levels(artic, defaults.percent, marks)
     is_loud_outside = sum(bool(level.values) for level in louds) <= sum(bool(level.values) for level in artics)
     outer, ranges, default = (louds, artic, defaults.percent) if is_loud_outside else (artics, loud, defaults.velocity)
-    heads = (_volume, _gate) if is_loud_outside else (_gate, _volume)
+    outside, inside = (_VOLUME, _GATE) if is_loud_outside else (_GATE, _VOLUME)
     found: list[Node] = []
     for level in outer:
         inner = levels(ranges[level.begin:level.end], default,
@@ -63,8 +64,8 @@ def nodes_of(atoms: Sequence[Atom], defaults: Defaults, words: Words) -> list[No
         held: list[Node] = []
         for part in inner:
             nodes = loops(atoms[level.begin + part.begin:level.begin + part.end], words)
-            held += rounded(heads[1](part), nodes) if part.values else nodes
-        found += rounded(heads[0](level), held) if level.values else held
+            held += rounded(_head(inside, part), nodes) if part.values else nodes
+        found += rounded(_head(outside, level), held) if level.values else held
     return found
 
 
@@ -72,18 +73,10 @@ def _sounds(atom: Atom) -> tuple[Sound, ...]:
     return (atom,) if isinstance(atom, Sound) else atom.sounds if isinstance(atom, Call) else ()
 
 
-def _volume(level: Passage) -> str:
-    return _head("volume", "loud", level)
-
-
-def _gate(level: Passage) -> str:
-    return _head("gate", "artic", level)
-
-
-def _head(single: str, several: str, level: Passage) -> str:
+def _head(words: tuple[str, str], level: Passage) -> str:
     if len(level.values) == 1:
-        return f"{single} {level.values[0]}"
-    return f"{several} [{', '.join(map(str, level.values))}]"
+        return f"{words[0]} {level.values[0]}"
+    return f"{words[1]} [{', '.join(map(str, level.values))}]"
 
 
 def rounded(head: str, nodes: list[Node]) -> list[Node]:

@@ -6,6 +6,7 @@ from bisect import bisect_right
 from typing import Callable, Iterable, NamedTuple, Sequence
 
 from .bars import MAX_LENGTH
+from .layout import wrapped
 from .parts import Piece
 
 #: The last part of a shape, and any other, is at most so many whole notes long.
@@ -86,7 +87,7 @@ def _parts(changes: Sequence[tuple[int, int]], piece: Piece) -> tuple[tuple[int,
     return tuple(parts) if any(by != 1000 for _, by in parts) else ()
 
 
-def words_of(tempo: Tempo, length: Callable[[int], str]) -> list[str]:
-    """The words of the shape."""
-    *words, last = [f"flat {length(ticks)} by {by}" for ticks, by in tempo.parts]
-    return ["shape tempo =", *(f"{word}," for word in words), f"{last};"]
+def lines_of(tempo: Tempo, length: Callable[[int], str]) -> list[str]:
+    """The lines of the shape; none where there is none."""
+    parts = [f"flat {length(ticks)} by {by}" for ticks, by in tempo.parts]
+    return wrapped(["shape tempo =", *(f"{part}," for part in parts[:-1]), f"{parts[-1]};"]) if parts else []

@@ -7,12 +7,12 @@ from typing import Callable, Iterator, Optional, Sequence
 
 from .bars import MAX_LENGTH, Bar, Silence, Sound, Token
 from .branches import UNSAID, Branch, rest_of, without_velocity
-from .layout import Braces, Mark, Node, Page, Plain, repeated, wrapped
+from .layout import Braces, Mark, Node, Page, Plain, repeated
 from .levels import MOST_ENTRIES
 from .parts import Piece
 from .repeats import Numbers
 from .statements import Atom, Call, nodes_of, rounded
-from .tempo import Tempo, words_of
+from .tempo import Tempo
 from .words import PERCENT, VELOCITY, Names
 
 #: What stands before the branches, and where the tempo is played before that.
@@ -144,7 +144,8 @@ class Writer:
                 found += rounded(f"volume {level}", held) if level != branch.defaults.velocity else held
                 held, level = [], self.level_at[number] if number is not None else level
                 continue
-            mark = _mark([next(bars) for _ in self.bars.flat(number)]) if bars is not None else Mark(0, 0)
+            own = [next(bars) for _ in self.bars.flat(number)] if bars is not None else [Bar(0, 1, ())]
+            mark = Mark(own[0].number, own[-1].number + own[-1].bars - 1)
             if number in self.notes_of:
                 sounds = tuple(token for token in self.tokens[number] if isinstance(token, Sound))
                 atoms += [mark, Call(self._notes(number, branch), sounds)]
@@ -193,11 +194,6 @@ def without_warp(text: str) -> str:
     return f"{before}{_PAR}{behind.rpartition('}')[0]}" if warp else text
 
 
-def tempo_lines(tempo: Tempo, length: Callable[[int], str]) -> list[str]:
-    """The lines of a tempo as a shape; none where there is none."""
-    return wrapped(words_of(tempo, length)) if tempo.parts else []
-
-
 def _page(with_bars: bool, block: Braces, depth: int) -> list[str]:
     page = Page(with_bars)
     page.write((block,), depth)
@@ -216,7 +212,3 @@ def _add_bar(atoms: list[Atom], mark: Mark, tokens: Sequence[Token]) -> None:
         atoms[first], atoms[-1] = Mark(begun.number, mark.last), Silence(last.length + rest.length)
     else:
         atoms += [mark, *tokens]
-
-
-def _mark(bars: Sequence[Bar]) -> Mark:
-    return Mark(bars[0].number, bars[-1].number + bars[-1].bars - 1)
