@@ -36,8 +36,7 @@ if command -v python3 >/dev/null; then
 $refused:1:20: \`1/7\` is 274.29 ticks, and no whole number of them (fault 8)
 1 | formula 1; note c4 1/7;
   |                    ^
-a length is a whole number of ticks, of which a whole note has 1,920: the nearest are \`1/6\`,\
- \`1/8\` and \`ticks 274\`" \
+write a whole number of ticks: the nearest are \`1/6\`, \`1/8\`, \`ticks 274\`" \
         "$refused" "$scratch/other"
     explains "an option without effect" 0 "" "formula: --from has no effect beside --parts" "$score" "$out" --parts --from=5
     explains "both ends of an excerpt" 0 "" "" "$score" "$out" --to 5 --from 0
@@ -52,12 +51,12 @@ a length is a whole number of ticks, of which a whole note has 1,920: the neares
         "$score" "$absent/out"
     # a tab stands in both lines; of two bytes of a letter the caret is one column wide
     tab=$'\t'
-    printf 'formula 1; # \xc3\xa9t\xc3\xa9\n\tnote c4 1/4; # \xc3\xa9\n\tNote \xc3\xa9' >"$scratch/slips"
+    printf 'formula 1; # \xc3\xa9t\xc3\xa9\n\tnote c4 1/4; # \xc3\xa9\n\tNote c4 1/4;' >"$scratch/slips"
     explains "a capital letter" 3 "$(fault '3:2 fault 1')" "$scratch/slips:3:2: \`Note\` is no word of the language, by its\
  capital letter (fault 1)
-3 | ${tab}Note é
+3 | ${tab}Note c4 1/4;
   | ${tab}^
-words have small letters alone: write \`note\`" "$scratch/slips" "$out"
+words have small letters alone: write \`note c4 1/4;\`" "$scratch/slips" "$out"
     printf 'formula 1;\nnote c4 1/4 # a quarter\n\nnote e4 1/4;' >"$scratch/slips"
     explains "a line without its end" 3 "$(fault '4:1 fault 3')" "$scratch/slips:2:12: here a \`;\` is expected, and\
  \`note\` of line 4 follows (fault 3)
@@ -68,13 +67,13 @@ each statement ends with \`;\`: write \`note c4 1/4;\`" "$scratch/slips" "$out"
     explains "a byte above 127" 3 "$(fault '1:20 fault 1')" "$scratch/slips:1:20: \`é\` begins no word of the language (fault 1)
 1 | formula 1;${tab}note c4 é
   |           ${tab}        ^
-words have the letters a to z alone, and \`é\` is none of them; what is no music stands behind \`#\`" "$scratch/slips" "$out"
+a length is a part of a whole note, as in \`note c4, e4, g4 1/4;\`, or \`ticks 480\`; a computed one is\
+ \`ticks (E) max 1920\`" "$scratch/slips" "$out"
     input=$refused explains "a text from a pipe" 3 "$(fault '1:20 fault 8')" "/dev/stdin:1:20: \`1/7\` is 274.29 ticks, and no whole\
  number of them (fault 8)
 1 | formula 1; note c4 1/7;
   |                    ^
-a length is a whole number of ticks, of which a whole note has 1,920: the nearest are \`1/6\`,\
- \`1/8\` and \`ticks 274\`" /dev/stdin "$out"
+write a whole number of ticks: the nearest are \`1/6\`, \`1/8\`, \`ticks 274\`" /dev/stdin "$out"
     input=$score explains "a score from a pipe" 0 "" "" /dev/stdin "$out"
     input=/dev/zero explains "a text from a pipe without end" 3 "$(fault '1:1 fault 18')" \
         "/dev/stdin:1:1: more than 1,048,576 bytes (fault 18)
