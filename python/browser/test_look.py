@@ -16,7 +16,7 @@ FULL = "tutorial/8_end.score"
 def light(colour: str) -> float:
     """The relative luminance of a colour as the browser writes it."""
     parts = [int(number) / 255 for number in re.findall(r"\d+", colour)[:3]]
-    linear = [part / 12.92 if part <= 0.04045 else ((part + 0.055) / 1.055) ** 2.4 for part in parts]
+    linear: list[float] = [part / 12.92 if part <= 0.04045 else ((part + 0.055) / 1.055) ** 2.4 for part in parts]
     return 0.2126 * linear[0] + 0.7152 * linear[1] + 0.0722 * linear[2]
 
 

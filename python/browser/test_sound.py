@@ -114,9 +114,9 @@ class Heard(PageTest):
         lines: list[Any] = self.value("window.lines")
         # the n-th note begins half a second and n half seconds after the beginning
         begun = [at - 0.5 * (number + 1) for number, at in enumerate(heard)]
-        off = [line - (at - begun[0]) for at, line in lines if heard[0] <= at <= heard[-1]]
+        off: list[float] = [line - (at - begun[0]) for at, line in lines if heard[0] <= at <= heard[-1]]
         self.assertGreater(len(off), 3)
-        most = max(map(abs, off))
+        most = max(abs(each) for each in off)
         print(f"the line is at most {1000 * most:.1f} ms from the sound ({len(off)} pictures)")
         self.assertLess(most, NEAR)
         self.assertLess(max(begun) - min(begun), NEAR)

@@ -3,7 +3,7 @@
 from __future__ import annotations
 
 import random
-from typing import Optional
+from typing import Callable, Optional
 
 
 class Texts:
@@ -51,7 +51,7 @@ class Texts:
         return self.one_of(self.length(), self.length(), f"ticks ({self.expression(loops)}) max {self.below(600)}")
 
     def entries(self, entry: str) -> str:
-        makers = {"rhythm": self.length, "artic": lambda: str(self.below(401)), "loud": lambda: str(1 + self.below(127))}
+        makers: dict[str, Callable[[], str]] = {"rhythm": self.length, "artic": lambda: str(self.below(401)), "loud": lambda: str(1 + self.below(127))}
         return ", ".join(makers[entry]() for _ in range(1 + self.below(4)))
 
     # ---- statements

@@ -1,5 +1,7 @@
 """The verb `bars`, by scores that were counted by hand: lengths, comments, and the tick of a bar and back."""
 
+from __future__ import annotations
+
 import pathlib
 import tempfile
 import unittest
@@ -13,7 +15,7 @@ from fractions import Fraction
 TUTORIAL = TOP / "examples" / "tutorial"
 
 
-def bars(text, *words):
+def bars(text: str, *words: object) -> tuple[int, list[str]]:
     """The lines that the verb tells of a text; those of findings without the file's name."""
     with tempfile.TemporaryDirectory() as folder:
         path = pathlib.Path(folder, "tune.score")
@@ -23,7 +25,7 @@ def bars(text, *words):
 
 
 class Meters(unittest.TestCase):
-    def test_bars_that_take_turns_and_change(self):
+    def test_bars_that_take_turns_and_change(self) -> None:
         meter = Meter(groups_of("3/4,2/4,6:4/4"), Fraction(1, 4), 1920)
         self.assertEqual([meter.start(bar) for bar in range(8)], [0, 480, 1920, 2880, 4320, 5280, 6720, 8640])
         self.assertEqual([tuple(meter.at(tick)) for tick in (0, 479, 480, 1919, 1920, 2879, 6719, 6720, 8645)],
@@ -33,18 +35,18 @@ class Meters(unittest.TestCase):
                          ["3/4", "3/4", "2/4", "3/4", "4/4", "4/4"])
         self.assertEqual(str(meter), "3/4,2/4,6:4/4")
 
-    def test_words_that_are_no_meter(self):
+    def test_words_that_are_no_meter(self) -> None:
         for words in ("3", "3/0", "4/4,1:3/4", "2:4/4", "4/4,9:3/4,5:2/4", ""):
             self.assertEqual(score("bars", "none", "--meter", words).status, 2, words)
 
     @needs_program
-    def test_a_bar_of_no_whole_ticks(self):
+    def test_a_bar_of_no_whole_ticks(self) -> None:
         self.assertEqual(score("bars", TUTORIAL / "1_line.score", "--meter", "3/7").status, 2)
 
 
 @needs_program
 class Lengths(unittest.TestCase):
-    def test_the_tutorial_is_in_order(self):
+    def test_the_tutorial_is_in_order(self) -> None:
         for path in sorted(TUTORIAL.glob("*.score")):
             self.assertEqual(score("bars", path).status, 0, path)
         said = score("bars", TUTORIAL / "8_end.score").said.splitlines()
@@ -54,7 +56,7 @@ class Lengths(unittest.TestCase):
                           "line 9 phrase half_close 1 bar bar 4", "line 10 phrase close 1 bar bar 8",
                           "line 35 branch 2 16 bars bars 1 to 16", "the piece 16 bars bars 1 to 16"])
 
-    def test_a_phrase_and_branches_that_do_not_fit(self):
+    def test_a_phrase_and_branches_that_do_not_fit(self) -> None:
         status, said = bars("formula 1;\nphrase p { note c4 7/8; }\ndo p;\npar {\n  branch { rest 1/1; }\n"
                             "  branch { rest 1/2; }\n}\n")
         self.assertEqual((status, said[-3:]), (1, [
@@ -62,19 +64,19 @@ class Lengths(unittest.TestCase):
             "4:1: branches are not equally long, by up to 1/2: branch 1 (line 5) 1 bar, branch 2 (line 6) 1/2",
             "6:3: branch 2 is no whole number of bars: it has 1/2, 1/2 too short"]))
 
-    def test_a_length_that_is_computed_is_counted(self):
+    def test_a_length_that_is_computed_is_counted(self) -> None:
         status, said = bars("formula 1;\nphrase p { repeat (3 + n0) max 9 { note c4 ticks (480) max 480; } }\n"
                             "repeat 2 { do p; }\n", "--meter", "3/4")
         self.assertEqual((status, " ".join(said[1].split())),
                          (0, "line 2 phrase p 1 bar or 1 bar and 1/4 2 times: bar 1, bar 2"))
 
-    def test_with_an_upbeat_the_piece_may_end_in_a_short_bar(self):
+    def test_with_an_upbeat_the_piece_may_end_in_a_short_bar(self) -> None:
         text = "formula 1;\nphrase p { note g4 1/4; note c4 7/4; }\ndo p;\n"
         self.assertEqual(bars(text)[0], 0)
         self.assertEqual(bars(text.replace("7/4", "4/4"))[0], 1)
         self.assertEqual(bars(text.replace("7/4", "4/4"), "--upbeat", "1/4")[0], 0)
 
-    def test_sections_are_named_by_comments(self):
+    def test_sections_are_named_by_comments(self) -> None:
         _, said = bars("# A piece.\nformula 1;\n# Verse\nnote c4 2/1;\n# Chorus\n# loud\nnote c4 1/1; rest 1/1;\n")
         self.assertEqual([" ".join(line.split()) for line in said[1:]],
                          ["line 3 section Verse 2 bars bars 1 to 2", "line 5 section Chorus 2 bars bars 3 to 4",
@@ -85,30 +87,30 @@ class Lengths(unittest.TestCase):
 class Comments(unittest.TestCase):
     BAR = "note c4 1/4; note c4 1/4; note c4 1/4; note c4 1/4;"
 
-    def findings(self, text, *words):
+    def findings(self, text: str, *words: object) -> list[str]:
         status, said = bars(text, *words)
         found = [line for line in said if line[:1].isdigit()]
         self.assertEqual(status, 1 if found else 0, said)
         return found
 
-    def lines(self, *lines):
+    def lines(self, *lines: str) -> list[str]:
         return self.findings("formula 1;\n" + "\n".join(lines) + "\n")
 
-    def test_right_ones(self):
+    def test_right_ones(self) -> None:
         self.assertEqual(self.lines(f"{self.BAR}  # bar 1", f"{self.BAR}  # bar 2, softly", "# bars 3 to 4",
                                     "note c4 1/2;", "note c4 3/2;", "# bar 5", "note c4 1/2; note d4 1/2; # not bar 7",
                                     f"{self.BAR} {self.BAR} # Bars 6-7: loud", f"{self.BAR} {self.BAR} # bars 8 and 9",
                                     f"{self.BAR} # bars 3, 10 and 12", "note c4 1/1; # as in bar 4"), [])
 
-    def test_a_bar_on_two_lines(self):
+    def test_a_bar_on_two_lines(self) -> None:
         self.assertEqual(self.lines("note c4 1/2;  # bar 1", "note c4 1/2;", "note c4 1/2;", "note c4 1/2;  # bar 2",
                                     f"{self.BAR}  # bar 3"), [])
 
-    def test_a_bar_that_is_too_short_is_told_once(self):
+    def test_a_bar_that_is_too_short_is_told_once(self) -> None:
         self.assertEqual(self.lines(f"{self.BAR}  # bar 1", "note c4 3/4;  # bar 2", f"{self.BAR}  # bar 3",
                                     f"{self.BAR}  # bar 4"), ["3:15: `bar 2` is 1/4 too short"])
 
-    def test_numbers_that_are_wrong(self):
+    def test_numbers_that_are_wrong(self) -> None:
         self.assertEqual(self.lines(f"{self.BAR}  # bar 1", f"{self.BAR}  # bar 3", f"{self.BAR}  # bar 3"),
                          ["3:54: `bar 3` begins 1/1 too early: it stands at bar 2"])
         self.assertEqual(self.lines(f"{self.BAR} {self.BAR} {self.BAR}  # bars 1 to 2"),
@@ -116,7 +118,7 @@ class Comments(unittest.TestCase):
         self.assertEqual(self.lines("# bars 1 to 2", self.BAR, "# bar 3", self.BAR),
                          ["2:1: `bars 1 to 2` are 1/1 too short"])
 
-    def test_phrases_loops_and_branches_count_from_their_beginning_or_as_the_piece(self):
+    def test_phrases_loops_and_branches_count_from_their_beginning_or_as_the_piece(self) -> None:
         phrase = "phrase p {{\n" + self.BAR + "  # bar {}\n" + self.BAR + "  # bar {}\n}}"
         for first, second, wrong in ((1, 2, 0), (3, 4, 0), (1, 4, 1), (2, 3, 2)):
             found = self.lines(phrase.format(first, second), "rest 2/1;  # bars 1 to 2", "do p;  # bars 3 to 4")
@@ -125,7 +127,7 @@ class Comments(unittest.TestCase):
                                     f"{self.BAR}  # bar 2", "}  # bars 2 to 5", "par {", "branch {  # bars 6 to 7",
                                     f"{self.BAR}", f"{self.BAR}  # bar 2", "}", "branch { rest 2/1; }", "}"), [])
 
-    def test_bars_of_a_changing_meter(self):
+    def test_bars_of_a_changing_meter(self) -> None:
         text = "formula 1;\n" + "".join(f"note c4 {quarters}/4; # bar {bar}\n"
                                         for bar, quarters in ((1, 3), (2, 2), (3, 3), (4, 2)))
         self.assertEqual(self.findings(text, "--meter", "3/4,2/4"), [])
@@ -135,7 +137,7 @@ class Comments(unittest.TestCase):
 
 @needs_program
 class Ticks(unittest.TestCase):
-    def test_through_all_deformations(self):
+    def test_through_all_deformations(self) -> None:
         # 14 bars at 2,400 ticks; of a slope over 2,880 from 1,250 to 2,000 the first 1,920 ticks take 2,880; then come
         # 1,800 for the rest of it, 1,920 for a half note at 2,000, and the pause of 1,920 in its middle
         path = TUTORIAL / "8_end.score"
@@ -147,7 +149,7 @@ class Ticks(unittest.TestCase):
         self.assertIn("line 11, column 75; bar 1, beat 4 of phrase last_close",
                       score("bars", path, "--bar", "40000").said)
 
-    def test_branches_with_warps_of_their_own(self):
+    def test_branches_with_warps_of_their_own(self) -> None:
         text = ("formula 1;\nshape half = flat 2/1 by 2000;\npar {\n  branch { rest 1/1; note c4 1/1; }\n"
                 "  branch { warp half { rest 1/1; note c4 1/1; } }\n}\n")
         status, said = bars(text, "--tick", "2")
@@ -162,7 +164,7 @@ class Ticks(unittest.TestCase):
                           "tick 2880: written in bar 1, beat 4",
                           "  line 5, column 24, in process 2 (branch 2, line 5)"])
 
-    def test_inside_the_levels_that_a_process_opens_itself(self):
+    def test_inside_the_levels_that_a_process_opens_itself(self) -> None:
         text = ("formula 2; division 96;\nshape twice = flat ticks 1000 by 500;\n"
                 "shape hold = pause ticks 7, flat 1/1 by 1000;\n"
                 "rest 1/1;\nwarp twice { rest ticks 100; warp hold { note c4 1/1; } }\n")
@@ -170,14 +172,14 @@ class Ticks(unittest.TestCase):
         self.assertEqual(bars(text, "--tick", "2")[1], ["bar 2: tick 384"])
         self.assertEqual(bars(text, "--tick", "3")[1], ["bar 3: tick 579"])
 
-    def test_a_bar_or_a_tick_that_is_not_there(self):
+    def test_a_bar_or_a_tick_that_is_not_there(self) -> None:
         path = TUTORIAL / "1_line.score"
         self.assertEqual(score("bars", path, "--tick", "6").status, 1)
         self.assertEqual(score("bars", path, "--tick", "0").status, 1)
         self.assertEqual(score("bars", path, "--tick", "5").said, "bar 5: tick 7680\n")
         self.assertEqual(score("bars", path, "--bar", "7680").status, 1)
 
-    def test_a_score_that_is_refused_or_not_there(self):
+    def test_a_score_that_is_refused_or_not_there(self) -> None:
         status, said = bars("formula 1;\nnote c4;\n")
         self.assertEqual((status, said), (1, ["formula: score refused: 2:8 fault 3"]))
         self.assertEqual(score("bars", "/none.score").status, 2)

@@ -3,6 +3,9 @@
 SCORES names another number of random scores. Where it is named all examples are exported, too.
 """
 
+from __future__ import annotations
+
+import importlib
 import os
 import pathlib
 import sys
@@ -10,21 +13,22 @@ import tempfile
 import unittest
 from collections import defaultdict
 from fractions import Fraction
+from typing import Any, Callable
 
-from .companion import score
-from .program import TOP, needs_program
+from .companion import Answer, score
+from .program import TOP, needs_program, score_model
 from .random_texts import Texts
-
-import score_model
 
 sys.path.insert(0, str(TOP / "tools" / "file_model"))
 
-import file_model  # noqa: E402
+file_model: Any = importlib.import_module("file_model")
 
 SCORES = int(os.environ.get("SCORES", "15"))
+#: Of each kind of message, channel and key the times.
+Times = dict[tuple[int, int, int], list[Fraction]]
 
 
-def exported(text, *words):
+def exported(text: str, *words: object) -> tuple[Answer, Any]:
     """What the verb answers, and the file that it wrote, read by the model."""
     with tempfile.TemporaryDirectory() as folder:
         source, target = pathlib.Path(folder, "in.score"), pathlib.Path(folder, "out.mid")
@@ -33,12 +37,12 @@ def exported(text, *words):
         return answer, file_model.read(target.read_bytes()) if target.exists() else None
 
 
-def seconds(file):
+def seconds(file: Any) -> Callable[[int], Fraction]:
     """A function from a tick of a file to its time."""
     changes = [(entry.tick, int.from_bytes(entry.bytes[3:], "big")) for track in file.tracks for entry in track
                if entry.bytes[:2] == b"\xff\x51"]
 
-    def at(tick):
+    def at(tick: int) -> Fraction:
         time, last, tempo = Fraction(0), 0, 500_000
         for begin, new in sorted(changes):
             if begin < tick:
@@ -47,9 +51,10 @@ def seconds(file):
     return at
 
 
-def heard(file):
+def heard(file: Any) -> Times:
     """Of each channel and key the times of its note-ons and note-offs."""
-    at, found = seconds(file), defaultdict(list)
+    at = seconds(file)
+    found: Times = defaultdict(list)
     for track in file.tracks:
         for entry in track:
             if entry.bytes[0] >> 4 in (8, 9):
@@ -57,9 +62,9 @@ def heard(file):
     return {key: sorted(times) for key, times in found.items()}
 
 
-def played(text):
+def played(text: str) -> Times:
     """The same of what the model plays: a tick is 1/960 of a second, or as the score's division says."""
-    found = defaultdict(list)
+    found: Times = defaultdict(list)
     division = score_model.profile(text.encode())[1]
     for tick, _, _, message in score_model.played(text.encode())[0]:
         if message[0] >> 4 in (8, 9):
@@ -67,7 +72,7 @@ def played(text):
     return {key: sorted(times) for key, times in found.items()}
 
 
-def metas(file, kind):
+def metas(file: Any, kind: int) -> list[list[tuple[int, bytes]]]:
     """Of each track the meta events of a kind, as (tick, data)."""
     return [[(entry.tick, entry.bytes[3:]) for entry in track if entry.bytes[:2] == bytes([0xFF, kind])]
             for track in file.tracks]
@@ -75,7 +80,7 @@ def metas(file, kind):
 
 @needs_program
 class Exports(unittest.TestCase):
-    def is_in_time(self, text, file):
+    def is_in_time(self, text: str, file: Any) -> None:
         wanted, got = played(text), heard(file)
         self.assertEqual({key: len(times) for key, times in wanted.items()},
                          {key: len(times) for key, times in got.items()})
@@ -83,7 +88,7 @@ class Exports(unittest.TestCase):
             for time, other in zip(times, got[key]):
                 self.assertLessEqual(abs(time - other), Fraction(1, 1000), (key, float(time), float(other)))
 
-    def test_the_tutorial_has_sixteen_bars_and_its_tempos(self):
+    def test_the_tutorial_has_sixteen_bars_and_its_tempos(self) -> None:
         text = pathlib.Path(TOP, "examples", "tutorial", "8_end.score").read_text()
         answer, file = exported(text, "--meter", "4/4")
         self.assertEqual((answer.status, answer.complaint), (0, ""))
@@ -98,7 +103,7 @@ class Exports(unittest.TestCase):
         begins = {entry.tick for track in file.tracks for entry in track if entry.bytes[0] >> 4 == 9}
         self.assertTrue(all(tick % 60 == 0 for tick in begins))  # its shortest notes are 32nds
 
-    def test_names_are_those_of_branches_and_phrases(self):
+    def test_names_are_those_of_branches_and_phrases(self) -> None:
         text = """formula 1; phrase low { note c3 3/4; }
 par {
   # Flute and friends
@@ -114,7 +119,7 @@ par {
         self.assertEqual(metas(file, 4)[1], [(0, b"flute")])
         self.assertEqual(metas(file, 0x58)[0], [(0, bytes([3, 2, 24, 8]))])
 
-    def test_meters_take_turns_behind_an_upbeat(self):
+    def test_meters_take_turns_behind_an_upbeat(self) -> None:
         answer, file = exported("formula 1; note c4 1/4; repeat 3 { note c4 3/4; note d4 2/4; }",
                                 "--meter", "3/4,2/4", "--upbeat", "1/4")
         self.assertEqual(answer.status, 0)
@@ -122,7 +127,7 @@ par {
                          [(0, 1, 2), *((480 + 2400 * at + behind, beats, 2) for at in range(3)
                                        for behind, beats in ((0, 3), (1440, 2)))])
 
-    def test_a_breath_and_shapes_of_other_voices_are_in_time(self):
+    def test_a_breath_and_shapes_of_other_voices_are_in_time(self) -> None:
         for text in ("""formula 1; shape air = flat 1/2 by 1000, breath 1/16, slope 1/2 by 1000 to 1700;
 warp air { note c4 1/4; gate 100 { note d4 1/4; } note e4 1/4; note f4 1/4; } note g4 1/4;""",
                      """formula 1; shape held = pause 1/8, flat 1/4 by 1333; warp held { note c4 1/4; note d4 1/4; }""",
@@ -133,12 +138,12 @@ par { branch { warp slow { repeat 9 { note c4 1/8; } } } branch { channel 1 { wa
             self.assertEqual(answer.status, 0, answer)
             self.is_in_time(text, file)
 
-    def test_the_drift_of_thousandths_is_told(self):
+    def test_the_drift_of_thousandths_is_told(self) -> None:
         answer, _ = exported("formula 1; shape t = flat 16/1 by 1333; warp t { repeat 64 { note c4 1/4; } }")
         # 120,000 / 90 is 1333.33: 0.33 thousandths of 30,720 ticks are 10.24 ticks, 10.67 ms
         self.assertIn("over its 16/1 it comes 11 ms early against 90", answer.said)
 
-    def test_what_no_tempo_is_slow_enough_for_stays_in_the_notes(self):
+    def test_what_no_tempo_is_slow_enough_for_stays_in_the_notes(self) -> None:
         text = "formula 1; shape t = flat 1/4 by 1000000; warp t { note c4 1/4; } note d4 1/4;"
         answer, file = exported(text)
         self.assertEqual(answer.status, 0, answer)
@@ -146,7 +151,7 @@ par { branch { warp slow { repeat 9 { note c4 1/8; } } } branch { channel 1 { wa
         self.is_in_time(text, file)
 
     @unittest.skipUnless("SCORES" in os.environ, "SCORES names no number")
-    def test_all_examples_are_in_time(self):
+    def test_all_examples_are_in_time(self) -> None:
         for path in pathlib.Path(TOP, "examples").glob("*/*.score"):
             if path.parent.name not in ("refused", "long"):
                 text = path.read_text()
@@ -154,7 +159,7 @@ par { branch { warp slow { repeat 9 { note c4 1/8; } } } branch { channel 1 { wa
                 self.assertEqual(answer.status, 0, (path, answer))
                 self.is_in_time(text, file)
 
-    def test_random_scores_are_in_time(self):
+    def test_random_scores_are_in_time(self) -> None:
         for seed in range(SCORES):
             text = Texts(seed).score()
             answer, file = exported(text)

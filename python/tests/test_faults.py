@@ -1,5 +1,7 @@
 """What is told of words, of places, and of files of other kinds."""
 
+from __future__ import annotations
+
 import pathlib
 import re
 import tempfile
@@ -45,7 +47,7 @@ TAKEN = (
 
 
 class Words(unittest.TestCase):
-    def test_refused_words_have_a_reason_and_others_none(self):
+    def test_refused_words_have_a_reason_and_others_none(self) -> None:
         for line in REFUSED:
             self.assertIsNotNone(read(line.split("|")).wrong, line)
         self.assertIsNotNone(read([]).wrong)
@@ -53,7 +55,7 @@ class Words(unittest.TestCase):
             asked = read(line.split("|"))
             self.assertEqual((asked.files, asked.wrong), ((source, target), None), line)
 
-    def test_the_task_that_counts(self):
+    def test_the_task_that_counts(self) -> None:
         for line, task in (("a|b|--rounds", None), ("a|b|--parts|--list", "--list"), ("a|b|--parts", "--parts"),
                            ("a|b|--process|1", None), ("a|b|--parts|--locate|1", "--locate"),
                            ("a|b|--to|1|--from|2", "--from"), ("a|b|--to|1", "--to"), ("a|b|--to|1|--parts", "--parts"),
@@ -62,13 +64,13 @@ class Words(unittest.TestCase):
             self.assertEqual(read(line.split("|")).task, task, line)
         self.assertEqual(read("a|b|--locate|+60|--process=007".split("|")).numbers, {"--locate": 60, "--process": 7})
 
-    def test_the_first_wrong_word_is_told(self):
+    def test_the_first_wrong_word_is_told(self) -> None:
         self.assertEqual(read("a|b|--lea|5|--room|0".split("|")).wrong, "there is no option '--lea'")
         self.assertEqual(read(["a", "b", "c"]).wrong, "'c' is a third file, and there are IN and OUT alone")
 
 
 class Places(unittest.TestCase):
-    def test_the_caret_stands_under_the_place(self):
+    def test_the_caret_stands_under_the_place(self) -> None:
         rows = (
             (b"formula 1;\nNote c4", Place(2, 1, 1), "2 | Note c4\n  | ^"),
             (b"\tNote", Place(1, 2, 1), "1 | \tNote\n  | \t^"),
@@ -82,13 +84,14 @@ class Places(unittest.TestCase):
         for text, place, lines in rows:
             self.assertEqual(excerpt(text, place), lines)
 
-    def test_a_line_of_the_command_is_read(self):
+    def test_a_line_of_the_command_is_read(self) -> None:
         self.assertEqual(place_of("formula: score refused: 12:3 fault 18\n"), Place(12, 3, 18))
         self.assertIsNone(place_of("formula: read fault"))
 
-    def test_each_refused_example_is_explained(self):
+    def test_each_refused_example_is_explained(self) -> None:
         for console in sorted(pathlib.Path(TOP, "examples", "refused").glob("*.console")):
             place = place_of(console.read_text())
+            assert place
             text = console.with_suffix(".score").read_bytes()
             lines = refusal("a.score", text, place).split("\n")
             # a `;` that is missing at the end of a line is shown there
@@ -98,9 +101,10 @@ class Places(unittest.TestCase):
                 self.assertIn(FAULTS[place.number].means, lines[0])
             self.assertEqual(len(lines), 4, console)
 
-    def test_each_refused_file_is_explained(self):
+    def test_each_refused_file_is_explained(self) -> None:
         names = sorted(pathlib.Path(TOP, "examples", "files", "refused").glob("*.console"))
-        places = [file_place_of(name.read_text()) for name in names]
+        places = [place for name in names for place in [file_place_of(name.read_text())] if place]
+        self.assertEqual(len(places), len(names))
         self.assertEqual({place.number for place in places}, set(FILE_FAULTS) - {35})
         with tempfile.NamedTemporaryFile() as file:
             for name, place in zip(names, places):
@@ -113,7 +117,7 @@ class Places(unittest.TestCase):
                 self.assertEqual(lines[0], f"{file.name}: byte {place.byte}: {means} (fault {fault.number})")
                 self.assertEqual((lines[-1], len(lines)), (fault.do, 4 if digits.strip() else 2), name)
 
-    def test_each_refused_record_is_explained(self):
+    def test_each_refused_record_is_explained(self) -> None:
         numbers = set()
         with tempfile.NamedTemporaryFile() as file:
             for name in sorted(pathlib.Path(TOP, "examples", "records", "refused").glob("*.console")):
@@ -135,11 +139,11 @@ class Places(unittest.TestCase):
                     self.assertEqual(lines[1], "1 4 Give seat 0 process 0 taken 0 computed 0 clock 0 ended")
         self.assertEqual(numbers, set(RECORD_FAULTS) - {46})
 
-    def test_a_file_of_another_kind_is_told(self):
+    def test_a_file_of_another_kind_is_told(self) -> None:
         score, file, record = b"# A tune\nformula 1; note c4 1/4;", b"MThd\0\0\0\6", b"FMR1\1"
         text, listed, audited = "formula: score refused: 1:1 fault 1", "formula: file refused: byte 0 fault 22", \
             "formula: record refused: 0 fault 41"
-        rows = (
+        rows: tuple[tuple[bytes, str, list[str], str, str], ...] = (
             (file, text, [], "this is a MIDI file, and not a score", "add `--list`, which lists its events"),
             (record, text, [], "this is the record of a run, and not a score",
              "add `--audit`, which checks it and makes its file"),
@@ -165,7 +169,7 @@ class Places(unittest.TestCase):
                 self.assertIn(f": {heading} (fault ", lines[0])
                 self.assertEqual(lines[-1], do)
 
-    def test_the_caret_stands_under_the_byte(self):
+    def test_the_caret_stands_under_the_byte(self) -> None:
         rows = (
             (b"MThd", 0, "0 | 4D 54 68 64\n  | ^^"),
             (bytes(range(40)), 20, "8 | " + bytes(range(8, 32)).hex(" ").upper() + "\n  | " + 36 * " " + "^^"),
@@ -176,7 +180,7 @@ class Places(unittest.TestCase):
         self.assertEqual(file_place_of("formula: file refused: byte 0 fault 35\n"), FilePlace(0, 35))
         self.assertIsNone(file_place_of("formula: score refused: 1:1 fault 18"))
 
-    def test_other_statuses(self):
+    def test_other_statuses(self) -> None:
         missing = str(TOP / "examples" / "none.score")
         self.assertEqual(explanation(0, "", ["a", "b"]), "")
         self.assertIn("No such file", explanation(2, "formula: read fault", [missing, "b"]))

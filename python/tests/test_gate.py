@@ -1,4 +1,7 @@
 """What tools/gate/watch.py makes of the processes and of the lines of a run of the gate; the order of the crates."""
+
+from __future__ import annotations
+
 import pathlib
 import re
 import sys
@@ -7,6 +10,7 @@ import unittest
 TOP = pathlib.Path(__file__).resolve().parents[2]
 sys.path.insert(0, str(TOP / "tools" / "gate"))
 import report  # noqa: E402
+from left import read_seconds  # noqa: E402
 from sampling import Sampler, Task, task_of  # noqa: E402
 
 
@@ -38,7 +42,7 @@ class Report(unittest.TestCase):
         self.assertEqual(lines[2], "the dearest crates, in minutes: fm_crew 2.1, fm_msg 0.4")
 
     def test_a_crate_past_its_share_is_named(self) -> None:
-        share = report.read_seconds(report.SHARES)
+        share = read_seconds(report.SHARES)
         self.assertEqual(report.past_share(share), [])
         more = {**share, "fm_crew": 2 * share["fm_crew"] + 20, "fm_new": 30.0, "fm_msg": share["fm_msg"] + 1}
         self.assertEqual(report.past_share(more), [f"fm_crew {more['fm_crew']:.0f} for {share['fm_crew']:.0f}", "fm_new 30 for 0"])

@@ -1,9 +1,12 @@
 """What is told of each slip of the hundreds, and that who follows it is helped."""
 
+from __future__ import annotations
+
 import re
 import unittest
+from typing import Optional, Sequence
 
-from formula_score.explaining.explain import place_of, refusal
+from formula_score.explaining.explain import Place, place_of, refusal
 from formula_score.slips import told
 from formula_score.slips.checking import stands
 from formula_score.slips.cures import Known
@@ -23,13 +26,13 @@ FAULTS, ELSEWHERE = 8, 4
 NOT_COUNTED = ("twenty-second 98",)
 
 
-def spot_of(text, place):
+def spot_of(text: str, place: Place) -> Spot:
     """Where a place of a text is, and what stands round it."""
     lines = text.encode().split(b"\n")[:place.line - 1]
     return Spot(text.encode(), sum(len(each) + 1 for each in lines) + place.column - 1)
 
 
-def leads_to(text, scores):
+def leads_to(text: str, scores: Sequence[str]) -> Optional[bool]:
     """Whether one who follows what is told of each fault in turn comes to one of these scores; None for nothing to do.
 
     Of the first fault only what is asserted counts.
@@ -39,8 +42,10 @@ def leads_to(text, scores):
         if place is None:
             return False if count else None
         found = told(text.encode(), *place)
+        if found is None:
+            return None
         spot = spot_of(text, place)
-        says = found and not isinstance(found.cure, Known) and re.search(r"\b(?:write|take|did you mean)\b", found.cure)
+        says = not isinstance(found.cure, Known) and re.search(r"\b(?:write|take|did you mean)\b", found.cure)
         ways = followed(spot, found.cure) if says else []
         if not ways or not count and has_condition(found.cure):
             return None
@@ -54,12 +59,12 @@ def leads_to(text, scores):
     return False
 
 
-def readings(cure):
+def readings(cure: str) -> list[tuple[str, str]]:
     """What a message tells behind each condition: the condition, and what is to be written under it."""
     return re.findall(r"\bif ((?:[^:;,`]|`[^`]*`)+?), (?:a [^:;]*: )?((?:write|take) (?:[^;`]|`[^`]*`)*)", cure)
 
 
-def fits(condition, reading):
+def fits(condition: str, reading: str) -> bool:
     """Whether what is to be written is of the kind that its condition names: a chord has commas, and is one note; what
     comes in a row is several; `if `X` is meant` writes X."""
     codes = re.findall(r"`([^`]*)`", reading)
@@ -73,11 +78,11 @@ def fits(condition, reading):
 
 
 class Hundreds(unittest.TestCase):
-    def test_each_file_has_a_hundred(self):
+    def test_each_file_has_a_hundred(self) -> None:
         for name in NAMES:
             self.assertEqual([slip.number for slip in hundred(name)], list(range(1, 101)), name)
 
-    def test_what_was_meant_is_a_score(self):
+    def test_what_was_meant_is_a_score(self) -> None:
         for name in MEANT:
             for slip in hundred(name):
                 self.assertIn(slip.judged, ("right", "general", "wrong"), f"{name} {slip.number}")
@@ -85,7 +90,7 @@ class Hundreds(unittest.TestCase):
                 for score in slip.scores():
                     self.assertIsNone(place_by_judge(score), f"{name} {slip.number}")
 
-    def test_what_is_told(self):
+    def test_what_is_told(self) -> None:
         for name in NAMES:
             for slip in hundred(name):
                 place = place_by_judge(slip.text)
@@ -93,44 +98,46 @@ class Hundreds(unittest.TestCase):
                     found = refusal("", slip.text.encode(), place).split("\n")
                     self.assertEqual(" ".join(found[3:]), slip.told, f"{name} {slip.number}")
 
-    def test_a_change_that_is_told_mends(self):
+    def test_a_change_that_is_told_mends(self) -> None:
         for name in NAMES:
             for slip in hundred(name):
                 place = place_by_judge(slip.text)
                 if place and place.number == 3:
                     found = told(slip.text.encode(), *place)
+                    assert found, slip.text
                     spot = spot_of(slip.text, place)
                     if not isinstance(found.cure, Known) and "is written so" not in found.cure:
                         self.assertTrue(stands(spot, found.cure), f"{name} {slip.number}: {found.cure}")
 
-    def test_all_that_is_told_to_be_written_passes(self):
+    def test_all_that_is_told_to_be_written_passes(self) -> None:
         for name in NAMES:
             for slip in hundred(name):
                 place = place_by_judge(slip.text)
                 found = place and told(slip.text.encode(), *place)
-                if found:
+                if place and found:
                     self.assertEqual(failing(spot_of(slip.text, place), found.cure), [],
                                      f"{name} {slip.number}: {found.cure}")
 
-    def test_each_reading_has_a_condition_of_its_own(self):
+    def test_each_reading_has_a_condition_of_its_own(self) -> None:
         for name in NAMES:
             for slip in hundred(name):
                 for condition, reading in readings(slip.told):
                     self.assertTrue(fits(condition, reading), f"{name} {slip.number}: {slip.told}")
 
-    def test_what_is_asserted_was_meant(self):
+    def test_what_is_asserted_was_meant(self) -> None:
         led = {f"{name} {slip.number}": leads_to(slip.text, slip.scores()) for name in MEANT for slip in hundred(name)}
         self.assertGreaterEqual(sum(each is True for each in led.values()), 120)
         astray = [each for each, led_there in led.items() if led_there is False]
         self.assertLessEqual(len(astray), ELSEWHERE, astray)
 
     @needs_program
-    def test_the_program_refuses_them_at_the_same_place(self):
+    def test_the_program_refuses_them_at_the_same_place(self) -> None:
         for name in NAMES:
             for slip in hundred(name):
                 status, said, _ = run(slip.text)
                 self.assertEqual(status, 3, f"{name} {slip.number}")
                 place = place_of(said)
+                assert place, said
                 judged = place_by_judge(slip.text)
                 if place.number < 9 and f"{name} {slip.number}" not in NOT_COUNTED:
                     self.assertEqual(place, judged, f"{name} {slip.number}")

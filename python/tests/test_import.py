@@ -3,16 +3,20 @@
 FILES names another number of random files.
 """
 
+from __future__ import annotations
+
+import importlib
 import os
 import pathlib
 import random
 import sys
 import tempfile
 import unittest
+from typing import Any, Iterable
 
-from .companion import score
+from .companion import Answer, score
 from .midi_files import meta, midi, notes, track
-from .program import TOP, needs_program
+from .program import TOP, needs_program, score_model
 
 from formula_score.reading.playing import listed
 from formula_companion.importer.compare import compared
@@ -20,16 +24,16 @@ from formula_companion.importer.parts import piece_of
 from formula_companion.importer.repeats import Numbers
 from formula_companion.importer.score import fitting_text
 
-import score_model
-
 sys.path.insert(0, str(TOP / "tools" / "file_model"))
 
-import file_model  # noqa: E402
+file_model: Any = importlib.import_module("file_model")
 
 FILES = int(os.environ.get("FILES", "15"))
+#: Messages with their ticks.
+Events = list[tuple[int, bytes]]
 
 
-def imported(file, *words):
+def imported(file: bytes, *words: object) -> tuple[Answer, Any]:
     """What the verb answers, and the text that it wrote."""
     with tempfile.TemporaryDirectory() as folder:
         source, target = pathlib.Path(folder, "in.mid"), pathlib.Path(folder, "out.score")
@@ -38,13 +42,13 @@ def imported(file, *words):
         return answer, target.read_text() if target.exists() else None
 
 
-def played(text):
+def played(text: str) -> tuple[Events, int]:
     """The events of a text by the model, and its end."""
     events, end = score_model.played(text.encode())
     return sent((tick, bytes(message)) for tick, _, _, message in events), end
 
 
-def sent(events):
+def sent(events: Iterable[tuple[int, bytes]]) -> Events:
     """Events sorted, note-offs by their keys."""
     off = [(tick, message[:2] if message[0] >> 4 == 8 else message) for tick, message in events]
     return sorted((tick, bytes([message[0] - 16, message[1]]) if message[0] >> 4 == 9 and message[2] == 0 else message)
@@ -63,7 +67,7 @@ WALTZ = midi(96, [
 
 @needs_program
 class Written(unittest.TestCase):
-    def test_a_waltz_is_written_as_one_would(self):
+    def test_a_waltz_is_written_as_one_would(self) -> None:
         answer, text = imported(WALTZ)
         self.assertEqual((answer.status, answer.complaint), (0, ""))
         self.assertEqual(text, """\
@@ -84,14 +88,14 @@ par {
 }
 """)
 
-    def test_its_comments_count_its_bars(self):
+    def test_its_comments_count_its_bars(self) -> None:
         with tempfile.TemporaryDirectory() as folder:
             path = pathlib.Path(folder, "waltz.score")
             path.write_text(imported(WALTZ)[1])
             answer = score("bars", path, "--meter", "3/4")
         self.assertEqual(answer.status, 0, answer.said)
 
-    def test_what_has_no_word_is_told(self):
+    def test_what_has_no_word_is_told(self) -> None:
         file = midi(480, [track([(0, meta(0x05, b"la")), (0, bytes([0x90, 60, 64])), (0, b"\xd0\x40"),
                                  (10, b"\xf0\x02\x01\xf7"), (240, bytes([0x80, 60, 7])), (240, bytes([0x80, 61, 64])),
                                  (480, bytes([0x90, 62, 64]))], 960)])
@@ -103,7 +107,7 @@ par {
         self.assertEqual(played(text), ([(0, b"\x90\x3c\x40"), (240, b"\x80\x3c"), (480, b"\x90\x3e\x40"),
                                          (960, b"\x80\x3e")], 960))
 
-    def test_a_division_that_a_score_cannot_have(self):
+    def test_a_division_that_a_score_cannot_have(self) -> None:
         even = notes(0, (0, 512, 60, 64), (1024, 2048, 62, 64))
         answer, text = imported(midi(1024, [track(even, 2048)]))
         self.assertIn("written with 512; no event moves", answer.said)
@@ -120,25 +124,35 @@ par {
         self.assertIn("formula 2; division 512;\nshape tempo = flat 1/1 by 500;\n", text)
         self.assertEqual(played(text)[0], sent(odd))
 
-    def test_a_file_of_silence_is_longer_than_any_length(self):
+    def test_a_file_of_silence_is_longer_than_any_length(self) -> None:
         answer, text = imported(midi(480, [track([], 3_000_001)]))
         self.assertEqual(answer.status, 0, answer.said)
         self.assertEqual(text.split("\n")[-3:], ["repeat 3 { rest 3125/6; }", "rest ticks 1;", ""])
 
-    def test_bars_of_silence_are_no_loop_and_cost_no_time(self):
-        asked = []
-        empty = Numbers([0], False, lambda run: asked.append(run) or True)
+    def test_bars_of_silence_are_no_loop_and_cost_no_time(self) -> None:
+        asked: list[Any] = []
+
+        def heard(run: Any) -> bool:
+            asked.append(run)
+            return True
+
+        empty = Numbers([0], False, heard)
         self.assertEqual(empty.rows[empty.add([0] * 20_000)], [0] * 20_000)
         self.assertEqual(asked, [])
 
-    def test_a_loop_has_as_many_rounds_as_it_may(self):
-        asked = []
-        full = Numbers([30], False, lambda run: asked.append(run) or len(run) <= 250)
+    def test_a_loop_has_as_many_rounds_as_it_may(self) -> None:
+        asked: list[Any] = []
+
+        def heard(run: Any) -> bool:
+            asked.append(run)
+            return len(run) <= 250
+
+        full = Numbers([30], False, heard)
         row = full.add([0] * 1_000)
         self.assertEqual([full.loops[number][0] for number in full.rows[row]], [250] * 4)
         self.assertLess(len(asked), 1_000)
 
-    def test_what_differs_first_is_told(self):
+    def test_what_differs_first_is_told(self) -> None:
         listing = listed(file_model.listing(file_model.read(WALTZ)).decode().splitlines())
         late = [event._replace(tick=event.tick + 1) if event.message == b"\x90\x49\x40" else event
                 for event in listing.events]
@@ -146,7 +160,7 @@ par {
         self.assertEqual((answer.events, answer.differing), (49, 8))  # four notes, each missing and at another tick
         self.assertEqual(answer.first, "tick 96, channel 0, note-on 73 64: not played")
 
-    def test_another_file_is_refused_with_the_programs_line(self):
+    def test_another_file_is_refused_with_the_programs_line(self) -> None:
         answer, text = imported(b"RIFF")
         self.assertEqual((answer.status, text), (1, None))
         self.assertIn("byte 0 fault 21", answer.said)
@@ -155,10 +169,10 @@ par {
 class Maker:
     """Random files: lines, chords, notes that overlap or have no length, and messages among them."""
 
-    def __init__(self, seed):
+    def __init__(self, seed: int):
         self.random = random.Random(seed)
 
-    def line(self, channel, division):
+    def line(self, channel: int, division: int) -> Events:
         draw = self.random
         tick, found = draw.choice([0, 0, draw.randrange(division)]), []
         step = draw.choice([division // 4, division // 2, division, 7])
@@ -179,7 +193,7 @@ class Maker:
             events.append((at, message))
         return sorted(events, key=lambda event: event[0])
 
-    def file(self):
+    def file(self) -> tuple[bytes, Events, int]:
         """The bytes of a file, its events, and its end."""
         draw = self.random
         division = draw.choice([24, 96, 120, 480, 89, 960])
@@ -194,14 +208,14 @@ class Maker:
 
 @needs_program
 class RandomFiles(unittest.TestCase):
-    def test_the_score_plays_the_files_events(self):
+    def test_the_score_plays_the_files_events(self) -> None:
         for seed in range(FILES):
             file, events, end = Maker(seed).file()
             answer, text = imported(file)
             self.assertEqual(answer.status, 0, f"{seed}: {answer}")
             self.assertEqual(played(text), (sent(events), end), seed)
 
-    def test_texts_that_are_tight_or_flat_play_them_too(self):
+    def test_texts_that_are_tight_or_flat_play_them_too(self) -> None:
         for seed in range(FILES):
             file, events, end = Maker(seed).file()
             piece = piece_of(listed(file_model.listing(file_model.read(file)).decode().splitlines()))

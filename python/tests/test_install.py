@@ -48,6 +48,8 @@ class Install(unittest.TestCase):
             (prefix / "bin" / "other").touch()
             self.assertEqual(install(str(prefix)).returncode, 0)
             self.assertEqual([name for name in WANTED if not (prefix / name).is_file()], [])
+            for name in ("bin/formula", "bin/formula-score"):
+                self.assertEqual((prefix / name).read_bytes(), (TOP / name).read_bytes(), name)
             program = subprocess.run([sys.executable, "-I", "-B", "-c", "import sys; sys.path.insert(0, sys.argv[1])\n"
                                       "import formula_score; print(formula_score.find_program())",
                                       prefix / "lib" / "formula" / "python"], env={"PATH": "/none"}, check=True,

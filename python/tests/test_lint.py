@@ -1,5 +1,7 @@
 """The verb `lint`: silent on every example, and a finding for each thing that is hardly meant."""
 
+from __future__ import annotations
+
 import pathlib
 import tempfile
 import unittest
@@ -11,7 +13,7 @@ from .test_reading import examples
 
 @needs_program
 class Lint(unittest.TestCase):
-    def found(self, text):
+    def found(self, text: str) -> list[str]:
         """What is found in a text: places and words."""
         with tempfile.TemporaryDirectory() as folder:
             path = pathlib.Path(folder, "tune.score")
@@ -22,18 +24,18 @@ class Lint(unittest.TestCase):
             self.assertEqual(answer.status, 1 if lines else 0)
             return lines
 
-    def finds(self, text, place, *words):
+    def finds(self, text: str, place: str, *words: str) -> None:
         lines = self.found(text)
         self.assertEqual([line.split(": ")[0] for line in lines], [place], lines)
         for word in words:
             self.assertIn(word, lines[0])
 
-    def test_it_is_silent_on_every_example(self):
+    def test_it_is_silent_on_every_example(self) -> None:
         for path in examples():
             answer = score("lint", path)
             self.assertEqual((answer.status, answer.said, answer.complaint), (0, "", ""), path)
 
-    def test_branches_that_share_a_channel(self):
+    def test_branches_that_share_a_channel(self) -> None:
         voice = "note c4 1/4;"
         self.finds(f"par {{\n  branch {{ {voice} }}\n  branch {{ {voice} }}\n}}", "2:1",
                    "branches 1 and 2 (lines 3 and 4) both play on channel 0")
@@ -42,7 +44,7 @@ class Lint(unittest.TestCase):
         self.assertEqual(self.found(f"par {{ branch {{ {voice} }} branch {{ program 5; rest 1/4; }}"
                                     f"branch {{ channel 1 {{ {voice} }} }} }} {voice}"), [])
 
-    def test_lists_of_velocities_that_do_not_fit(self):
+    def test_lists_of_velocities_that_do_not_fit(self) -> None:
         notes = "note c4 1/4; " * 4
         self.finds(f"loud [60, 70, 80, 90, 100] {{ {notes} }}", "2:1", "5 entries, and its passage 4 notes",
                    "never reached")
@@ -55,7 +57,7 @@ class Lint(unittest.TestCase):
                                     f"artic [50, 60, 70] {{ {notes} }} loud [1, 2, 3] {{ rest 1/1; }}"
                                     f"loud [100, 60, 60, 60] {{ repeat 3 {{ {notes} }} }}"), [])
 
-    def test_a_shape_that_is_shorter_than_its_block(self):
+    def test_a_shape_that_is_shorter_than_its_block(self) -> None:
         self.finds("shape s = flat 1/1 by 1250;\nwarp s { note c4 5/4; }", "3:1", "ends 1/4 before its block",
                    "its last stretch is 1250")
         self.finds("shape s = flat 1/1 by 1250;\nwarp s { note c4 4/1; }", "3:1", "ends 3/1 before its block")
@@ -66,19 +68,19 @@ class Lint(unittest.TestCase):
                                     "shape twice = flat 1/1 by 500;"
                                     "warp twice { warp twice { note c4 1/1; } rest 1/2; }"), [])
 
-    def test_names_of_flats_in_other_languages(self):
+    def test_names_of_flats_in_other_languages(self) -> None:
         self.finds("note es4 1/4;", "2:6", "`es4` is E sharp", "E flat is `eb4`")
         self.finds("note c4, as3 1/4;", "2:10", "`as3` is A sharp", "A flat is `ab3`")
         self.assertEqual(self.found("note fs4, cs4, es4, as4 1/4;"), [])
 
-    def test_stretches_that_read_like_beats_a_minute(self):
+    def test_stretches_that_read_like_beats_a_minute(self) -> None:
         self.finds("shape rit = slope 2/1 by 120 to 90; warp rit { note c4 2/1; }", "2:7", "`slope .. by 120 to 90`",
                    "8.3 times as fast as written", "write by 1000")
         self.finds("shape slow = flat 1/1 by 96; warp slow { note c4 1/1; }", "2:7", "write by 1250")
         self.assertEqual(self.found("shape rush = flat 1/1 by 1, slope 1/1 by 250 to 1000;"
                                     "warp rush { note c4 1/1; }"), [])
 
-    def test_notes_that_are_cut(self):
+    def test_notes_that_are_cut(self) -> None:
         # two quarter notes of 400 percent: the first is cut 960 ticks early, the second 1,440
         self.assertEqual([line.split(", and is ")[1].split(";")[0] for line in
                           self.found("gate 400 {\nnote c4 1/4;\nnote e4 1/4; }")],
@@ -90,7 +92,7 @@ class Lint(unittest.TestCase):
         self.finds("gate 200 { note c4 1/4; }\npar { branch { rest 1/1; } }", "2:12", "cut 480 ticks")
         self.assertEqual(self.found("gate 400 { note c4 1/4; } rest 3/4; gate 100 { note c4 1/4; }"), [])
 
-    def test_a_refused_score(self):
+    def test_a_refused_score(self) -> None:
         with tempfile.NamedTemporaryFile("w", suffix=".score") as file:
             file.write("formula 1; note c4;")
             file.flush()

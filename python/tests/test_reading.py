@@ -3,10 +3,13 @@
 100 random scores; SCORES names another number. Where it is named the long examples are read, too.
 """
 
+from __future__ import annotations
+
 import os
 import pathlib
 import unittest
 from fractions import Fraction
+from typing import Optional
 
 from .program import TOP, needs_program
 from .random_texts import Texts
@@ -14,21 +17,21 @@ from .random_texts import Texts
 from formula_score.reading.playing import Failed, listing_of, located
 from formula_score.reading.reader import read
 from formula_score.reading.ticks import Spot, ticks_of
-from formula_score.reading.walk import Place, Played, Walk, parts_of, tick_of
+from formula_score.reading.walk import Happening, Level, Place, Played, Walk, parts_of, tick_of
 from formula_score.making.expected import outside
 
 SCORES = int(os.environ.get("SCORES", "100"))
 LAST = 2 ** 40
 
 
-def examples():
+def examples() -> list[pathlib.Path]:
     """The scores of all folders of examples."""
     left_out = ("refused",) if "SCORES" in os.environ else ("refused", "long")
     return [path for path in sorted(pathlib.Path(TOP, "examples").glob("*/*.score"))
             if path.parent.name not in left_out]
 
 
-def positions(levels, tick):
+def positions(levels: tuple[Level, ...], tick: int) -> Optional[tuple[int, ...]]:
     """By the reading: the least position of each level that lies at what was found in the level above, or later."""
     found = []
     for level in parts_of(levels):
@@ -45,7 +48,7 @@ def positions(levels, tick):
 
 @needs_program
 class Agreement(unittest.TestCase):
-    def agrees(self, text, name, wholly=True):
+    def agrees(self, text: bytes, name: object, wholly: bool = True) -> None:
         """The events of a text; wholly, also what is located, and ticks that are asked for."""
         walk = Played(read(text))
         walk.run()
@@ -68,11 +71,11 @@ class Agreement(unittest.TestCase):
         self.assertEqual(ticks_of(walk.reading, spots),
                          [tick_of(happening.levels, happening.position) for happening in chosen], name)
 
-    def test_every_example(self):
+    def test_every_example(self) -> None:
         for path in examples():
             self.agrees(path.read_bytes(), path.name)
 
-    def test_random_scores(self):
+    def test_random_scores(self) -> None:
         tried = seed = 0
         while tried < SCORES:
             text = Texts(seed).score()
@@ -86,8 +89,8 @@ class Agreement(unittest.TestCase):
 
 
 class Apart(unittest.TestCase):
-    def test_the_reading_shares_no_line_with_the_model(self):
-        def lines(path):
+    def test_the_reading_shares_no_line_with_the_model(self) -> None:
+        def lines(path: pathlib.Path) -> set[str]:
             return {line.strip() for line in path.read_text().splitlines() if len(line.strip()) > 12} - {
                 'if __name__ == "__main__":'}
 
@@ -106,7 +109,7 @@ repeat 2 {
 } warp rit { do tune; }
 """
 
-    def test_places_and_comments(self):
+    def test_places_and_comments(self) -> None:
         reading = read(self.TEXT)
         self.assertEqual((reading.version, reading.division, reading.seed, reading.whole), (2, 96, 7, 384))
         self.assertEqual([(statement.word, statement.first.line, statement.first.column, statement.last.line, statement.last.column)
@@ -117,7 +120,7 @@ repeat 2 {
         self.assertEqual([(comment.text, comment.line, comment.column, comment.alone) for comment in reading.comments],
                          [("begin", 1, 34, False), ("alone", 2, 1, True)])
 
-    def test_lengths_that_are_known_without_playing(self):
+    def test_lengths_that_are_known_without_playing(self) -> None:
         reading = read(self.TEXT)
         repeat, warp = reading.statements
         self.assertEqual(reading.length((repeat,)), 2 * (96 + 48 + 96))
@@ -125,31 +128,31 @@ repeat 2 {
         self.assertEqual(reading.fraction(reading.shapes["rit"].length), Fraction(3, 2))
         self.assertEqual(reading.length(reading.phrases["tune"].block.statements[:1]), 96)
 
-    def test_a_list_that_goes_round_in_a_loop_is_counted_by_its_rounds(self):
+    def test_a_list_that_goes_round_in_a_loop_is_counted_by_its_rounds(self) -> None:
         reading = read(b"formula 1; phrase unused { rhythm [1/4, 1/8, 1/16] {"
                        b"repeat 1000000 { repeat 1000000 { play c4; skip; } } } }")
         # 2,000,000,000,000 entries: 666,666,666,666 times the three, and then two more
         self.assertEqual(reading.length(reading.phrases["unused"].block.statements),
                          666_666_666_666 * (480 + 240 + 120) + 480 + 240)
 
-    def test_operators_group_as_the_language_says(self):
+    def test_operators_group_as_the_language_says(self) -> None:
         class Values(Walk):
-            def statement(self, happening):
+            def statement(self, happening: Happening) -> None:
                 if happening.statement.word == "control":
                     seen.append(happening.values[0])
 
-        seen = []
+        seen: list[int] = []
         Values(read(b"formula 1; control 1 (8 - 2 - 1); control 1 (2 + 3 * 4 % 5); control 1 (-7 / 2 + 10);"
                     b"control 1 (-7 % 4); control 1 (1 / 0); control 1 (less(1, 2) + same(3, 3) + min(4, 5));"
                     b"control 1 (-(2 + 3) + 6);")).run()
         self.assertEqual(seen, [5, 4, 6, 1, 0, 6, 1])
 
-    def test_places_of_what_is_played(self):
+    def test_places_of_what_is_played(self) -> None:
         class Blocks(Walk):
             def closed(self, place: Place, end: int) -> None:
                 seen.append((place.kind, place.number, place.process, place.begin, end))
 
-        seen = []
+        seen: list[tuple[str, int, int, int, int]] = []
         walk = Blocks(read(b"formula 1; shape half = flat 1/1 by 500; phrase p { rest 1/4; } do p;"
                            b"par { branch { warp half { do p; } } branch { repeat 2 { rest 1/2; } } } rest 1/1;"))
         walk.run()

@@ -12,7 +12,8 @@ import time
 import unittest
 import unittest.mock
 
-from formula_score import play
+from formula_score import __version__, play
+from formula_score.reading import playing
 
 from .program import TOP
 
@@ -59,6 +60,18 @@ class Scripts(unittest.TestCase):
             for script in (self.script, old):
                 self.assertEqual(said([script, "--program"], name), f"{self.built}\n", name)
                 self.assertEqual(said([script, "in", "out"], name), "FORMULA is not set\n", name)
+
+    def test_old_names_run_the_companion(self) -> None:
+        for words in (["score", "--version"], ["score", "batch", "--version"], ["batch", "--version"]):
+            done = subprocess.run([TOP / "scripts" / words[0], *words[1:]], stdout=subprocess.PIPE, text=True, check=True)
+            self.assertEqual(done.stdout, f"formula-score {__version__}\n", words)
+
+    def test_a_script_is_no_program_of_the_companion(self) -> None:
+        for found in (None, str(TOP / "bin" / "formula"), str(TOP / "scripts" / "formula"), self.built):
+            with unittest.mock.patch("formula_score.running.command.find_program", lambda: found), \
+                    unittest.mock.patch("subprocess.run") as asked:
+                asked.return_value.returncode, asked.return_value.stdout = 0, b"built\n"
+                self.assertEqual(playing.program(), self.built if found == self.built else "built")
 
     def test_a_program_that_runs_the_script_ends(self) -> None:
         wrapper = written(self.top / "wrapper", f"#!/bin/sh\nexec '{self.script}' \"$@\"\n")

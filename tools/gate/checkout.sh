@@ -49,7 +49,7 @@ clean_up() {
 # shellcheck disable=SC2317 # traps call it
 # ends_build STATUS: ends the build that runs, and this script; the next build continues with what is not proved yet.
 ends_build() {
-    kill "$build" 2>/dev/null && wait "$build"
+    { kill "$build" && wait "$build"; } 2>/dev/null
     exit "$1"
 }
 

@@ -48,10 +48,10 @@ class Listing(command.Listing):
 
 
 def program() -> str:
-    """The proved program; built on first use, where this package stands in the repository."""
-    found = command.find_program()
-    if found is None and (_TOP / "bin" / "formula").exists():
-        built = subprocess.run([_TOP / "bin" / "formula", "--program"], stdout=subprocess.PIPE, check=False)
+    """The proved program; built on first use, where this package stands in the repository, whose scripts are none."""
+    found, script = command.find_program(), _TOP / "bin" / "formula"
+    if script.exists() and (found is None or pathlib.Path(found).resolve().parent in (script.parent, _TOP / "scripts")):
+        built = subprocess.run([script, "--program"], stdout=subprocess.PIPE, check=False)
         found = built.stdout.decode().strip() if built.returncode == 0 else None
     if not found:
         raise Failed(1, "there is no program: let FORMULA name it, or put formula into PATH")
