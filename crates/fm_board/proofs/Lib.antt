@@ -20,6 +20,8 @@ pub mod Stocks
 pub mod Played
 pub mod Tokens
 pub mod OneState
+pub mod StepByStep
+pub mod Staying
 pub mod Steps
 pub mod Returns
 pub mod Peeks
