@@ -35,6 +35,7 @@ pub mod Recalls
 pub mod Findings
 pub mod Meetings
 pub mod Sweeping
+pub mod FoundLast
 pub mod Advancing
 pub mod Taking
 mod Numerals
