@@ -55,7 +55,7 @@ latest_gave f i v w q is = latest_now f i (gave v) w (record { same = q.same; ag
 -- ---- a look
 
 -- the last look of a sweep is at the process that was looked at
-swept_last : (xs : List Look) (p : ℕ) (x : Look) → (p ≡ 0) ⊎ ((p ≡ length xs) ⊎ (p + 1 ≡ length xs)) → length (swept xs p x) - 1 ≡ p
+pub swept_last : (xs : List Look) (p : ℕ) (x : Look) → (p ≡ 0) ⊎ ((p ≡ length xs) ⊎ (p + 1 ≡ length xs)) → length (swept xs p x) - 1 ≡ p
 swept_last xs p x turn = go (nat_eq p 0) (nat_eq p (length xs)) refl refl turn
   where
     go : (first next : Bool) → nat_eq p 0 ≡ first → nat_eq p (length xs) ≡ next → (p ≡ 0) ⊎ ((p ≡ length xs) ⊎ (p + 1 ≡ length xs))
