@@ -68,15 +68,6 @@ play_refused score before spot play rest f r found =
 
 -- ---- the beginning and the end
 
--- what the outline of a score without a fault of names and numbers is
-pub made_of : (score : tree.Score) (o : Outline) → outline_view o ≡ outline score → o.seed ≡ seed_of score.seed
-    → rules_view o.rules ≡ score_rules score → ForksMarked o → passage_of_outline o ≡ (resolved score).passage
-    → second_walk score ≡ [] → IsMadeOf o score
-made_of score o view seed rules marked passage faultless = record {
-  sound = record { is = record { view = view; seed = seed; rules = rules; marked = marked }; passage = passage };
-  faultless = faultless;
-}
-
 -- the greatest entry of all rhythms of a score is that of its outline
 pub longest_kept : (score : tree.Score) (o : Outline) {longest : ℕ} → outline_view o ≡ outline score
     → longest ≡ capped (tables_view o.tables).longest → longest ≡ capped (resolved score).longest

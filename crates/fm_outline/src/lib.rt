@@ -6,27 +6,28 @@
 //! its number.
 #![tactic(auto)]
 
-mod begun;
+mod copying;
 mod fork;
 mod known;
 mod lasting;
 mod leaf;
 mod number;
+mod opened;
+mod opening;
 mod outline;
 mod outliner;
 mod quality;
 mod refusal;
 mod shell;
 mod sketch;
-mod statement;
 mod step;
 mod tables;
 mod tree;
 mod value;
 mod walk;
 
-pub use begun::Begun;
 pub use lasting::Lasting;
+pub use opened::{Opened, Tested};
 pub use outline::Outline;
 pub use outliner::Outliner;
 pub use quality::Quality;
