@@ -40,7 +40,7 @@ pub fn check_made(alloc: Global, outline: Outline) -> Result<Checked, CheckFault
         result ≡ Err (CheckFault.Refused why spot) →
         first_found (score_faults s) ≡ Some (fault_at spot why) }
 {
-    if let Some(fault) = first_place_fault(alloc, &outline)? {
+    if let Some(fault) = first_place_fault(&outline) {
         return Err(refused(fault));
     }
     let bounds = find_bounds(alloc, &outline)?;

@@ -2,6 +2,10 @@ pub mod RefusalLemmas
 pub mod NameLemmas
 pub mod SeenLemmas
 pub mod ForkLemmas
+pub mod NumberLemmas
+pub mod NeedsLemmas
+pub mod PassageLemmas
+pub mod AskingLemmas
 pub mod ForkRows
 pub mod GrowingLemmas
 pub mod KeyLemmas

@@ -7,7 +7,7 @@ ghost use Rattle.fm_expansion.specs.Outline.{Tables as PlainTables};
 ghost use Rattle.fm_expansion.specs.Numbering.{Catalogue};
 ghost use Rattle.fm_outline.specs.Answered.{Answers};
 ghost use Rattle.fm_outline.specs.Forking.{CanMark, Surrounds};
-ghost use Rattle.fm_outline.specs.Knows.{Knows};
+ghost use Rattle.fm_outline.specs.Knows.{Knows, KnowsNeeds};
 ghost use Rattle.fm_outline.specs.View.{Look, tables_view};
 ghost use Rattle.fm_outline.specs.declared.lasting.Lasting.TheVariants as lasts;
 ghost use Rattle.fm_outline.specs.declared.step.Instruction.TheVariants as does;
@@ -161,8 +161,8 @@ pub(crate) fn set(
 pub(crate) fn call(name: &Name, known: &Known) -> Result<Instruction, CheckFault>
     ensures view { (k : Catalogue) (look : Look) (t : PlainTables) → Knows known.now look k →
         Answers k look (tree.call (name_view name.now)) t t result }
-    ensures marked { (k : Catalogue) (look : Look) → Knows known.now look k →
-        IfOk result (CanMark known.now.forking.items look) }
+    ensures asking { (look : Look) (v : PlainTables) → KnowsNeeds known.now v look →
+        IfOk result (CanMark known.now.needs.items v look) }
 {
     called(known.phrase(name))
 }

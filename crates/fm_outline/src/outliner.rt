@@ -1,6 +1,6 @@
 //! The outline of a score, made while its text is read.
 
-ghost use Rattle.std.specs.Prelude.{◌≡◌, false, [], IfOk, OnOk, Some, None, map, vec_items};
+ghost use Rattle.std.specs.Prelude.{◌≡◌, [], IfOk, OnOk, Some, None, map, vec_items};
 ghost use Rattle.fm_grammar.specs.Making.{AreForked, AreMade};
 ghost use Rattle.fm_grammar.specs.Opening.{Opening as Before, filled};
 ghost use Rattle.fm_grammar.specs.Score.{Body, Branches, Postfix, Score as Tree, Stmt};
@@ -11,12 +11,11 @@ ghost use Rattle.fm_meaning.specs.Ranges.{second_walk};
 ghost use Rattle.fm_meaning.specs.Resolve.{resolved};
 ghost use Rattle.fm_rules.specs.Why.{fault_at};
 ghost use Rattle.fm_expansion.specs.Numbering.{Catalogue};
+ghost use Rattle.fm_expansion.specs.Outline.{Tables as PlainTables};
 ghost use Rattle.fm_outline.specs.declared.outliner.Outliner.{Outliner};
-ghost use Rattle.fm_outline.specs.declared.lasting.Lasting.TheVariants as lasts;
-ghost use Rattle.fm_outline.specs.declared.step.Instruction.TheVariants as does;
 ghost use Rattle.fm_outline.specs.Answered.{Answers};
-ghost use Rattle.fm_outline.specs.Forking.{CanMark};
-ghost use Rattle.fm_outline.specs.Knows.{Knows};
+ghost use Rattle.fm_outline.specs.Forking.{CanMark, MarksStep};
+ghost use Rattle.fm_outline.specs.Knows.{Knows, KnowsNeeds};
 ghost use Rattle.fm_outline.specs.OfScore.{IsOutlineOf, passage_of_outline};
 ghost use Rattle.fm_outline.specs.Outlining.{IsEntered, IsNamed, IsOpened, IsOutlined};
 ghost use Rattle.fm_outline.specs.Outlining.{IsTested, SoFar, with_tables};
@@ -24,7 +23,7 @@ ghost use Rattle.fm_outline.specs.Phrases.{PhrasesStand};
 ghost use Rattle.fm_outline.specs.Refusal.{Refuses};
 ghost use Rattle.fm_outline.specs.View.{Look, tables_view};
 
-use crate::fork::step_at;
+use crate::asking::{beat_at, step_at};
 use crate::leaf;
 use crate::opened::{Opened, Tested};
 use crate::opening::{outline_opening, outline_test};
@@ -73,7 +72,19 @@ impl<'s> Outliner<'s> {
         }
     }
 
-    // The step of a statement without a block, or its fault.
+    // A statement at its spot, from what is known so far.
+    fn step(&self, spot: Spot, what: Instruction) -> Step
+        ensures spot { result.spot ≡ spot }
+        ensures what { result.what ≡ what }
+        ensures asking { MarksStep (tables_view self.now.sketch.walk.tables)
+            self.now.sketch.walk.known.needs.items what result }
+    {
+        let walk = &self.sketch.walk;
+        step_at(spot, what, &walk.known.needs, &walk.tables)
+    }
+
+    // The step of a statement without a block, or its fault. A rest stands in the place of one that
+    // is not outlined.
     fn finish(&mut self, spot: Spot, made: Result<Instruction, CheckFault>) -> Step
         ensures { (before : Outliner) (stmt : Stmt) →
             before.fault ≡ None → self.old.fault ≡ None →
@@ -81,28 +92,17 @@ impl<'s> Outliner<'s> {
             ((k : Catalogue) (look : Look) → Knows before.sketch.walk.known look k →
             Answers k look stmt (tables_view before.sketch.walk.tables)
             (tables_view self.old.sketch.walk.tables) made) →
-            ((k : Catalogue) (look : Look) → Knows before.sketch.walk.known look k →
-            IfOk made (CanMark before.sketch.walk.known.forking.items look)) →
+            ((look : Look) (v : PlainTables) → KnowsNeeds before.sketch.walk.known v look →
+            IfOk made (CanMark before.sketch.walk.known.needs.items v look)) →
             IsOutlined before (placed spot stmt) result self.new }
     {
         match made {
-            Ok(what) => step_at(spot, what, &self.sketch.walk.known.forking),
+            Ok(what) => self.step(spot, what),
             Err(fault) => {
                 self.fault = Some(fault);
-                nothing_at(spot)
+                beat_at(spot)
             }
         }
-    }
-}
-
-// A rest in the place of a statement that is not outlined.
-fn nothing_at(spot: Spot) -> Step
-    ensures { result ≡ record { spot = spot; forks = false; what = does.Rest lasts.Beat } }
-{
-    Step {
-        spot,
-        forks: false,
-        what: leaf::skip(),
     }
 }
 
@@ -125,7 +125,7 @@ impl<'s> Maker<'s> for Outliner<'s> {
 
     fn note(&mut self, alloc: Global, spot: Spot, pitches: Vec<Pitch>, duration: Duration) -> Step {
         if self.fault.is_some() {
-            return nothing_at(spot);
+            return beat_at(spot);
         }
         let walk = &mut self.sketch.walk;
         let made = leaf::note(alloc, walk.known.whole, pitches, duration, &mut walk.tables);
@@ -134,7 +134,7 @@ impl<'s> Maker<'s> for Outliner<'s> {
 
     fn play(&mut self, alloc: Global, spot: Spot, pitches: Vec<Pitch>) -> Step {
         if self.fault.is_some() {
-            return nothing_at(spot);
+            return beat_at(spot);
         }
         let walk = &mut self.sketch.walk;
         let made = leaf::play(alloc, pitches, &mut walk.tables);
@@ -143,7 +143,7 @@ impl<'s> Maker<'s> for Outliner<'s> {
 
     fn rest(&mut self, alloc: Global, spot: Spot, duration: Duration) -> Step {
         if self.fault.is_some() {
-            return nothing_at(spot);
+            return beat_at(spot);
         }
         let walk = &mut self.sketch.walk;
         let made = leaf::rest(alloc, walk.known.whole, duration, &mut walk.tables);
@@ -151,12 +151,12 @@ impl<'s> Maker<'s> for Outliner<'s> {
     }
 
     fn skip(&mut self, spot: Spot) -> Step {
-        nothing_at(spot)
+        beat_at(spot)
     }
 
     fn control(&mut self, alloc: Global, spot: Spot, controller: Number, amount: Amount) -> Step {
         if self.fault.is_some() {
-            return nothing_at(spot);
+            return beat_at(spot);
         }
         let walk = &mut self.sketch.walk;
         let made = leaf::control(alloc, controller, amount, &mut walk.tables);
@@ -165,7 +165,7 @@ impl<'s> Maker<'s> for Outliner<'s> {
 
     fn program(&mut self, alloc: Global, spot: Spot, amount: Amount) -> Step {
         if self.fault.is_some() {
-            return nothing_at(spot);
+            return beat_at(spot);
         }
         let walk = &mut self.sketch.walk;
         let made = leaf::program(alloc, amount, &mut walk.tables);
@@ -174,7 +174,7 @@ impl<'s> Maker<'s> for Outliner<'s> {
 
     fn bend(&mut self, alloc: Global, spot: Spot, amount: Amount) -> Step {
         if self.fault.is_some() {
-            return nothing_at(spot);
+            return beat_at(spot);
         }
         let walk = &mut self.sketch.walk;
         let made = leaf::bend(alloc, amount, &mut walk.tables);
@@ -183,7 +183,7 @@ impl<'s> Maker<'s> for Outliner<'s> {
 
     fn set(&mut self, alloc: Global, spot: Spot, register: u8, value: Expr) -> Step {
         if self.fault.is_some() {
-            return nothing_at(spot);
+            return beat_at(spot);
         }
         let walk = &mut self.sketch.walk;
         let made = leaf::set(alloc, register, value, &mut walk.tables);
@@ -192,7 +192,7 @@ impl<'s> Maker<'s> for Outliner<'s> {
 
     fn call(&mut self, spot: Spot, name: Name<'s>) -> Step {
         if self.fault.is_some() {
-            return nothing_at(spot);
+            return beat_at(spot);
         }
         let walk = &mut self.sketch.walk;
         let made = leaf::call(&name, &walk.known);
@@ -225,9 +225,9 @@ impl<'s> Maker<'s> for Outliner<'s> {
         match opened.shell {
             Some(shell) => {
                 let what = shell.round(body);
-                step_at(opened.spot, what, &self.sketch.walk.known.forking)
+                self.step(opened.spot, what)
             }
-            None => nothing_at(opened.spot),
+            None => beat_at(opened.spot),
         }
     }
 
@@ -257,9 +257,9 @@ impl<'s> Maker<'s> for Outliner<'s> {
         match tested.expr {
             Some(expr) => {
                 let what = Instruction::Choice { expr, yes, no };
-                step_at(tested.spot, what, &self.sketch.walk.known.forking)
+                self.step(tested.spot, what)
             }
-            None => nothing_at(tested.spot),
+            None => beat_at(tested.spot),
         }
     }
 
@@ -269,7 +269,7 @@ impl<'s> Maker<'s> for Outliner<'s> {
             IsOutlined before (placed spot (par bs)) result self.new }
     {
         let what = Instruction::Par { branches };
-        step_at(spot, what, &self.sketch.walk.known.forking)
+        self.step(spot, what)
     }
 
     fn shape(&mut self, alloc: Global, name: Name<'s>, parts: Vec<PartText>) {

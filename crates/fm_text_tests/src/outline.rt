@@ -64,7 +64,7 @@ const FORK_IN_A_PHRASE: &str =
 fn a_fork_in_a_phrase_is_found_in_a_loop(rt: HostRuntime) {
     match outlined(rt.alloc(), FORK_IN_A_PHRASE) {
         Some(outline) => {
-            let forks = outline.block.first().map(|step| step.forks);
+            let forks = outline.block.first().map(|step| step.forks());
             same(&rt, &forks, &Some(true));
         }
         None => assert!(rt; false),

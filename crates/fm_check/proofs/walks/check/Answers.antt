@@ -5,8 +5,7 @@ use Rattle.fm_check.proofs.walks.check.Goals as goal
 
 pub check_made-requires : goal.check_made-requires
 check_made-requires c =
-    let made = c.in_ok-outline.ensures in
-    (
+    let made = c.in_ok-outline.ensures in (
       score_view c.args.score.now,
       record { sound = record { is = made.outline; passage = made.passage }; faultless = made.faultless },
     )

@@ -10,4 +10,4 @@ returns c =
     let going = none_of c.args.self.now.fault (sym c.is_some.ensures ∙ c.if-is_some.false) in
     c.finish.ensures c.args.self.now (tree.set c.args.register (expr_view c.args.value)) going going refl
     (λ k look knows. c.set-made.ensures.view k look)
-    (λ k look knows. leaf_marks c.args.self.now.sketch.walk.known.forking.items look c.set-made.result c.set-made.ensures.leaf)
+    (λ look v knows. leaf_marks c.args.self.now.sketch.walk.known.needs.items v look c.set-made.result c.set-made.ensures.leaf)
