@@ -80,10 +80,12 @@ pub data ComesTo (asked : Option Task) (source : FileRead) (sink : FileWritten) 
       → asked ≡ Some t → number_of t ≡ None → 0 < source.faults → sink ≡ unwritten
       → ComesTo asked source sink status line
   refused : (t : Task) (fault : RunFault) → status ≡ fault_status fault → line ≡ fault_text fault
-      → asked ≡ Some t → RefusesOf source t fault → sink ≡ unwritten → ComesTo asked source sink status line
+      → asked ≡ Some t → RefusesOf source t fault → source.faults ≡ 0 → sink ≡ unwritten
+      → ComesTo asked source sink status line
   write : (t : Task) (made : Product) → status ≡ WRITE_FAULT → line ≡ fault_text run.Write
-      → asked ≡ Some t → MakesOf source t made → IsPartOf made.work sink → ComesTo asked source sink status line
-  memory : status ≡ OUT_OF_MEMORY → line ≡ fault_text run.Memory → sink ≡ unwritten
+      → asked ≡ Some t → MakesOf source t made → source.faults ≡ 0 → IsPartOf made.work sink
+      → ComesTo asked source sink status line
+  memory : status ≡ OUT_OF_MEMORY → line ≡ fault_text run.Memory → source.faults ≡ 0 → sink ≡ unwritten
       → ComesTo asked source sink status line
 
 -- how it ends: its line was written, which is all of standard output; or a call on that failed, and a beginning was
@@ -103,3 +105,14 @@ pub record ByStatus (asked : Option Task) (source : FileRead) (sink : FileWritte
   pub refused : status ≡ SCORE_REFUSED → (t : Task) × (fault : RunFault) × (asked ≡ Some t)
       × (fault_status fault ≡ status) × RefusesOf source t fault
   pub untouched : (status ≡ DONE → ⊥) → (status ≡ WRITE_FAULT → ⊥) → (status ≡ CONSOLE_FAULT → ⊥) → sink ≡ unwritten
+
+-- which end comes, where no call failed: of refused words; and of an input of a task, the verdict on it
+pub record ByInput (asked : Option Task) (source : FileRead) (sink : FileWritten) (console : Terminal) (status : ℕ)
+    : Type 0 where
+  pub words : asked ≡ None → console.faults ≡ 0 → (status ≡ WORDS_REFUSED) ⊎ (status ≡ OUT_OF_MEMORY)
+  pub made : (t : Task) (input : List ℕ) (m : Product) → asked ≡ Some t → IsInput source (number_of t) input
+      → Makes t input m → source.faults ≡ 0 → sink.faults ≡ 0 → console.faults ≡ 0
+      → (status ≡ DONE) ⊎ (status ≡ OUT_OF_MEMORY)
+  pub refused : (t : Task) (input : List ℕ) (fault : RunFault) → asked ≡ Some t → IsInput source (number_of t) input
+      → Refuses t input fault → source.faults ≡ 0 → console.faults ≡ 0
+      → ((status ≡ fault_status fault) × (console.bytes ≡ fault_text fault)) ⊎ (status ≡ OUT_OF_MEMORY)
