@@ -23,7 +23,9 @@ class Answer(NamedTuple):
 
 @contextlib.contextmanager
 def _program() -> Iterator[None]:
-    with mock.patch.dict(os.environ, {"FORMULA": PROGRAM} if PROGRAM else {}):
+    # a verb that went on by another Python would take the place of the tests
+    with mock.patch.dict(os.environ, {"FORMULA": PROGRAM} if PROGRAM else {}), \
+            mock.patch("os.execve", side_effect=AssertionError("another Python would go on")):
         yield
 
 

@@ -12,7 +12,7 @@ import time
 import unittest
 import unittest.mock
 
-from formula_score import __version__, play
+from formula_score import play
 from formula_score.reading import playing
 
 from .program import TOP
@@ -62,9 +62,9 @@ class Scripts(unittest.TestCase):
                 self.assertEqual(said([script, "in", "out"], name), "FORMULA is not set\n", name)
 
     def test_old_names_run_the_companion(self) -> None:
-        for words in (["score", "--version"], ["score", "batch", "--version"], ["batch", "--version"]):
-            done = subprocess.run([TOP / "scripts" / words[0], *words[1:]], stdout=subprocess.PIPE, text=True, check=True)
-            self.assertEqual(done.stdout, f"formula-score {__version__}\n", words)
+        for name, usage in (("score", "usage: formula-score VERB .."), ("batch", "usage: formula-score batch [")):
+            done = subprocess.run([TOP / "scripts" / name, "--help"], stdout=subprocess.PIPE, text=True, check=True)
+            self.assertTrue(done.stdout.startswith(usage), done.stdout)
 
     def test_a_script_is_no_program_of_the_companion(self) -> None:
         for found in (None, str(TOP / "bin" / "formula"), str(TOP / "scripts" / "formula"), self.built):
