@@ -6,8 +6,8 @@ import re
 from collections import Counter
 from typing import Sequence
 
+from formula_score.language.grammar import KEYWORDS
 from formula_score.making.midi import INSTRUMENTS
-from formula_score.making.nodes import KEYWORDS
 from .bars import DRUMS, Bar
 from .blocks import Defaults
 from .parts import Part, Piece
