@@ -58,7 +58,7 @@ class Judged(NamedTuple):
     """A text with what is right in place of one of its lines, perhaps nothing; and how the answer was judged.
 
     `change` leads to a right text. Else the verdict is how sure the cure is: `write`, `if`, `fact`, `form`, or `none`.
-    What is not `tuned` was never looked at while rows were written.
+    No row was written for what is not `tuned`.
     """
 
     name: str
