@@ -11,7 +11,7 @@ from formula_companion.editing.places import Places, Position
 from formula_companion.editing.reference import SAYS, form_of, row_at
 from formula_companion.editing.refusal import refused
 from formula_score.explaining.explain import Place
-from formula_score.making.nodes import KEYWORDS
+from formula_score.language.grammar import KEYWORDS
 
 TEXT = b"""formula 1;  # \xe2\x99\xaa \xf0\x9d\x84\x9e a tune
 phrase tune { note c4, eb4 1/4; }
@@ -41,6 +41,8 @@ class Positions(unittest.TestCase):
         self.assertEqual((refusal.range.start, refusal.range.end), (Position(1, 10), Position(1, 11)))
         self.assertIn("a `;` is expected", refusal.heading)
         self.assertEqual(refusal.cure, "each statement ends with `;`: write `note c4 1/4;`")
+        self.assertEqual([(fix.title, fix.range, fix.new) for fix in refusal.fixes],
+                         [("write `note c4 1/4;`", (Position(1, 0), Position(1, 11)), "note c4 1/4;")])
         word = refused(b"formula 1; volume 200 { }", Place(1, 19, 7))
         self.assertEqual((word.range.start, word.range.end), (Position(0, 18), Position(0, 21)))
         byte = refused("formula 1; note 𝄞 1/4;".encode(), Place(1, 17, 1))

@@ -82,11 +82,12 @@ def metas(file: Any, kind: int) -> list[list[tuple[int, bytes]]]:
 class Exports(unittest.TestCase):
     def is_in_time(self, text: str, file: Any) -> None:
         wanted, got = played(text), heard(file)
+        bound = max(Fraction(1, 1000), Fraction(1, 2 * score_model.profile(text.encode())[1]))  # a tick, at 120 a minute
         self.assertEqual({key: len(times) for key, times in wanted.items()},
                          {key: len(times) for key, times in got.items()})
         for key, times in wanted.items():
             for time, other in zip(times, got[key]):
-                self.assertLessEqual(abs(time - other), Fraction(1, 1000), (key, float(time), float(other)))
+                self.assertLessEqual(abs(time - other), bound, (key, float(time), float(other)))
 
     def test_the_tutorial_has_sixteen_bars_and_its_tempos(self) -> None:
         text = pathlib.Path(TOP, "examples", "tutorial", "8_end.score").read_text()
@@ -118,6 +119,44 @@ par {
                          [[], [b"Flute and friends"], [b"low"], [b"branch 3"]])
         self.assertEqual(metas(file, 4)[1], [(0, b"flute")])
         self.assertEqual(metas(file, 0x58)[0], [(0, bytes([3, 2, 24, 8]))])
+
+    def test_a_phrase_names_its_branch_without_its_number_and_comments_name_the_piece(self) -> None:
+        text = """# title: Greensleeves
+# composer: nobody knows
+formula 2; phrase soprano_1 { note c5 3/4; }
+par { branch { do soprano_1; } branch { channel 1 { note c3 3/4; } } }
+"""
+        answer, file = exported(text)
+        self.assertEqual(answer.status, 0)
+        self.assertEqual([[data for _, data in track] for track in metas(file, 3)],
+                         [[b"Greensleeves"], [b"soprano"], [b"branch 2"]])
+        self.assertEqual([data for _, data in metas(file, 1)[0]][1:], [b"composer: nobody knows"])
+        answer, file = exported(text, "--title", "Green", "--composer", "")
+        self.assertEqual(([data for _, data in metas(file, 3)[0]], len(metas(file, 1)[0])), ([b"Green"], 1))
+
+    def test_a_tempo_that_is_held_is_one_mark(self) -> None:
+        rhythm = "rhythm [1/8, 1/12, 1/12, 1/12, 1/20, 3/32, 1/32] { repeat 2 { play c4; play d4; play e4; skip; play a4; } }"
+        text = f"formula 2; shape t = flat 100/1 by 1333; warp t {{ repeat 9 {{ {rhythm} note c4 1/48; }} }}"
+        answer, file = exported(text)
+        self.assertEqual(answer.status, 0, answer)
+        self.assertEqual(metas(file, 0x51)[0], [(0, (666_500).to_bytes(3, "big"))])
+        self.is_in_time(text, file)
+        slow = text.replace("flat 100/1 by 1333", "flat 2/1 by 1277, slope 2/1 by 1277 to 1800, flat 100/1 by 1411")
+        answer, file = exported(slow)
+        self.assertEqual(answer.status, 0, answer)
+        first, *_, last = metas(file, 0x51)[0]
+        self.assertEqual((first, last), ((0, (638_500).to_bytes(3, "big")), (4 * 1920, (705_500).to_bytes(3, "big"))))
+        self.is_in_time(slow, file)
+
+    def test_a_suffix_that_is_not_written_is_refused(self) -> None:
+        with tempfile.TemporaryDirectory() as folder:
+            source, target = pathlib.Path(folder, "in.score"), pathlib.Path(folder, "out.musicxml")
+            source.write_text("formula 1; note c4 1/4;")
+            target.write_text("kept")
+            answer = score("export", source, target)
+            self.assertEqual((answer.status, target.read_text()), (2, "kept"))
+            self.assertIn("ends in '.musicxml': what is written is a MIDI file, .mid or .midi", answer.complaint)
+            self.assertEqual(score("export", source, pathlib.Path(folder, "out.MID")).status, 0)
 
     def test_meters_take_turns_behind_an_upbeat(self) -> None:
         answer, file = exported("formula 1; note c4 1/4; repeat 3 { note c4 3/4; note d4 2/4; }",

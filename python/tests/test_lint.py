@@ -35,13 +35,17 @@ class Lint(unittest.TestCase):
             answer = score("lint", path)
             self.assertEqual((answer.status, answer.said, answer.complaint), (0, "", ""), path)
 
-    def test_branches_that_share_a_channel(self) -> None:
+    def test_branches_that_strike_one_key_while_it_sounds(self) -> None:
         voice = "note c4 1/4;"
         self.finds(f"par {{\n  branch {{ {voice} }}\n  branch {{ {voice} }}\n}}", "2:1",
-                   "branches 1 and 2 (lines 3 and 4) both play on channel 0")
+                   "branches 1 and 2 (lines 3 and 4) strike key 60 of channel 0")
         self.finds(f"par {{ branch {{ channel 2 {{ {voice} }} }} branch {{ rest 1/4; }}"
                    f"branch {{ par {{ branch {{ channel 2 {{ {voice} }} }} }} }} }}", "2:1", "branches 1 and 3")
-        self.assertEqual(self.found(f"par {{ branch {{ {voice} }} branch {{ program 5; rest 1/4; }}"
+        late = "gate 100 { note c4 1/4; }"
+        # the first branch's note-on comes before the second one's note-off of its tick, and not the other way round
+        self.finds(f"par {{ branch {{ rest 1/4; {late} }} branch {{ {late} }} }}", "2:1", "branches 1 and 2")
+        self.assertEqual(self.found(f"par {{ branch {{ {late} }} branch {{ rest 1/4; {late} }} }}"), [])
+        self.assertEqual(self.found(f"par {{ branch {{ {voice} }} branch {{ program 5; rest 1/4; {voice} note d4 1/4; }}"
                                     f"branch {{ channel 1 {{ {voice} }} }} }} {voice}"), [])
 
     def test_lists_of_velocities_that_do_not_fit(self) -> None:

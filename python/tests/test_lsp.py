@@ -121,6 +121,19 @@ class Spoken(unittest.TestCase):
         self.assertEqual(found["message"], "here a `;` is expected, and there is `}` (fault 3)\neach statement ends with "
                                            "`;`: write `note c4 1/4;`")
 
+    @needs_program
+    def test_what_is_refused_has_quick_fixes(self) -> None:
+        self.open(TEXT.replace("note c4 1/4;", "note c' 1/4;"))
+        self.assertEqual(len(self.diagnostics(1)), 1)
+        place = {"line": 1, "character": 16}
+        actions = self.ask("textDocument/codeAction", {"textDocument": {"uri": URI}, "range": {"start": place, "end": place},
+                                                       "context": {"diagnostics": []}})
+        self.assertEqual([action["edit"]["changes"][URI][0]["newText"] for action in actions],
+                         ["phrase tune { note c4 1/4; }", "phrase tune { note c6 1/4; }"])
+        elsewhere = self.ask("textDocument/codeAction", {"textDocument": {"uri": URI}, "range": {
+            "start": {"line": 3, "character": 0}, "end": {"line": 3, "character": 0}}, "context": {"diagnostics": []}})
+        self.assertEqual(elsewhere, [])
+
     def test_words_names_and_the_outline_are_told(self) -> None:
         self.open(TEXT)
         self.assertIn("starts up to 16 pitches", self.at("hover", 1, 15)["contents"]["value"])

@@ -62,7 +62,8 @@ class Readme(unittest.TestCase):
             self.assertEqual(str(caught.exception),
                              "score:2:6: here a pitch is expected, and there is `c` (fault 3)\n"
                              "2 | note c#4 1/4;\n  |      ^\n"
-                             "a `#` begins a comment, and a sharp is `s`: write `note cs4 1/4;`")
+                             "a pitch is a letter a to g, `s` or `b` for a sharp or a flat, then the octave: "
+                             "write `note cs4 1/4;`")
 
 
 if __name__ == "__main__":

@@ -6,14 +6,12 @@ import pathlib
 from typing import Callable, Iterator, Mapping
 
 from formula_score.explaining.faults import FAULTS, FILE_FAULTS, RECORD_FAULTS, Fault
-from formula_score.slips.index import INDEX
-from tests.hundreds import NAMES, hundred
-from tests.slips import SLIPS
+from formula_score.language.index import INDEX
+from formula_score.repair.rows import FACTS, ROWS
 
 FAULTS_FROM = "python/formula_score/explaining/faults.py"
-INDEX_FROM = "python/formula_score/slips/index.py"
-SLIPS_FROM = "python/tests/slips.py"
-HUNDREDS_FROM = "python/tests/fresh"
+INDEX_FROM = "python/formula_score/language/index.py"
+ROWS_FROM = "python/formula_score/repair/rows"
 
 
 class NotWritten(Exception):
@@ -63,28 +61,28 @@ def words() -> Iterator[str]:
         yield f"| {word.words} | {code(word.write)} | {cell(word.note)} |".replace("|  |", "| |")
 
 
-def slips() -> Iterator[str]:
-    """Mistakes in texts, and what is said of them."""
-    yield "| You wrote | Place, fault | What is there | What to do |"
-    yield "|---|---|---|---|"
-    for slip in SLIPS:
-        yield f"| {code(slip.wrote)} | {slip.place}, {slip.fault} | {cell(slip.heading)} | {cell(slip.cure)} |"
-
-
-def hundreds() -> Iterator[str]:
-    """Slips that were written before their messages were seen, with what was meant."""
-    yield "| You wrote | What was meant | What to do |"
+def rows() -> Iterator[str]:
+    """Slips, each with what is right."""
+    yield "| You wrote | Write | Why |"
     yield "|---|---|---|"
-    for name in NAMES:
-        for slip in hundred(name):
-            yield f"| {code(slip.text.strip())} | {cell(slip.meant)} | {cell(slip.told)} |"
+    for row in ROWS:
+        yield f"| {code(row.wrote)} | {'' if row.sure else 'if it is meant, '}{code(row.right)} | {cell(row.why)} |"
+
+
+def facts() -> Iterator[str]:
+    """Slips of which a fact is known."""
+    yield "| You wrote | What is printed |"
+    yield "|---|---|"
+    for row in FACTS:
+        found = row.look.search(row.wrote)
+        yield f"| {code(row.wrote)} | {cell((row.written(found) if found else None) or '').replace(chr(10), ' ')} |"
 
 
 PAGES: Mapping[str, Mapping[str, tuple[str, Callable[[], Iterator[str]]]]] = {
     "LANGUAGE.md": {"words": (INDEX_FROM, words), "faults": (FAULTS_FROM, faults)},
     "MIDI_FILE.md": {"faults": (FAULTS_FROM, file_faults)},
     "RECORDS.md": {"faults": (FAULTS_FROM, record_faults)},
-    "SLIPS.md": {"slips": (SLIPS_FROM, slips), "hundreds": (HUNDREDS_FROM, hundreds)},
+    "SLIPS.md": {"rows": (ROWS_FROM, rows), "facts": (ROWS_FROM, facts)},
 }
 
 #: Files that are copies of others.

@@ -5,7 +5,7 @@ from __future__ import annotations
 import re
 from typing import NamedTuple, Optional, Union
 
-from formula_score.slips.tokens import NAME, Token, kind_of, tokens
+from formula_score.language.tokens import NAME, Token, kind_of, tokens
 
 #: Of a word the kind of the name that follows it, and whether it is defined there.
 _BEFORE = {"phrase": ("phrase", True), "shape": ("shape", True), "do": ("phrase", False), "warp": ("shape", False)}

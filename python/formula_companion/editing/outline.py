@@ -5,7 +5,7 @@ from __future__ import annotations
 from dataclasses import dataclass, field
 from typing import Optional
 
-from formula_score.slips.tokens import NAME, Token, tokens
+from formula_score.language.tokens import NAME, Token, tokens
 
 
 @dataclass

@@ -4,13 +4,14 @@ from __future__ import annotations
 
 from typing import NamedTuple, Optional
 
+from formula_score.language.grammar import KEYWORDS
+from formula_score.language.index import musical
+from formula_score.language.tokens import INDEX, NAME, NUMBER, PITCH, REGISTER, Token, tokens
 from formula_score.making.midi import DRUM_CHANNEL, DYNAMICS, INSTRUMENTS
-from formula_score.making.nodes import KEYWORDS
 from formula_score.making.pitch import Pitch
 from formula_score.reading.names import CONTROLLERS
-from formula_score.slips.forms import FORMS
-from formula_score.slips.index import musical
-from formula_score.slips.tokens import INDEX, NAME, NUMBER, PITCH, REGISTER, Token, tokens
+from formula_score.repair.forms import FORMS
+from formula_score.repair.spot import Spot
 from .names import Use, definition
 
 #: How much of a definition is shown, in bytes.
@@ -82,19 +83,16 @@ def form_of(word: str) -> str:
 
 def row_at(data: bytes, byte: int) -> Optional[Row]:
     """What the word or number at a byte means; None where there is none."""
-    earlier: list[Token] = []
     for token in tokens(data.decode("latin-1")):
         if token.start > byte or not token.text:
             return None
         if byte < token.end or byte == token.end and (token.is_word or token.kind == NUMBER):
-            found = _means(data, token, earlier)
+            found = _means(data, token)
             return Row(*found, token.start, token.end) if found else None
-        earlier = [*earlier[-2:], token]
     return None
 
 
-def _means(data: bytes, token: Token, earlier: list[Token]) -> Optional[tuple[str, str]]:
-    before = earlier[-1].kind if earlier else ""
+def _means(data: bytes, token: Token) -> Optional[tuple[str, str]]:
     if token.kind in KEYWORDS:
         return form_of(token.text), SAYS[token.text]
     if token.kind == PITCH:
@@ -104,25 +102,27 @@ def _means(data: bytes, token: Token, earlier: list[Token]) -> Optional[tuple[st
     if token.kind == INDEX:
         return token.text, f"the round, from 0, of the loop {'round this' if token.text == 'n0' else 'so far outwards'}"
     if token.kind == NUMBER:
-        return _number(int(token.text[:9]), before, earlier)
-    if token.text == "division" and before == ";":
+        spot = Spot(data, token.start)
+        return _number(int(token.text[:9]), spot.word, spot.expected.get(NUMBER, ""))
+    if token.text == "division" and "division" in Spot(data, token.start).expected:
         return form_of("division"), SAYS["division"]
     if token.kind == NAME:
         return _name(data, token)
     return None
 
 
-def _number(number: int, before: str, earlier: list[Token]) -> Optional[tuple[str, str]]:
-    if before == "program" and number < 128:
+def _number(number: int, word: str, place: str) -> Optional[tuple[str, str]]:
+    """What a number means at a place of the grammar, in the statement of a word."""
+    if word == "program" and place == "amount" and number < 128:
         return f"program {number};", INSTRUMENTS[number]
-    if before == "control" and number in CONTROLLERS:
+    if place == "controller" and number in CONTROLLERS:
         return f"control {number} ..", CONTROLLERS[number]
-    if before == "channel" and number == DRUM_CHANNEL:
+    if word == "channel" and place == "setting" and number == DRUM_CHANNEL:
         return "channel 9 { .. }", "the channel of drums"
-    if before == "volume":
+    if word == "volume" and place == "setting":
         names = [name for name, velocity in DYNAMICS.items() if velocity == number]
         return (f"volume {number} {{ .. }}", names[0]) if names else None
-    if before == "by" and number:
+    if place == "stretch" and number:
         return f"by {number}", f"{120_000 / number:.2f} quarter notes a minute"
     return None
 

@@ -1,5 +1,7 @@
-"""From a MIDI file to a score: the parts of a file, their voices and bars, what comes again in them, and the text.
+"""From a MIDI file to a score. `parts` has the parts of a file, and `going` is the whole way.
 
-Each module is a step of this way, in the order `parts`, `voices`, `bars`, `repeats`, `blocks`, `layout` and
-`score`; `compare` judges what came of it. `formula_companion.verbs.importing` is the verb.
+`grid` (where onsets go, and files with the ticks of another clock), `messages` and `moved` move what the file has, `voicing`
+finds the voices of a part and `spelling` their bars. With `--exact` nothing moves, and `exact` finds the voices. The text is
+made by `branches`, `levels` (volumes and gates), `statements`, `repeats` (loops and phrases), `tempo`, `words`, `layout` and
+`text`. `judging` compares what was played with the file. `formula_companion.verbs.importing` is the verb.
 """

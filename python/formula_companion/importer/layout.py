@@ -22,7 +22,8 @@ class Plain(NamedTuple):
 
 
 class Mark(NamedTuple):
-    """Where a bar begins; no statement begins with the ones behind it, up to `last`."""
+    """Where a bar begins; no statement begins with the ones behind it, up to `last`. In a phrase or a loop bars have no
+    number, and a line ends."""
 
     number: int
     last: int
@@ -51,15 +52,17 @@ def flat(nodes: tuple[Node, ...]) -> str:
 
 
 def repeated(times: int, nodes: tuple[Node, ...]) -> Braces:
-    """A loop round the nodes; a loop round a loop alone is one."""
-    if len(nodes) == 1 and isinstance(nodes[0], Braces) and nodes[0].head.startswith("repeat "):
+    """A loop round the nodes; a loop round a loop alone is one, where that does not count its rounds."""
+    if len(nodes) == 1 and isinstance(nodes[0], Braces) and nodes[0].head.startswith("repeat ") and (
+            "n0" not in flat(nodes[0].inner)):
         return Braces(f"repeat {times * int(nodes[0].head.split()[1])}", nodes[0].inner)
     return Braces(f"repeat {times}", nodes)
 
 
-def has_mark(nodes: tuple[Node, ...]) -> bool:
-    """Whether a bar begins among the nodes."""
-    return any(isinstance(node, Mark) or isinstance(node, Braces) and has_mark(node.inner) for node in nodes)
+def _has_bar(nodes: tuple[Node, ...], is_numbered: bool = False) -> bool:
+    """Whether a bar begins among the nodes, or one with a number."""
+    return any(isinstance(node, Mark) and (node.number > 0 or not is_numbered)
+               or isinstance(node, Braces) and _has_bar(node.inner, is_numbered) for node in nodes)
 
 
 def _bars(first: int, last: int) -> str:
@@ -81,36 +84,38 @@ class Page:
         """Writes the nodes, indented so deep."""
         for at, node in enumerate(nodes):
             if isinstance(node, Mark):
-                if self.with_bars and self._open and self._begun is None:
-                    self._whole = len(self._open)
-                    self._flush(depth)
-                if not self._open:
-                    self._begun = node
-                self._whole, self._last = len(self._open), node
+                self._mark(node, depth)
             elif isinstance(node, Plain):
                 self._add(node.text, depth)
-            elif not has_mark(node.inner) and len(flat((node,))) <= _SHORT_BLOCK:
+            elif not _has_bar(node.inner) and len(flat((node,))) <= _SHORT_BLOCK:
                 self._add(flat((node,)), depth)
             else:
                 self._block(node, nodes[at + 1] if at + 1 < len(nodes) else None, depth)
 
-    def end(self, depth: int) -> None:
-        """Ends the last line."""
-        self._flush(depth)
+    def _mark(self, mark: Mark, depth: int) -> None:
+        if not mark.number:
+            self.flush(depth)
+            return
+        if self.with_bars and self._open and self._begun is None:
+            self._whole = len(self._open)
+            self.flush(depth)
+        if not self._open:
+            self._begun = mark
+        self._whole, self._last = len(self._open), mark
 
     def _block(self, block: Braces, behind: Optional[Node], depth: int) -> None:
-        self._flush(depth)
-        if not has_mark(block.inner):
-            if self.with_bars and self._begun and isinstance(behind, Mark):
+        self.flush(depth)
+        if not _has_bar(block.inner, True):
+            if self.with_bars and self._begun and isinstance(behind, Mark) and behind.number:
                 self.lines.append("  " * depth + _bars(self._begun.number, behind.number - 1))
             self._begun = None
         heads, inner = [block.head], block.inner
         while len(inner) == 1 and isinstance(inner[0], Braces) and len(flat(inner)) > _SHORT_BLOCK:
             heads.append(inner[0].head)
             inner = inner[0].inner
-        self._head(" { ".join(heads), depth)
+        self.lines += wrapped([*" { ".join(heads).split(" "), "{"], depth)
         self.write(inner, depth + 1)
-        self._flush(depth + 1)
+        self.flush(depth + 1)
         self.lines.append("  " * depth + " ".join("}" * len(heads)))
 
     def _add(self, text: str, depth: int) -> None:
@@ -118,13 +123,14 @@ class Page:
         if self._open and sum(map(len, self._open)) + len(self._open) + len(text) > room:
             behind = self._open[self._whole:] if self._whole else []
             del self._open[len(self._open) - len(behind):]
-            self._flush(depth)
+            self.flush(depth)
             self._open = behind
             if behind:
                 self._begun = self._last
         self._open.append(text)
 
-    def _flush(self, depth: int) -> None:
+    def flush(self, depth: int) -> None:
+        """Ends the open line."""
         if not self._open:
             return
         line, is_whole = "  " * depth + " ".join(self._open), self._whole == len(self._open)
@@ -136,9 +142,6 @@ class Page:
         self.lines.append(line)
         self._begun = self._last if is_whole else None
         self._open, self._whole = [], 0
-
-    def _head(self, head: str, depth: int) -> None:
-        self.lines += wrapped([*head.split(" "), "{"], depth)
 
 
 def wrapped(words: list[str], depth: int = 0) -> list[str]:

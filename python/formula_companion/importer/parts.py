@@ -2,10 +2,12 @@
 
 from __future__ import annotations
 
+from bisect import bisect_right
 from collections import Counter, defaultdict, deque
 from dataclasses import dataclass, field
 from typing import NamedTuple
 
+from formula_score.making.midi import INSTRUMENTS
 from formula_score.reading.playing import Listing
 
 _KINDS = {0xA: "key pressure", 0xD: "channel pressure"}
@@ -15,6 +17,7 @@ _METAS = {
     0x20: "channel prefix", 0x21: "port", 0x51: "tempo", 0x54: "SMPTE offset", 0x58: "time signature",
     0x59: "key signature", 0x7F: "meta event of a sequencer",
 }
+_COMPOSER = "composer:"
 
 
 class Note(NamedTuple):
@@ -52,6 +55,7 @@ class Part:
     track: int
     channel: int
     name: str
+    instrument: str = ""
     notes: list[Note] = field(default_factory=list)
     messages: list[Message] = field(default_factory=list)
 
@@ -62,29 +66,50 @@ class Piece:
 
     division: int
     end: int
-    parts: list[Part]
-    title: str
-    meters: list[Meter]
-    tempos: list[tuple[int, int]]
-    left_out: Counter[str]
     #: how many times as long as in the file each length is written
     longer: int = 1
-    #: note-offs that end no note, and those that a file lacks, as (tick, status, key)
-    idle: Counter[tuple[int, int, int]] = field(default_factory=Counter)
-    added: Counter[tuple[int, int, int]] = field(default_factory=Counter)
+    #: whether a note that never ends is ended where its key is struck again, and not with the file
+    is_cut: bool = False
+    title: str = ""
+    composer: str = ""
+    parts: list[Part] = field(default_factory=list)
+    meters: list[Meter] = field(default_factory=list)
+    tempos: list[tuple[int, int]] = field(default_factory=list)
+    #: the sharps of its key signatures; flats are below 0
+    signatures: list[int] = field(default_factory=list)
+    left_out: Counter[str] = field(default_factory=Counter)
+    #: note-offs that end no note, as (tick, status, key); and channels and keys of notes that never end
+    idle: set[tuple[int, int, bytes]] = field(default_factory=set)
+    endless: set[tuple[int, int]] = field(default_factory=set)
 
 
-def piece_of(listing: Listing, longer: int = 1) -> Piece:
+def piece_of(listing: Listing, longer: int = 1, is_cut: bool = False) -> Piece:
     """The piece of a file, with each length written so many times as long."""
     tracks = defaultdict(list)
     for event in listing.events:
-        tracks[event.track].append(event)
-    piece = Piece(listing.division, listing.end, [], "", [], [], Counter(), longer)
+        tracks[event.track].append((event.tick, event.message))
+    piece = Piece(listing.division, listing.end, longer, is_cut)
     for number in sorted(tracks):
-        _add_track(piece, number, [(event.tick, event.message) for event in tracks[number]], listing.format)
+        name = _add_track(piece, number, tracks[number])
+        if listing.format == 0 or number == 0:
+            piece.title = piece.title or name
+    _name(piece.parts)
     piece.meters.sort()
     piece.tempos.sort()
     return piece
+
+
+def _name(parts: list[Part]) -> None:
+    """Gives parts the instruments of their first programs; a name that several parts have is none."""
+    names = Counter(part.name for part in parts if part.notes)
+    programs: dict[int, int] = {}
+    for part in parts:
+        own = next((message.data[0] for message in part.messages if message.status >> 4 == 0xC), None)
+        if own is not None:
+            programs.setdefault(part.channel, own)
+        own = programs.get(part.channel) if own is None else own
+        part.instrument = "" if own is None else INSTRUMENTS[own]
+        part.name = "" if names[part.name] > 1 else part.name
 
 
 def _text(data: bytes) -> str:
@@ -96,15 +121,15 @@ def _text(data: bytes) -> str:
     return " ".join("".join(sign if " " <= sign <= "~" else " " for sign in plain).split())
 
 
-def _add_track(piece: Piece, number: int, events: list[tuple[int, bytes]], form: int) -> None:
+def _add_track(piece: Piece, number: int, events: list[tuple[int, bytes]]) -> str:
+    """Adds what a track has; gives its name."""
     parts: dict[int, Part] = {}
     open_notes: dict[tuple[int, int], deque[tuple[int, int, int]]] = defaultdict(deque)
     name, left = "", piece.left_out
     for place, (tick, data) in enumerate(events):
         kind, channel = data[0] >> 4, data[0] & 15
         if data[0] >= 0xF0:
-            if data[:2] == b"\xff\x03" and not name:
-                name = _text(data)
+            name = name or (_text(data) if data[:2] == b"\xff\x03" else "")
             _meta(piece, tick, data)
             continue
         part = parts.setdefault(channel, Part(number, channel, ""))
@@ -115,26 +140,32 @@ def _add_track(piece: Piece, number: int, events: list[tuple[int, bytes]], form:
             if waiting:
                 begin, velocity, on = waiting.popleft()
                 part.notes.append(Note(data[1], velocity, begin, tick, on, place))
-                if kind == 8 and data[2] != 64:
-                    left["release velocity other than 64"] += 1
+                left["release velocity other than 64"] += kind == 8 and data[2] != 64
             else:
                 left["note-off without a note"] += 1
-                piece.idle[tick, 0x80 | channel, data[1]] += 1
+                piece.idle.add((tick, 0x80 | channel, data[1:2]))
         elif kind in _KINDS:
             left[_KINDS[kind]] += 1
         else:
             part.messages.append(Message(tick, place, data[0], data[1:]))
     for (channel, key), waiting in open_notes.items():
-        for begin, velocity, on in waiting:
-            left["note without an end (ended with the file)"] += 1
-            piece.added[piece.end, 0x80 | channel, key] += 1
-            parts[channel].notes.append(Note(key, velocity, begin, piece.end, on, len(events)))
+        _end(piece, parts[channel], key, list(waiting), len(events))
     for part in parts.values():
         part.name = name
         part.notes.sort(key=lambda note: note.on)
     piece.parts += [part for part in parts.values() if part.notes or part.messages]
-    if form == 0 or number == 0:
-        piece.title = piece.title or name
+    return name
+
+
+def _end(piece: Piece, part: Part, key: int, waiting: list[tuple[int, int, int]], last: int) -> None:
+    """Ends the notes of a key that never end."""
+    begins = [begin for begin, _, _ in waiting]
+    for begin, velocity, on in waiting:
+        piece.left_out["note without an end"] += 1
+        piece.endless.add((part.channel, key))
+        at = bisect_right(begins, begin) if piece.is_cut else len(begins)
+        end, _, off = waiting[at] if at < len(begins) else (piece.end, 0, last)
+        part.notes.append(Note(key, velocity, begin, end, on, off))
 
 
 def _meta(piece: Piece, tick: int, data: bytes) -> None:
@@ -145,5 +176,9 @@ def _meta(piece: Piece, tick: int, data: bytes) -> None:
         piece.meters.append(Meter(tick, data[3], 2 ** data[4]))
     elif data[1] == 0x51 and len(data) == 6:
         piece.tempos.append((tick, int.from_bytes(data[3:6], "big")))
+    elif data[1] == 0x59 and len(data) == 5 and (data[3] + 7) % 256 <= 14:
+        piece.signatures.append((data[3] + 7) % 256 - 7)
+    elif data[1] == 0x01 and _text(data).lower().startswith(_COMPOSER):
+        piece.composer = _text(data)[len(_COMPOSER):].strip()
     elif data[1] not in (0x2F, 0x03) and data[:3] != b"\xff\x01\x00":
         piece.left_out[_METAS.get(data[1], "other meta event")] += 1

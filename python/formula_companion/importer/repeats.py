@@ -3,28 +3,26 @@
 from __future__ import annotations
 
 from collections import defaultdict
-from typing import Callable, Optional, Sequence
+from typing import Optional, Sequence
 
 #: How many bars may make a phrase, the longest first, and how many at most a round of a loop.
 _RUNS = (64, 48, 32, 24, 16, 12, 8, 6, 4, 3, 2, 1)
 _LONGEST_ROUND = 16
-#: About how many characters a loop costs, a call of a phrase, and its head; and how many have to be saved.
-_LOOP, _CALL, _HEAD, _WORTH = 16, 16, 30, 40
-
-Size = Callable[[int], int]
+#: About how many characters a loop costs, a call of a phrase, and its head; and how many have to be saved, since a name
+#: more is a thing more to remember.
+_LOOP, _CALL, _HEAD, _WORTH = 16, 16, 30, 100
 
 
 class Numbers:
     """Bars by their numbers, with further numbers for loops and phrases of them; none where it is flat."""
 
-    def __init__(self, sizes: Sequence[int], is_flat: bool,
-                 may_be_one: Callable[[Sequence[int]], bool] = lambda run: True):
+    def __init__(self, sizes: Sequence[int], is_flat: bool):
         self.bars = len(sizes)
         self.sizes = list(sizes)
         self.loops: dict[int, tuple[int, int]] = {}  # of each loop its rounds, and the row of its body
         self.phrases: dict[int, int] = {}            # of each phrase the row of its body
         self.rows: list[list[int]] = []
-        self._is_flat, self._may_be_one = is_flat, may_be_one
+        self._is_flat = is_flat
         self._known: dict[tuple[int, tuple[int, ...]], int] = {}
 
     def flat(self, number: int) -> list[int]:
@@ -62,7 +60,7 @@ class Numbers:
                 end = at + 2 * width
                 while end < len(bars) and bars[end] == bars[end - width]:
                     end += 1
-                times = self._most_times(body, (end - at) // width)
+                times = (end - at) // width
                 saved = (times - 1) * own - _LOOP
                 if saved > gain:
                     gain, best = saved, (width, times)
@@ -81,16 +79,6 @@ class Numbers:
             at += width * times
         return found
 
-    def _most_times(self, body: Sequence[int], times: int) -> int:
-        """How often a body may be played in one loop, of so many times; where it may, it may less often too."""
-        if self._may_be_one(times * list(body)):
-            return times
-        low, high = 1, times
-        while high - low > 1:
-            middle = (low + high) // 2
-            low, high = (middle, high) if self._may_be_one(middle * list(body)) else (low, middle)
-        return low
-
     def name_runs(self) -> None:
         """Gives numbers to runs that come again, where the text is shorter so."""
         for width in () if self._is_flat else _RUNS:
@@ -106,7 +94,7 @@ class Numbers:
         gains = []
         for run, found in places.items():
             is_whole = len(found) > 1 and not (width == 1 and run[0] in self.phrases)
-            if is_whole and self._gain(run, len(found)) > _WORTH and self._may_be_one(run):
+            if is_whole and self._gain(run, len(found)) > _WORTH:
                 gains.append((-self._gain(run, len(found)), found, run))
         gains.sort()
         used: set[tuple[int, int]] = set()
@@ -129,5 +117,7 @@ class Numbers:
             self.rows[row] = new
 
     def _gain(self, run: Sequence[int], times: int) -> int:
-        own = self._text(run)
-        return (own - _CALL) * (times - 1) - _CALL - _HEAD if times > 1 else 0
+        """How much a phrase of a run saves; one of a loop alone is none."""
+        if times < 2 or len(run) == 1 and run[0] in self.loops:
+            return 0
+        return (self._text(run) - _CALL) * (times - 1) - _CALL - _HEAD

@@ -4,7 +4,7 @@ from __future__ import annotations
 
 from typing import Any, Iterator, Optional
 
-from formula_score.slips.tokens import kind_of
+from formula_score.language.tokens import kind_of
 from ..editing.completion import completed
 from ..editing.names import definition, renamed, same_name, use_at
 from ..editing.outline import Part, outline
@@ -46,6 +46,15 @@ class Text:
             "range": _range(refusal.range), "severity": _ERROR, "code": refusal.number, "source": "formula",
             "message": f"{refusal.heading}\n{refusal.cure}".strip()}]
         return {"uri": self.uri, "version": self.version, "diagnostics": found}
+
+    def actions(self, line: int, refusal: Optional[Refusal]) -> list[Value]:
+        """The changes that the cure of a refusal names, where it is on a line."""
+        if refusal is None or not refusal.range.start.line <= line <= refusal.range.end.line:
+            return []
+        return [{"title": fix.title, "kind": "quickfix", "isPreferred": len(refusal.fixes) == 1,
+                 "diagnostics": self.diagnostics(refusal)["diagnostics"],
+                 "edit": {"changes": {self.uri: [{"range": _range(fix.range), "newText": fix.new}]}}}
+                for fix in refusal.fixes]
 
     def hover(self, position: Value) -> Optional[Value]:
         """The row of the reference for a word."""

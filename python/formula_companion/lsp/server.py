@@ -26,6 +26,7 @@ class Server:
         self.program = program
         self.texts: dict[str, Text] = {}
         self.judges: dict[str, Judge] = {}
+        self.refusals: dict[str, Optional[Refusal]] = {}    # what was published last of each text
         self.is_shut_down = False
         self.reader = JsonRpcStreamReader(incoming)
         handlers: dict[str, Callable[[Value], Any]] = {
@@ -39,7 +40,7 @@ class Server:
                 asked["position"], bool(asked.get("context", {}).get("includeDeclaration", True))),
             "textDocument/documentSymbol": lambda asked: self._text(asked).symbols(),
             "textDocument/prepareRename": lambda asked: self._text(asked).may_rename(asked["position"]),
-            "textDocument/rename": self.rename,
+            "textDocument/rename": self.rename, "textDocument/codeAction": self.actions,
         }
         self.endpoint = Endpoint(handlers, JsonRpcStreamWriter(outgoing).write)
 
@@ -57,7 +58,8 @@ class Server:
         return {"serverInfo": {"name": "formula-score", "version": __version__}, "capabilities": {
             "positionEncoding": "utf-16", "textDocumentSync": {"openClose": True, "change": _FULL},
             "hoverProvider": True, "completionProvider": {"triggerCharacters": [" "]}, "definitionProvider": True,
-            "referencesProvider": True, "documentSymbolProvider": True, "renameProvider": {"prepareProvider": True}}}
+            "referencesProvider": True, "documentSymbolProvider": True,
+            "codeActionProvider": {"codeActionKinds": ["quickfix"]}, "renameProvider": {"prepareProvider": True}}}
 
     def initialized(self, _: Value) -> None:
         """Says where there is no program."""
@@ -96,11 +98,13 @@ class Server:
 
     def _take(self, text: Text) -> None:
         self.texts[text.uri] = text
+        self.refusals.pop(text.uri, None)
         if self.program is not None:
             judge = self.judges.setdefault(text.uri, Judge(self.program))
             judge.judge(text.data, lambda refusal: self._publish(text, refusal))
 
     def _publish(self, text: Text, refusal: Optional[Refusal]) -> None:
+        self.refusals[text.uri] = refusal
         self.endpoint.notify("textDocument/publishDiagnostics", text.diagnostics(refusal))
 
     def _text(self, asked: Value) -> Text:
@@ -108,6 +112,11 @@ class Server:
         if text is None:
             raise JsonRpcInvalidParams(message="this document is not open")
         return text
+
+    def actions(self, asked: Value) -> list[Value]:
+        """The changes that mend what is refused at a place."""
+        text = self._text(asked)
+        return text.actions(asked["range"]["start"]["line"], self.refusals.get(text.uri))
 
     def rename(self, asked: Value) -> Value:
         """The changes for a new name, or why it may not be one."""

@@ -3,91 +3,167 @@
 from __future__ import annotations
 
 import argparse
+import contextlib
 import os
+import re
+import sys
 import tempfile
+import threading
+from typing import Callable, Iterator
 
+from ..importer.going import Imported, imported
+from ..importer.moved import Choices
 from formula_score.reading.midi_file import save
-from formula_score.reading.playing import Listing, counted, listing_of_file, must_differ, needs, run as play
-from ..importer.compare import compared
-from ..importer.parts import Piece, piece_of
-from ..importer.scaling import scaled
-from ..importer.score import fitting_text
+from formula_score.reading.playing import Failed, Listing, counted, listing_of_file, must_differ, needs, run as play
 
-MOST_BYTES = 1_048_576
+#: A file with more bytes or events makes no score, which has at most a mebibyte.
+_MOST_BYTES, _MOST_EVENTS = 8_000_000, 500_000
 _TOO_DEEP = "fault 12"
+#: After so many seconds a terminal is told what is done.
+_PATIENCE = 1.0
 
 
 def arguments(parser: argparse.ArgumentParser) -> None:
     """What the verb takes."""
     parser.add_argument("file", metavar="FILE.mid", help="the MIDI file that is read")
     parser.add_argument("score", metavar="SCORE", help="the score that is written; an older one is replaced")
-    several = parser.add_mutually_exclusive_group()
-    several.add_argument("--scale", action="store_true", help="for a file with more than 960 ticks a quarter note, "
-                         "whose ticks have no common divisor that would do: the nearest ticks of 960")
-    several.add_argument("--exact", action="store_true", help="for such a file: no tick moves, and each length is "
-                         "written twice as long, or longer")
+    parser.add_argument("--exact", action="store_true", help="no event moves: each note, control change, program change "
+                        "and bend is played at its tick")
+    parser.add_argument("--grid", type=_grid, metavar="1/16,1/24", help="all onsets go to these parts of a whole note; "
+                        "else those that lie near a grid, part by part")
+    parser.add_argument("--velocities", type=_upto(127), default=4, metavar="N", help="by how much a velocity may change, "
+                        "for few different ones: 4 where nothing is said, 0 keeps all, 127 takes the nearest of ppp to fff")
+    parser.add_argument("--ends", type=_upto(10), default=1, metavar="N", help="by how many percents of its length the end "
+                        "of a note may move: 1 where nothing is said")
+    parser.add_argument("--without", type=_controllers, default=frozenset(), metavar="N,..", help="leaves out these "
+                        "controllers")
+    parser.add_argument("--no-tempo", action="store_true", help="no `warp` with the tempo of the file")
+    parser.add_argument("--no-phrases", action="store_true", help="no phrases and no loops of bars")
+    parser.add_argument("--all-messages", action="store_true", help="keeps messages that change nothing")
+    parser.add_argument("--keep-clock", action="store_true", help="keeps the quarter notes of the file, though nothing lies "
+                        "on them")
     parser.description = f"""{parser.description}
 
-Each track and channel is a branch, or some where notes begin together and end apart. What comes again is a phrase
-or a loop, and lists say velocities and articulations where that is shorter. The score is then played by the program,
-and each note, control change, program change and bend compared with the file's: status 1 where one differs.
+The score is one to go on with: notes that lie near a grid go to it, ends go to the length that one would write, bars
+that are equal are a phrase or a loop, and the tempo of the file is a `warp` round the piece. The program then plays the
+score. A table says what moved and by how much; each event lies within the bounds of the page on MIDI files, each note
+has its program and is held as long as in the file, or the status is 1 and the first that is not so is told.
 
-What a score has no word for is left out or changed, told and counted: tempo, texts, pressure, system exclusive
-messages. A note-off is sent with velocity 64; one that ends no note is left out; a note that never ends is ended with
-the file. Notes of length 0 stay. A score plays 120 quarter notes a minute; its first lines tell how to have the tempo
-of the file."""
+A part whose notes lie on no grid stays as it is, and the grid that would move it least is told. With --exact nothing
+moves at all; the tempo is then a shape that is not used.
+
+What a score has no word for is left out, told and counted: texts, pressure, system exclusive messages. A note-off is
+sent with velocity 64; one that ends no note is left out; a note that never ends is ended with the file, or where its key
+is struck again."""
 
 
 def run(options: argparse.Namespace) -> int:
-    """Writes the score, and tells how it compares."""
+    """Writes the score, and tells what moved and how it compares."""
     must_differ(options.file, options.score)
-    listing = listing_of_file(options.file, refused=1)
-    fit = scaled(listing, options.scale, options.exact)
-    for line in fit.lines:
+    choices = Choices(options.exact, options.grid, options.velocities, options.ends, not options.no_tempo, not options.no_phrases,
+                      options.all_messages, not options.keep_clock, options.without)
+    with _progress(options.file) as tell:
+        tell("reading it")
+        listing = _listing(options.file)
+        found = _imported(listing, os.path.basename(options.file), choices, tell)
+    save(options.score, found.text.encode())
+    _tell(options.file, listing)
+    for line in found.lines:
         print(line)
-    if fit.listing is None:
-        return 1
-    piece = piece_of(fit.listing, fit.longer)
-    _tell(options.file, listing, piece)
-    text, voices, played = _written(piece, os.path.basename(options.file))
-    save(options.score, text.encode())
-    answer = compared(fit.listing, piece, played)
-    per_event = len(text) / max(1, answer.events)
-    phrases = sum(line.startswith("phrase ") for line in text.splitlines())
-    print(f"{options.score}: {counted(voices, 'branch')}, {counted(phrases, 'phrase')}, {len(text):,} bytes, {per_event:.1f} an "
-          "event")
-    if answer.differing:
-        print(f"played and compared: {answer.differing:,} of {answer.events:,} events differ; first {answer.first}")
-        return 1
-    print(f"played and compared: all {answer.events:,} events are at their ticks")
-    if answer.early:
-        print(f"{counted(answer.early, 'note-off')} on another side of a message of the same tick than in the file")
-    if answer.reordered:
-        print(f"{counted(answer.reordered, 'other event')} in another order at one tick and channel than in the file")
-    return 0
+    phrases = sum(line.startswith("phrase ") for line in found.text.splitlines())
+    print(f"{options.score}: {counted(found.branches, 'branch')}, {counted(phrases, 'phrase')}, {len(found.text):,} bytes")
+    return 0 if found.is_good else 1
 
 
-def _written(piece: Piece, name: str) -> tuple[str, int, Listing]:
-    """A text that the program accepts, how many branches it has, and the listing of what it plays."""
+def _imported(listing: Listing, source: str, choices: Choices, tell: Callable[[str], None]) -> Imported:
+    try:
+        return imported(listing, source, choices, _played, tell)
+    except Failed as failed:
+        if not failed.said.endswith(_TOO_DEEP):
+            raise
+        return imported(listing, source, choices._replace(with_phrases=False), _played, tell)
+
+
+def _listing(path: str) -> Listing:
+    """What is in a file, where it is not too long for a score."""
+    try:
+        size = os.path.getsize(path)
+    except OSError as error:
+        raise Failed(2, f"{path!r} cannot be read: {error.strerror}") from error
+    if size > _MOST_BYTES:
+        raise Failed(1, f"{path!r} has {size:,} bytes, and a file of more than {_MOST_BYTES:,} makes no score")
+    listing = listing_of_file(path, refused=1)
+    if listing.division == 0:
+        raise Failed(1, f"{path!r} has 0 ticks a quarter note: it has no time")
+    if len(listing.events) > _MOST_EVENTS:
+        raise Failed(1, f"{path!r} has {len(listing.events):,} events, and one of more than {_MOST_EVENTS:,} makes no score")
+    return listing
+
+
+def _played(text: str) -> Listing:
     with tempfile.TemporaryDirectory() as folder:
         source, target = os.path.join(folder, "in.score"), os.path.join(folder, "out.mid")
-        for is_flat in (False, True):
-            text, voices = fitting_text(piece, name, MOST_BYTES, is_flat)
-            save(source, text.encode())
-            run = play(source, target, "--workers", "0")
-            if run.status != 3 or not run.said.endswith(_TOO_DEEP):
-                break
-        needs(run, refused=1)
-        return text, voices, listing_of_file(target)
+        save(source, text.encode())
+        needs(play(source, target, "--workers", "0"), refused=1)
+        return listing_of_file(target)
 
 
-def _tell(path: str, listing: Listing, piece: Piece) -> None:
-    notes = sum(len(part.notes) for part in piece.parts)
-    messages = sum(len(part.messages) for part in piece.parts)
+def _tell(path: str, listing: Listing) -> None:
+    notes = sum(event.message[0] >> 4 == 9 and event.message[2] > 0 for event in listing.events)
+    messages = sum(event.message[0] >> 4 in (0xB, 0xC, 0xE) for event in listing.events)
     print(f"{path}: format {listing.format}, {counted(listing.tracks, 'track')}, {listing.division} ticks a quarter note; "
           f"{counted(notes, 'note')}, {messages:,} control changes, programs and bends")
-    left = [f"{count:,} {what}" for what, count in sorted(piece.left_out.items()) if count]
-    if piece.tempos:
-        left.append(f"{len(piece.tempos):,} tempo, as a shape that is not used")
-    if left:
-        print(f"left out or changed: {'; '.join(left)}")
+
+
+@contextlib.contextmanager
+def _progress(path: str) -> Iterator[Callable[[str], None]]:
+    """Shows on a terminal what is done, where that takes long; gives what is to be told of it."""
+    now, is_shown = "", threading.Event()
+
+    def show() -> None:
+        is_shown.set()
+        print(f"\r\033[K{path}: {now} ..", end="", file=sys.stderr, flush=True)
+
+    def tell(what: str) -> None:
+        nonlocal now
+        now = what
+        if is_shown.is_set():
+            show()
+
+    timer = threading.Timer(_PATIENCE, show)
+    if sys.stderr.isatty():
+        timer.start()
+    try:
+        yield tell
+    finally:
+        timer.cancel()
+        if timer.is_alive():
+            timer.join()
+        if is_shown.is_set():
+            print("\r\033[K", end="", file=sys.stderr, flush=True)
+
+
+def _grid(words: str) -> tuple[int, ...]:
+    """The parts of a grid."""
+    parts = [re.fullmatch(r"1/([1-9][0-9]{0,2})", word.strip()) for word in words.split(",")]
+    found = tuple(int(part[1]) for part in parts if part)
+    if len(found) != len(parts) or any(1920 % part for part in found):
+        raise argparse.ArgumentTypeError(f"{words!r} is no grid: write parts of a whole note that divide 1,920 ticks, as "
+                                         "1/16 or 1/16,1/24")
+    return found
+
+
+def _controllers(words: str) -> frozenset[int]:
+    """Numbers of controllers."""
+    return frozenset(map(_upto(127), words.split(",")))
+
+
+def _upto(most: int) -> Callable[[str], int]:
+    """Reads a number that is at most so great."""
+
+    def number(word: str) -> int:
+        if not re.fullmatch(r"[0-9]{1,4}", word.strip()) or int(word) > most:
+            raise argparse.ArgumentTypeError(f"{word!r} is no number from 0 to {most}")
+        return int(word)
+
+    return number

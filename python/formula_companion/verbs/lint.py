@@ -15,7 +15,7 @@ def arguments(parser: argparse.ArgumentParser) -> None:
     parser.description = f"""{parser.description}
 
 It says nothing and ends with 0 where it finds nothing, else with 1. It looks for
-- branches of one `par` that play notes on the same channel
+- branches of one `par` that strike a key of a channel while it sounds in another of them
 - a `loud` list that has more or fewer entries than its passage notes, and is no whole number of rounds of them; and one
   that rises or falls all along, and starts again
 - a shape that ends before its block, at another stretch than 1000; where the block is at least twice as long as the

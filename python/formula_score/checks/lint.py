@@ -3,7 +3,7 @@
 from __future__ import annotations
 
 import re
-from typing import Iterator, Optional
+from typing import Iterator, Optional, Sequence
 
 from ..making.expected import MOST_WAITING, outside
 from ..reading.marks import Finding
@@ -52,14 +52,18 @@ def _stretches(reading: Reading) -> Iterator[Finding]:
 
 # ---- what shows as it is played
 
+#: Of each channel and key where its notes begin and end.
+Struck = dict[tuple[int, int], list[tuple[int, int]]]
+
+
 class Looks(Walk):
     """Keeps what is looked for while the score is played, each finding once for its place."""
 
     def __init__(self, reading: Reading):
         super().__init__(reading)
         self.found: dict[tuple[int, int, str], Finding] = {}
-        self.channels: dict[int, tuple[Place, set[int]]] = {}  # of each branch that is played, by its place
-        self.branches: list[set[int]] = []                     # of those that were played, up to their `par`
+        self.struck: dict[int, tuple[Place, Struck]] = {}      # of each branch that is played, by its place
+        self.branches: list[Struck] = []                       # of those that were played, up to their `par`
         self.waiting: list[tuple[int, Happening]] = []         # of each pitch its note-off, the oldest first
 
     def findings(self) -> list[Finding]:
@@ -79,24 +83,26 @@ class Looks(Walk):
 
     def closed(self, place: Place, end: int) -> None:
         if place.kind == "branch":
-            self.branches.append(self.channels.pop(id(place), (place, set()))[1])
+            self.branches.append(self.struck.pop(id(place), (place, {}))[1])
         elif isinstance(place.node, Statement) and place.node.word == "warp":
             self.level_ends(place.node)
 
-    # ---- channels
+    # ---- keys that two branches share
 
     def voices(self, par: Statement) -> None:
         played = self.branches[-len(par.blocks):]
         del self.branches[-len(par.blocks):]
-        for at, channels in enumerate(played):
-            for before in range(at):
-                shared = sorted(channels & played[before])
-                if shared:
-                    lines = " and ".join(str(par.blocks[branch].head.line) for branch in (before, at))
-                    self.find("channel", par, f"branches {before + 1} and {at + 1} (lines {lines}) both play on "
-                              f"channel {shared[0]}: where notes of one key overlap there, many players end both at "
-                              "the first note-off")
-                    return
+        notes: dict[tuple[int, int], list[tuple[int, int, int]]] = {}  # with the branch of each
+        for at, struck in enumerate(played):
+            for place, spans in struck.items():
+                notes.setdefault(place, []).extend((begin, at, end) for begin, end in spans)
+        for (channel, key), several in sorted(notes.items()):
+            twice = _struck_while_it_sounds(sorted(several))
+            if twice:
+                lines = " and ".join(str(par.blocks[branch].head.line) for branch in twice)
+                self.find("channel", par, f"branches {twice[0] + 1} and {twice[1] + 1} (lines {lines}) strike key {key} of "
+                          f"channel {channel}, one while the other sounds it: many players end both at the first note-off")
+                return
 
     # ---- lists and levels
 
@@ -128,12 +134,8 @@ class Looks(Walk):
     # ---- notes that are cut
 
     def sounds(self, note: Happening) -> None:
-        place: Optional[Place] = note.place
-        while place:
-            if place.kind == "branch":
-                self.channels.setdefault(id(place), (place, set()))[1].add(note.channel)
-            place = place.outer
-        if note.percent <= 100 and not self.waiting:
+        branches = list(_branches(note.place))
+        if note.percent <= 100 and not self.waiting and not branches:
             return
         begin = tick_of(note.levels, note.position)
         self.waiting = [waiting for waiting in self.waiting if waiting[0] > begin]
@@ -142,6 +144,10 @@ class Looks(Walk):
             self.cut(cut, end - begin, f"by the note at line {note.statement.line}, since 16 pitches sound at most")
         sounds = (note.end - note.begin) * note.percent // 100
         end = outside(parts_of(note.levels), note.position + sounds, False)
+        for place in branches:
+            struck = self.struck.setdefault(id(place), (place, {}))[1]
+            for key in note.values:
+                struck.setdefault((note.channel, key), []).append((begin, end))
         self.waiting += [(end, note) for _ in note.values]
 
     def process_ended(self, number: int) -> None:
@@ -155,6 +161,26 @@ class Looks(Walk):
     def cut(self, note: Happening, ticks: int, how: str) -> None:
         self.find("cut", note.statement, f"this note sounds for {note.percent} percent of its length, and is cut "
                   f"{ticks} ticks too early {how}")
+
+
+def _branches(place: Optional[Place]) -> Iterator[Place]:
+    """The branches round a place."""
+    while place:
+        if place.kind == "branch":
+            yield place
+        place = place.outer
+
+
+def _struck_while_it_sounds(notes: Sequence[tuple[int, int, int]]) -> tuple[int, ...]:
+    """The two branches of which one strikes a key that sounds in the other, or ends it behind the new note-on of its tick;
+    none where there are none. `notes` have their begin, branch and end, and are in order."""
+    last_end, last = -1, -1
+    for begin, branch, end in notes:
+        if branch != last and (begin < last_end or begin == last_end and branch < last):
+            return tuple(sorted((last, branch)))
+        if end > last_end:
+            last_end, last = end, branch
+    return ()
 
 
 def _goes_one_way(entries: tuple[int, ...]) -> bool:

@@ -15,8 +15,8 @@ import sys
 import unicodedata
 from typing import NamedTuple, Optional, Sequence
 
-from ..slips import told
-from ..slips.kinds import MIDI, RECORD, SCORE, not_a
+from ..repair import told
+from .kinds import MIDI, RECORD, SCORE, not_a
 from . import records
 from .faults import FAULTS, FILE_FAULTS, RECORD_FAULTS
 from .words import USAGE, read
@@ -155,7 +155,7 @@ def refusal(name: str, text: Optional[bytes], place: Place) -> str:
     elif text is not None and fault.number != 18:
         found = told(text, *place)
         if found:
-            heading, cure = found.heading, found.cure or cure
+            heading, cure = found.heading or heading, found.cure or cure
             place = Place(*position(text, found.place), place.number)
     parts = [f"{name}:{place.line}:{place.column}: {heading} (fault {fault.number})"]
     if text is not None and fault.number != 18:

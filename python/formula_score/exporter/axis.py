@@ -172,3 +172,16 @@ class Axis:
                         found.append((at, end, part))
                     at += part.ticks
         return found
+
+    def edges(self) -> list[tuple[int, Spot, int]]:
+        """Where a part of the tempo ends and another begins: where that lies on the grid, its place, and its tick."""
+        found = []
+        for section in self.sections.values():
+            at = 0
+            for part in section.level.shape.parts:
+                if part.kind in ("flat", "slope"):
+                    at += part.ticks
+                    if at < section.length:
+                        tick = section.tick + section.level.shape.curve.outside(at, True)
+                        found.append((section.begin + at, Spot(section.level, at), tick))
+        return found

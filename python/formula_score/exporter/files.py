@@ -2,8 +2,9 @@
 
 from __future__ import annotations
 
+import pathlib
 from fractions import Fraction
-from typing import Iterator
+from typing import Iterator, NamedTuple
 
 from ..reading.meter import Meter
 from ..reading.midi_file import Timed, file_of, text
@@ -14,11 +15,30 @@ from .grid import Grid
 from .tracks import Staff
 
 
-def made(grid: Grid, tracks: list[Staff], meter: Meter) -> bytes:
+#: The suffixes of files that are written.
+SUFFIXES = ".mid", ".midi"
+
+
+class Titles(NamedTuple):
+    """What a file says of the whole: its title and its composer, each empty where nothing is known."""
+
+    title: str = ""
+    composer: str = ""
+
+
+def must_be_written(path: str) -> None:
+    """Refuses a name whose suffix promises another kind of file."""
+    suffix = pathlib.PurePath(path).suffix.lower()
+    if suffix not in SUFFIXES:
+        raise Failed(2, f"{path!r} ends in {suffix!r}: " * bool(suffix) + f"{path!r} has no suffix: " * (not suffix)
+                     + f"what is written is a MIDI file, {' or '.join(SUFFIXES)}")
+
+
+def made(grid: Grid, tracks: list[Staff], meter: Meter, titles: Titles = Titles()) -> bytes:
     """The file of staves on a grid."""
     tick_of = {id(event): tick for tick, event in grid.events}
-    first = [*_signatures(grid, meter), *((tick, b"\xff\x51\x03" + tempo.to_bytes(3, "big"))
-                                          for tick, tempo in grid.tempos)]
+    first = [*_said(titles), *_signatures(grid, meter), *((tick, b"\xff\x51\x03" + tempo.to_bytes(3, "big"))
+                                                         for tick, tempo in grid.tempos)]
     found: list[list[Timed]] = [sorted(first, key=lambda event: event[0])]
     for staff in tracks:
         events: list[Timed] = [(0, text(3, staff.name.encode("utf-8")))]
@@ -27,6 +47,14 @@ def made(grid: Grid, tracks: list[Staff], meter: Meter) -> bytes:
         timed = sorted(((tick_of[id(event)], event) for event in staff.events), key=lambda pair: (pair[0], pair[1][:3]))
         found.append([*events, *((tick, event.message) for tick, event in timed)])
     return file_of(grid.division, found, grid.end)
+
+
+def _said(titles: Titles) -> Iterator[Timed]:
+    """What is said of the whole: the name of the first track is that of the piece."""
+    if titles.title:
+        yield 0, text(3, titles.title.encode("utf-8"))
+    if titles.composer:
+        yield 0, text(1, f"composer: {titles.composer}".encode("utf-8"))
 
 
 def _signatures(grid: Grid, meter: Meter) -> Iterator[Timed]:

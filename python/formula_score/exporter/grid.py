@@ -54,15 +54,19 @@ class _Making:
                    for begin, end, part in axis.stretches()]
         self.tempos = tempos(self.points(), _filled(regions), self.division)
 
+    def behind(self, spot: Spot) -> int:
+        """How far the best time of a place in a warp lies behind its tick: half a tick before where it is unrounded."""
+        return int(self.axis.exactly(spot) * PLAIN) - PLAIN // 2
+
     def points(self) -> list[Point]:
         """The places of the grid with their times; of a place that has two, the earlier one comes shortly before."""
         at: dict[int, dict[int, Point]] = {0: {0: Point(0, 0, 0)}}
         for event, place in zip(self.events, self.direct):
             if place is not None and place not in at or place is not None and event.tick not in at[place]:
-                aim = event.tick * PLAIN
-                if event.spot.level is not None:
-                    aim += int(self.axis.exactly(event.spot) * PLAIN) - PLAIN // 2
+                aim = event.tick * PLAIN + (self.behind(event.spot) if event.spot.level is not None else 0)
                 at.setdefault(place, {})[event.tick] = Point(place, event.tick * PLAIN, aim)
+        for place, spot, tick in self.axis.edges():
+            at.setdefault(place, {tick: Point(place, tick * PLAIN, tick * PLAIN + self.behind(spot))})
         found: list[Point] = []
         for place in sorted(at):
             *earlier, latest = [at[place][tick] for tick in sorted(at[place])]

@@ -1,7 +1,8 @@
 """Tempos that play a grid in time: as few as keep each point of it near its real time.
 
 Times are microseconds times the ticks of a quarter note, so that all numbers are whole: a tick takes as many of them
-as a quarter note takes microseconds.
+as a quarter note takes microseconds. A tempo that a shape holds is one mark: it plays each point within a tick, since the
+program rounds down to ticks what a tempo map does not round. Where tempos change, points are nearer.
 """
 
 from __future__ import annotations
@@ -70,31 +71,54 @@ def tempos(points: Sequence[Point], regions: Sequence[Region], division: int) ->
         place = points[at].place
         number = bisect_right(begins, place) - 1
         region = regions[number] if number >= 0 and place < regions[number].end else None
-        low, high, upto = 1, SLOWEST, at
-        is_whole = False
-        while upto + 1 < len(points):
-            point = points[upto + 1]
-            if region and point.place > region.end and upto > at:
-                is_whole = True
-                break
-            length = point.place - place
-            least, most = -((time + near - point.time) // length), (point.time + near - time) // length
-            if max(low, least) > min(high, most):
-                break
-            low, high, upto = max(low, least), min(high, most), upto + 1
+        found = _reached(points, at, time, region, near)
+        steady = _steady(points, at, time, region)
+        if region and region.tempo and steady >= max(found.upto, at + 1):
+            tempo, upto = region.tempo, steady
+        elif found.upto == at:
+            tempo = max(1, min(SLOWEST, (points[at + 1].aim - time) // (points[at + 1].place - place)))
+            upto, missed = at + 1, points[at + 1].place if missed is None else missed
         else:
-            is_whole = True
-        if upto == at:
-            point = points[at + 1]
-            tempo = max(1, min(SLOWEST, (point.aim - time) // (point.place - place)))
-            upto, missed = at + 1, point.place if missed is None else missed
-        elif region and region.tempo and low <= region.tempo <= high and is_whole:
-            tempo = region.tempo
-        else:
-            aimed = (points[upto].aim - time) // (points[upto].place - place)
-            tempo = max(low, min(high, aimed))
+            upto = found.upto
+            tempo = max(found.low, min(found.high, (points[upto].aim - time) // (points[upto].place - place)))
         if not changes or changes[-1][1] != tempo:
             changes.append((place, tempo))
         time += (points[upto].place - place) * tempo
         at = upto
     return Tempos(changes or [(0, PLAIN)], missed)
+
+
+class _Reach(NamedTuple):
+    """To which of the points a tempo goes, and the least and the greatest one that does."""
+
+    upto: int
+    low: int
+    high: int
+
+
+def _reached(points: Sequence[Point], at: int, time: int, region: Optional[Region], near: int) -> _Reach:
+    """How far one tempo goes that plays each point near its time."""
+    place = points[at].place
+    found = _Reach(at, 1, SLOWEST)
+    for upto in range(at + 1, len(points)):
+        point = points[upto]
+        if region and point.place > region.end and found.upto > at:
+            break
+        length = point.place - place
+        low = max(found.low, -((time + near - point.time) // length))
+        high = min(found.high, (point.time + near - time) // length)
+        if low > high:
+            break
+        found = _Reach(upto, low, high)
+    return found
+
+
+def _steady(points: Sequence[Point], at: int, time: int, region: Optional[Region]) -> int:
+    """To which of the points of a region its own tempo goes, where it plays each within a tick."""
+    if region is None or region.tempo is None or not 0 < region.tempo <= SLOWEST:
+        return at
+    upto = at
+    while upto + 1 < len(points) and points[upto + 1].place <= region.end and abs(
+            time + (points[upto + 1].place - points[at].place) * region.tempo - points[upto + 1].time) <= PLAIN:
+        upto += 1
+    return upto

@@ -2,6 +2,7 @@
 
 from __future__ import annotations
 
+import re
 from typing import Iterator, NamedTuple, Optional
 
 from ..making.midi import INSTRUMENTS
@@ -9,6 +10,10 @@ from ..reading.marks import bars_of
 from ..reading.tree import Block, Reading, Statement
 from ..reading.walk import Place, Played
 from .axis import Heard
+
+
+#: A comment that speaks of the whole piece names no branch.
+_OF_WHOLE = re.compile(r"(title|composer)\s*:", re.IGNORECASE)
 
 
 class Staff(NamedTuple):
@@ -29,7 +34,7 @@ def _branches(place: Optional[Place]) -> Iterator[Place]:
 def _said(reading: Reading, block: Block) -> str:
     """A comment above a branch, or behind its head."""
     for comment in reading.comments_above().get(block.head.start, ()):
-        if bars_of(comment) is None and comment.text:
+        if bars_of(comment) is None and comment.text and not _OF_WHOLE.match(comment.text):
             return comment.text
     for comment in reading.comments:
         if not comment.alone and comment.line == block.head.line and bars_of(comment) is None:
@@ -37,11 +42,20 @@ def _said(reading: Reading, block: Block) -> str:
     return ""
 
 
+def said_of_whole(reading: Reading, what: str) -> str:
+    """What a comment `# title: ..` or `# composer: ..` says; nothing where there is none."""
+    for comment in reading.comments:
+        word, colon, text = comment.text.partition(":")
+        if colon and word.strip().lower() == what and text.strip():
+            return text.strip()
+    return ""
+
+
 def _phrase(statements: tuple[Statement, ...]) -> str:
-    """The first phrase that is played."""
+    """The first phrase that is played, without its number: `soprano` of `soprano_1`."""
     for statement in statements:
         if statement.word == "do":
-            return statement.name
+            return re.sub(r"_[0-9]+$", "", statement.name)
         for block in statement.blocks:
             if name := _phrase(block.statements):
                 return name

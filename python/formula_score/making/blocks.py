@@ -7,10 +7,11 @@ from dataclasses import dataclass, replace
 from fractions import Fraction
 from typing import SupportsIndex
 
+from ..language.grammar import KEYWORDS
 from .errors import ScoreError
 from .midi import DRUM_CHANNEL
 from .nesting import Nesting
-from .nodes import KEYWORDS, MAX_ENTRIES, Held, Music, first_of_all, index_of, several
+from .nodes import MAX_ENTRIES, Held, Music, first_of_all, index_of, several
 from .shapes import Curve, Part, Shape
 from .values import known, listed, shown, text, whole
 

@@ -5,12 +5,13 @@ from __future__ import annotations
 from fractions import Fraction
 from typing import Iterable, Optional, SupportsIndex, Union
 
+from ..language.grammar import KEYWORDS
 from .blocks import Block, Phrase, Warp
 from .errors import BarError, ScoreError
 from .lengths import WHOLE_NOTE, Exact, LengthLike, exact_ticks, written
 from .midi import DRUM_CHANNEL, instrument_number, velocity
 from .nodes import (
-    KEYWORDS, MAX_COUNT, MAX_ENTRIES, MAX_PITCHES, Held, Message, Music, Note, Par, Repeat, Rest, Seq, as_int, body_of,
+    MAX_COUNT, MAX_ENTRIES, MAX_PITCHES, Held, Message, Music, Note, Par, Repeat, Rest, Seq, as_int, body_of,
     first_of_all, music,
 )
 from .pitch import Pitch, PitchLike

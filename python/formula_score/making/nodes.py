@@ -18,10 +18,6 @@ from .pitch import Pitch
 from .shapes import Part
 from .values import index, known, listed, shown, truth, whole
 
-KEYWORDS = frozenset(
-    "formula seed shape flat by slope to pause breath ticks phrase note play rest skip control program bend set if "
-    "else repeat max do par branch warp channel volume gate rhythm artic loud key pick min less same".split())
-
 MAX_PITCHES, MAX_COUNT, MAX_ENTRIES = 16, 1_000_000, 256
 
 

@@ -12,7 +12,7 @@ from ..explaining.explain import explanation
 from ..making.errors import CommandError
 from ..running import command
 from ..running.command import FileEvent as Event
-from ..slips.kinds import BY_VERBS
+from ..explaining.kinds import BY_VERBS
 
 __all__ = ["Event", "Failed", "Listing", "Run", "judge", "listed", "listing_of", "listing_of_file", "located",
            "counted", "must_differ", "needs", "program", "run", "text_of"]

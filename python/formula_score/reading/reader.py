@@ -1,4 +1,4 @@
-"""Reads a score's text as a tree (`tree`).
+"""Reads a score's text as a tree (`tree`), by the grammar of the language.
 
 The text has to be one that the program accepts: nothing is judged here.
 """
@@ -6,17 +6,17 @@ The text has to be one that the program accepts: nothing is judged here.
 from __future__ import annotations
 
 import re
-from typing import Callable, Optional, TypeVar
+from functools import lru_cache
+from typing import Any, Callable, Sequence
 
+from ..language.grammar import RULES, TOKENS, firsts
+from ..language.tokens import NUMBER, kind_of
 from ..making.pitch import Pitch
 from ..making.shapes import Part
 from .tree import Amount, Block, Comment, Computed, Expression, Length, Phrase, Reading, Shape, Statement, Token
 
-_Item = TypeVar("_Item")
-
-_PIECES = re.compile(rb"(?P<blank>[ \t\r\n]+)|(?P<comment>#[^\n]*)|(?P<word>[a-z][a-z0-9_]*)|(?P<number>[0-9]+)"
-                     rb"|(?P<symbol>[][;{}(),=/+*%-])")
-_PITCH = re.compile(r"[a-g][sb]?[0-9]")
+#: What is between tokens, and a token, a comment, or a byte that begins none.
+_PIECES = re.compile(r"([ \t\r\n]*)(?:([a-z][a-z0-9_]*|[0-9]+|[][;{}(),=/+*%-])|(#[^\n]*)|\Z|(.))", re.S)
 _TIGHTER = {"+": 1, "-": 1, "*": 2, "/": 2, "%": 2}
 
 
@@ -28,262 +28,229 @@ def _split(text: bytes) -> tuple[list[Token], list[Comment]]:
     """The tokens of a text, with an empty one at its end, and its comments."""
     tokens: list[Token] = []
     comments: list[Comment] = []
-    at, line, line_start = 0, 1, 0
-    while at < len(text):
-        found = _PIECES.match(text, at)
-        if found is None:
-            raise Unread(f"no token begins at {line}:{at - line_start + 1}")
-        column = at - line_start + 1
-        piece = found.group()
-        if found.lastgroup == "comment":
+    line, line_start = 1, -1  # the line, and the byte before it
+    source = text.decode("latin-1")  # a character a byte
+    for found in _PIECES.finditer(source):
+        blank, piece, comment, other = found.groups()
+        at = found.start() + len(blank)
+        if "\n" in blank:
+            line += blank.count("\n")
+            line_start = source.rindex("\n", 0, at)
+        if piece:
+            tokens.append(Token(piece, line, at - line_start, at))
+        elif comment:
             is_alone = not tokens or tokens[-1].line != line
-            comments.append(Comment(piece[1:].decode("utf-8", "replace").strip(), line, column, is_alone))
-        elif found.lastgroup != "blank":
-            tokens.append(Token(piece.decode("ascii"), line, column, at))
-        at = found.end()
-        if b"\n" in piece:
-            line += piece.count(b"\n")
-            line_start = at - len(piece) + piece.rindex(b"\n") + 1
-    tokens.append(Token("", line, at - line_start + 1, at))
+            said = comment[1:].encode("latin-1").decode("utf-8", "replace")
+            comments.append(Comment(said.strip(), line, at - line_start, is_alone))
+        elif other:
+            raise Unread(f"no token begins at {line}:{at - line_start}")
+        else:
+            tokens.append(Token("", line, at - line_start, at))
+            break
     return tokens, comments
 
 
+def _kinds(tokens: Sequence[Token]) -> list[str]:
+    """The kinds of tokens; `division` is a word behind `formula 2;`."""
+    known: dict[str, str] = {"": "END"}
+    for text in {token.text for token in tokens} - {""}:
+        known[text] = NUMBER if text.isdigit() else kind_of(text) if text[0].isalpha() else text
+    found = [known[token.text] for token in tokens]
+    if [token.text for token in tokens[2:4]] == [";", "division"] and int(tokens[1].text) == 2:
+        found[3] = "division"
+    return found
+
+
+#: By each rule and the kind of the next token the symbols that follow, each with its kind where it is a token.
+_WAYS = {rule: {kind: tuple((symbol, TOKENS[symbol][0] if symbol in TOKENS else "") for symbol in way)
+                for kind, way in firsts(rule).items()} for rule in RULES}
+
+
 class _Reader:
-    """Reads the tokens from left to right."""
+    """Reads the tokens from left to right, rule by rule. A method `of_RULE` makes a value of what its rule has read."""
 
     def __init__(self, tokens: list[Token]):
         self.tokens, self.at = tokens, 0
-        self.division = 480
+        self.kinds = _kinds(tokens)
+        self.version, self.division, self.seed = 1, 480, 0
         self.shapes: dict[str, Shape] = {}
         self.phrases: dict[str, Phrase] = {}
+        self.statements: list[Statement] = []
+        self.makers: dict[str, Callable[[list[Any]], Any]] = {
+            rule: getattr(self, f"of_{rule}") for rule in RULES if hasattr(self, f"of_{rule}")}
 
-    @property
-    def token(self) -> Token:
-        return self.tokens[self.at]
+    def read(self, rule: str) -> Any:
+        """What a rule makes of the values of its way; of a list, which ends with itself, of all of them."""
+        values: list[Any] = []
+        ways, again, kinds = _WAYS[rule], True, self.kinds
+        is_list = "" in ways
+        while again:
+            again = False
+            way = ways.get(kinds[self.at])
+            if way is None and not is_list:
+                raise self.unread()
+            for symbol, kind in way or ():
+                if not kind:
+                    if symbol == rule and is_list:
+                        again = True
+                    else:
+                        values.append(self.read(symbol))
+                elif kinds[self.at] == kind:
+                    values.append(self.tokens[self.at])
+                    self.at += kind != "END"
+                else:
+                    raise self.unread()
+        make = self.makers.get(rule)
+        return make(values) if make else values
 
-    def step(self) -> Token:
-        token = self.token
-        if not token.text:
-            raise Unread("the text ends too early")
-        self.at += 1
-        return token
+    def unread(self) -> Unread:
+        """The next token may not be here."""
+        token = self.tokens[self.at]
+        return Unread(f"{token.line}:{token.column}: {token.text!r} may not be here")
 
-    def expect(self, text: str) -> Token:
-        if self.token.text != text:
-            raise Unread(f"{self.token.line}:{self.token.column}: {text!r} is missing")
-        return self.step()
+    # ---- lists: what is between commas
 
-    def has(self, *texts: str) -> bool:
-        """Whether one of these comes; it is passed over then."""
-        if self.token.text in texts:
-            self.at += 1
-            return True
-        return False
+    def of_parts(self, values: list[Any]) -> list[Any]:
+        return values[1::2]
 
-    def whole_number(self) -> int:
-        token = self.step()
-        if not token.text.isdigit():
-            raise Unread(f"{token.line}:{token.column}: a number is missing")
-        return int(token.text)
+    of_more = of_lengths = of_numbers = of_parts
 
-    def several(self, item: Callable[[], _Item]) -> tuple[_Item, ...]:
-        found = [item()]
-        while self.has(","):
-            found.append(item())
-        return tuple(found)
-
-    def in_parentheses(self) -> Expression:
-        self.expect("(")
-        inner = self.expression()
-        self.expect(")")
-        return inner
-
-    def limit(self) -> int:
-        self.expect("max")
-        return self.whole_number()
+    def of_pitches(self, values: list[Any]) -> list[tuple[str, Amount]]:
+        return [values[0], *values[1]]
 
     # ---- lengths and amounts
 
-    def ticks(self) -> int:
-        if self.has("ticks"):
-            return self.whole_number()
-        above = self.whole_number()
-        self.expect("/")
-        return 4 * self.division * above // self.whole_number()
+    def of_length(self, values: list[Any]) -> Length:
+        if len(values) == 2:
+            return values[1] if isinstance(values[1], (int, Computed)) else int(values[1].text)
+        return 4 * self.division * int(values[0].text) // int(values[2].text)
 
-    def duration(self) -> Length:
-        if self.token.text == "ticks" and self.tokens[self.at + 1].text == "(":
-            self.step()
-            return Computed(self.in_parentheses(), self.limit())
-        return self.ticks()
+    of_duration = of_length
 
-    def count(self) -> Length:
-        return Computed(self.in_parentheses(), self.limit()) if self.token.text == "(" else self.whole_number()
+    def of_ticked(self, values: list[Any]) -> Length:
+        return int(values[0].text) if len(values) == 1 else Computed(values[1], int(values[4].text))
 
-    def amount(self) -> Amount:
-        if self.token.text == "(":
-            return self.in_parentheses()
-        return -self.whole_number() if self.has("-") else self.whole_number()
+    of_count = of_ticked
 
-    def pitch(self) -> tuple[str, Amount]:
-        token = self.step()
-        if token.text == "key":
-            return "key", self.amount()
-        if not _PITCH.fullmatch(token.text):
-            raise Unread(f"{token.line}:{token.column}: a pitch is missing")
-        return token.text, int(Pitch(token.text))
+    def of_amount(self, values: list[Any]) -> Amount:
+        if len(values) == 3:
+            return _inner(values)
+        return int(values[0].text) if len(values) == 1 else -int(values[1].text)
+
+    of_keyed = of_amount
+
+    def of_pitch(self, values: list[Any]) -> tuple[str, Amount]:
+        name = values[0].text
+        return (name, values[1]) if len(values) == 2 else (name, _key(name))
 
     # ---- expressions, by the strength of their operators
 
-    def expression(self, least: int = 1) -> Expression:
-        left = self.operand()
-        while _TIGHTER.get(self.token.text, 0) >= least:
-            sign = self.step().text
-            left = Expression(sign, 0, (left, self.expression(_TIGHTER[sign] + 1)))
-        return left
+    def of_expr(self, values: list[Any]) -> Expression:
+        return _grouped(values[0], values[1], 1)
 
-    def operand(self) -> Expression:
-        if self.token.text == "(":
-            return self.in_parentheses()
-        name = self.step().text
-        if name == "-":
-            return Expression("negative", 0, (self.operand(),))
-        if name.isdigit():
-            return Expression("number", int(name))
-        if name[1:].isdigit():
-            return Expression(name[0], int(name[1:]))
-        self.expect("(")
-        operands = self.several(self.expression)
-        self.expect(")")
-        return Expression(name, 0, operands)
+    def of_factor(self, values: list[Any]) -> Expression:
+        first = values[0].text
+        if len(values) == 1:
+            return Expression("number", int(first)) if first.isdigit() else Expression(first[0], int(first[1:]))
+        if first == "-":
+            return Expression("negative", 0, (values[1],))
+        if first == "(":
+            return _inner(values)
+        return Expression(first, 0, (values[2],) if first == "pick" else (values[1][1], values[1][3]))
 
     # ---- statements
 
-    def block(self, head: Optional[Token] = None) -> Block:
-        opened = self.expect("{")
-        statements = []
-        while self.token.text != "}":
-            statements.append(self.statement())
-        return Block(head or opened, opened, self.step(), tuple(statements))
+    def of_block(self, values: list[Any]) -> Block:
+        return Block(values[0], values[0], values[2], tuple(values[1]))
 
-    def branches(self) -> tuple[Block, ...]:
-        self.expect("{")
-        found = []
-        while self.token.text == "branch":
-            found.append(self.block(self.step()))
-        self.at += 1
-        return tuple(found)
+    def of_branch(self, values: list[Any]) -> Block:
+        return _headed(values[1], values[0])
 
-    def statement(self) -> Statement:
-        first = self.step()
-        reader = getattr(self, f"read_{first.text}", None)
-        if reader is None:
-            raise Unread(f"{first.line}:{first.column}: no statement begins here")
-        fields = reader()
-        last = self.tokens[self.at - 1] if fields.get("blocks") else self.expect(";")
-        return Statement(first.text, first, last, **fields)
-
-    def pitched(self) -> dict[str, object]:
-        found = self.several(self.pitch)
-        return {"names": tuple(name for name, _ in found), "pitches": tuple(amount for _, amount in found)}
-
-    def read_note(self) -> dict[str, object]:
-        return {**self.pitched(), "length": self.duration()}
-
-    def read_play(self) -> dict[str, object]:
-        return self.pitched()
-
-    def read_rest(self) -> dict[str, object]:
-        return {"length": self.duration()}
-
-    def read_skip(self) -> dict[str, object]:
-        return {}
-
-    def read_control(self) -> dict[str, object]:
-        return {"number": self.whole_number(), "amount": self.amount()}
-
-    def read_program(self) -> dict[str, object]:
-        return {"amount": self.amount()}
-
-    read_bend = read_program
-
-    def read_set(self) -> dict[str, object]:
-        register = int(self.step().text[1:])
-        self.expect("=")
-        return {"number": register, "amount": self.expression()}
-
-    def read_if(self) -> dict[str, object]:
-        condition, then = self.expression(), self.block()
-        return {"amount": condition, "blocks": (then, self.block()) if self.has("else") else (then,)}
-
-    def read_repeat(self) -> dict[str, object]:
-        return {"length": self.count(), "blocks": (self.block(),)}
-
-    def read_do(self) -> dict[str, object]:
-        return {"name": self.step().text}
-
-    def read_par(self) -> dict[str, object]:
-        return {"blocks": self.branches()}
-
-    def read_warp(self) -> dict[str, object]:
-        return {"name": self.step().text, "blocks": (self.block(),)}
-
-    def read_channel(self) -> dict[str, object]:
-        return {"number": self.whole_number(), "blocks": (self.block(),)}
-
-    read_volume = read_gate = read_channel
-
-    def listed(self, entry: Callable[[], int]) -> dict[str, object]:
-        self.expect("[")
-        entries = self.several(entry)
-        self.expect("]")
-        return {"entries": entries, "blocks": (self.block(),)}
-
-    def read_rhythm(self) -> dict[str, object]:
-        return self.listed(self.ticks)
-
-    def read_artic(self) -> dict[str, object]:
-        return self.listed(self.whole_number)
-
-    read_loud = read_artic
+    def of_statement(self, values: list[Any]) -> Statement:
+        first = values[0]
+        return Statement(first.text, first, self.tokens[self.at - 1], **_FIELDS[first.text](values))
 
     # ---- the whole
 
-    def part(self) -> Part:
-        kind, ticks = self.step().text, self.ticks()
-        if kind in ("pause", "breath"):
-            return Part(kind, ticks)
-        self.expect("by")
-        first = self.whole_number()
-        return Part(kind, ticks, first, self.whole_number() if self.has("to") else first)
+    def of_part(self, values: list[Any]) -> Part:
+        if len(values) == 2:
+            return Part(values[0].text, values[1])
+        return Part(values[0].text, values[1], int(values[3].text), int(values[-1].text))
 
-    def ended(self, number: int) -> int:
-        self.expect(";")
-        return number
+    def of_entry(self, values: list[Any]) -> None:
+        if len(values) == 1:
+            self.statements.append(values[0])
+        elif values[0].text == "phrase":
+            self.phrases[values[1].text] = Phrase(values[1], _headed(values[2], values[0]))
+        else:
+            self.shapes[values[1].text] = Shape(values[1], (values[3], *values[4]))
 
-    def score(self, text: bytes, comments: list[Comment]) -> Reading:
-        self.expect("formula")
-        version, seed, statements = self.ended(self.whole_number()), 0, []
-        if self.has("division"):
-            self.division = self.ended(self.whole_number())
-        if self.has("seed"):
-            seed = self.ended(self.whole_number())
-        while self.token.text:
-            if self.has("shape"):
-                name = self.step()
-                self.expect("=")
-                self.shapes[name.text] = Shape(name, self.several(self.part))
-                self.expect(";")
-            elif self.token.text == "phrase":
-                head, name = self.step(), self.step()
-                self.phrases[name.text] = Phrase(name, self.block(head))
-            else:
-                statements.append(self.statement())
-        return Reading(text, version, self.division, seed, self.shapes, self.phrases, tuple(statements),
-                       tuple(comments), tuple(self.tokens))
+    def of_options(self, values: list[Any]) -> None:
+        if len(values) > 1:
+            self.division = int(values[1].text)
+
+    def of_seed(self, values: list[Any]) -> None:
+        if values:
+            self.seed = int(values[1].text)
+
+
+@lru_cache(maxsize=None)
+def _key(name: str) -> int:
+    return int(Pitch(name))
+
+
+def _inner(values: list[Any]) -> Expression:
+    """What is in parentheses."""
+    inner: Expression = values[1]
+    return inner
+
+
+def _headed(block: Block, head: Token) -> Block:
+    return Block(head, block.opened, block.closed, block.statements)
+
+
+def _grouped(left: Expression, rest: list[Any], least: int) -> Expression:
+    """An operand with what follows it, an operator and an operand in turn, as far as the operators are so strong."""
+    while rest and _TIGHTER[rest[0].text] >= least:
+        sign = rest.pop(0).text
+        left = Expression(sign, 0, (left, _grouped(rest.pop(0), rest, _TIGHTER[sign] + 1)))
+    return left
+
+
+def _pitched(values: list[Any]) -> dict[str, Any]:
+    return {"names": tuple(name for name, _ in values[1]), "pitches": tuple(amount for _, amount in values[1])}
+
+
+def _listed(values: list[Any]) -> dict[str, Any]:
+    entries = (values[2], *values[3])
+    return {"entries": tuple(each if isinstance(each, int) else int(each.text) for each in entries),
+            "blocks": (values[5],)}
+
+
+def _numbered(values: list[Any]) -> dict[str, Any]:
+    return {"number": int(values[1].text), "blocks": (values[2],)}
+
+
+#: By its word the fields of a statement, from the values of its way.
+_FIELDS: dict[str, Callable[[list[Any]], dict[str, Any]]] = {
+    "note": lambda values: {**_pitched(values), "length": values[2]}, "play": _pitched,
+    "rest": lambda values: {"length": values[1]}, "skip": lambda _: {},
+    "control": lambda values: {"number": int(values[1].text), "amount": values[2]},
+    "program": lambda values: {"amount": values[1]}, "bend": lambda values: {"amount": values[1]},
+    "set": lambda values: {"number": int(values[1].text[1:]), "amount": values[3]},
+    "if": lambda values: {"amount": values[1], "blocks": (values[2], *values[3][1:])},
+    "repeat": lambda values: {"length": values[1], "blocks": (values[2],)},
+    "do": lambda values: {"name": values[1].text},
+    "par": lambda values: {"blocks": (values[2], *values[3])},
+    "warp": lambda values: {"name": values[1].text, "blocks": (values[2],)},
+    "channel": _numbered, "volume": _numbered, "gate": _numbered, "rhythm": _listed, "artic": _listed, "loud": _listed,
+}
 
 
 def read(text: bytes) -> Reading:
     """The reading of a text that the program accepts."""
     tokens, comments = _split(text)
-    return _Reader(tokens).score(text, comments)
+    reader = _Reader(tokens)
+    head = reader.read("score")
+    return Reading(text, int(head[1].text), reader.division, reader.seed, reader.shapes, reader.phrases,
+                   tuple(reader.statements), tuple(comments), tuple(tokens))

@@ -1,7 +1,8 @@
 // The text: colours, folded blocks, brackets, completion, and what is refused, underlined.
 
 /** @typedef {{line: number, character: number}} Position */
-/** @typedef {{number: number, heading: string, cure: string, said: string, range: [[number, number], [number, number]]}} Refusal */
+/** @typedef {[[number, number], [number, number]]} Span */
+/** @typedef {{number: number, heading: string, cure: string, said: string, range: Span, fixes: [string, Span, string][]}} Refusal */
 /** @typedef {{label: string, text: string, detail: string}} Item */
 
 /** @param {[number, number]} position @returns {Place} */
@@ -74,7 +75,15 @@ export class Writing {
     go.onclick = () => this.go(from.line, from.ch);
     const heading = element("p", ` ${refusal.heading}`, "heading");
     heading.prepend(go);
-    this.told.replaceChildren(heading, element("pre", shown.join("\n")), element("p", refusal.cure, "cure"));
+    const fixes = refusal.fixes.map(([title, range, text]) => {
+      const fix = document.createElement("button");
+      fix.type = "button";
+      fix.textContent = title;
+      const [begin, end] = range.map(place);
+      fix.onclick = () => this.editor.replaceRange(text, begin, end);
+      return fix;
+    });
+    this.told.replaceChildren(heading, element("pre", shown.join("\n")), element("p", refusal.cure, "cure"), ...fixes);
   }
 
   /** Puts the cursor at a place.
