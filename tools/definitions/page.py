@@ -4,6 +4,7 @@ from __future__ import annotations
 import os
 from html import escape
 
+from handed import Piece
 from repository import Needed, Repository, Target
 from statement import Statement, head_end, rows_by_file, text_of
 
@@ -22,6 +23,18 @@ h2 { border-bottom: 1px solid var(--line); margin-top: 2.6rem; padding-bottom: .
 """
 
 
+# The head of the code that follows the definitions.
+HANDED = "what is handed in, and the calls that alone change what is seen of it"
+
+
+def pieces_by_file(statement: Statement) -> dict[str, list[Piece]]:
+    """The code of what is handed in, file by file."""
+    found: dict[str, list[Piece]] = {}
+    for piece in statement.handed:
+        found.setdefault(piece.path, []).append(piece)
+    return found
+
+
 def anchor(target: Target) -> str:
     return f"{target.module}.{target.name}".removeprefix("Rattle.")
 
@@ -38,6 +51,7 @@ def counts(statement: Statement) -> list[tuple[str, int]]:
          sum(definition.code is not None for definition in statement.needed)),
         ("with a row that computes them", sum(definition.target in statement.rows for definition in statement.needed)),
         ("names of the libraries", sum(map(len, statement.library.values()))),
+        ("lines of code of what is handed in", sum(piece.text.count("\n") + 1 for piece in statement.handed)),
     ]
 
 
@@ -81,6 +95,11 @@ def as_text(repository: Repository, statement: Statement) -> str:
                           for number, line in numbered(text_of(repository, definition), definition.first)]
                 if definition.target in statement.rows:
                     lines.append(f"        rows: {rows_by_file(statement.rows[definition.target])}")
+    lines += ["", f"== {HANDED}"] if statement.handed else []
+    for path, pieces in pieces_by_file(statement).items():
+        lines += ["", f"-- {path}"]
+        for piece in pieces:
+            lines += [*(f"{number:>6}  {line}" for number, line in numbered(piece.text, piece.first)), ""]
     lines += ["", "== taken from the libraries"]
     lines += [f"   {module}: {', '.join(names)}" for module, names in statement.library.items()]
     lines += ["", *(f"{number:>6} {name}" for name, number in counts(statement))]
@@ -129,6 +148,11 @@ def as_html(repository: Repository, statement: Statement, title: str) -> str:
                 body.append(f'<pre id="{escape(anchor(definition.target))}">{text}</pre>')
                 if definition.target in statement.rows:
                     body.append(f'<p class="rows">rows: {escape(rows_by_file(statement.rows[definition.target]))}</p>')
+    if statement.handed:
+        body.append(f"<h2>{escape(HANDED.capitalize())}</h2>")
+    for path, pieces in pieces_by_file(statement).items():
+        body.append(f"<h3>{escape(path)}</h3>")
+        body += [f"<pre>{escape(piece.text)}</pre>" for piece in pieces]
     body.append("<h2>Taken from the libraries</h2><table>")
     body += [f"<tr><td>{escape(module)}</td><td>{escape(', '.join(names))}</td></tr>" for module, names in statement.library.items()]
     body.append("</table><h2>Numbers</h2><table>")

@@ -269,15 +269,19 @@ class Repository:
 
     def types_in(self, target: Target, item: CodeItem) -> list[Target]:
         """The types and constants of the repository that a type's fields or a constant's value name."""
-        code = self.code_of[item.path]
         plain = "\n".join(re.sub(r"//.*|#\[.*\]", "", line) for line in item.text.split("\n") if "impl" not in line)
         plain = re.sub(r"(?:requires|ensures|ghost)[^{;]*\{[^}]*\}", "", plain)
-        found = []
-        for name in dict.fromkeys(re.findall(r"\b[A-Z]\w*", plain)):
-            if name in self.code(target.module) and name != target.name:
-                found.append(Target("code", target.module, name))
-                continue
-            crate = re.search(rf"^(?:pub )?use (fm_\w+)::(?:\w+::)*(?:\{{[^}}]*\b{name}\b|{name};)", code.text, re.M)
-            if crate and name in self.code(crate[1]):
-                found.append(Target("code", crate[1], name))
-        return found
+        found = [self.type_named(item.path, name) for name in dict.fromkeys(re.findall(r"\b[A-Z]\w*", plain)) if name != target.name]
+        return [type_found for type_found in found if type_found]
+
+    def type_named(self, path: str, name: str) -> Target | None:
+        """The item of the repository that a name of a file of code means, or None where it means none."""
+        crate = self.crate_of(path)
+        if name in self.code(crate):
+            return Target("code", crate, name)
+        brought = re.search(rf"^(?:pub )?use (fm_\w+)::(?:\w+::)*(?:\{{[^}}]*\b{name}\b|{name};)", self.code_of[path].text, re.M)
+        return Target("code", brought[1], name) if brought and name in self.code(brought[1]) else None
+
+    def crate_of(self, path: str) -> str:
+        """The crate that a file of code belongs to."""
+        return next(crate for crate in self.crates if path.startswith(f"{self.folder(crate)}/"))

@@ -8,6 +8,7 @@ from collections import defaultdict
 from dataclasses import dataclass, field
 
 from free_names import Uses, names_in_signature
+from handed import Piece, handed_to
 from notation import Block, File, Item, NotRead, is_row
 from repository import Needed, Repository, Target, row_files
 from rust import Clause, Function, code_files
@@ -44,6 +45,8 @@ class Statement:
     chapters: list[tuple[str, list[tuple[str, list[Needed]]]]]
     rows: dict[Target, list[str]]
     library: dict[str, list[str]] = field(default_factory=dict)
+    # the objects that the clauses are about, and the calls that change them
+    handed: list[Piece] = field(default_factory=list)
 
     @property
     def needed(self) -> list[Needed]:
@@ -183,8 +186,12 @@ def statement_of(repository: Repository, name: str, clause: str | None) -> State
     clauses = [candidate for candidate in function.clauses if clause is None or candidate.name == clause]
     if not clauses:
         raise NotRead(f"{name} has no clause {clause}; it has {', '.join(candidate.name for candidate in function.clauses)}")
-    needed, library = closure(repository, targets_of(repository, path, function, clauses))
-    return Statement(function, clauses, chapters_of(needed), rows_of(repository, needed), library)
+    # a condition of the call is a premise of each clause
+    clauses = [candidate for candidate in function.clauses if candidate.word == "requires" or candidate in clauses]
+    handed = handed_to(repository, function, clauses)
+    targets = targets_of(repository, path, function, clauses) + [name for piece in handed for name in piece.names]
+    needed, library = closure(repository, targets)
+    return Statement(function, clauses, chapters_of(needed), rows_of(repository, needed), library, handed)
 
 
 def text_of(repository: Repository, definition: Needed) -> str:

@@ -43,7 +43,7 @@ use Rattle.fm_board.proofs.Frames.{halt_other, halt_stays, Leaves, comes_home, n
 use Rattle.fm_board.proofs.ComingHome.{brought}
 use Rattle.fm_board.proofs.ComingHome as back
 use Rattle.fm_board.specs.Runs.{Extends}
-use Rattle.fm_board.proofs.Runs.{begins_all, extends_on, runs_on}
+use Rattle.fm_board.proofs.Runs.{extends_on, runs_on}
 use Rattle.fm_board.proofs.Looks.{lined, sees_now, valid_of}
 use Rattle.fm_board.proofs.Spellings.{one_word, set_or_same}
 
@@ -187,7 +187,7 @@ module _ (a : About) (s : Table) (k : StandsForSome a s) (p id : ℕ) (m : Mind)
         core = h';
         sound = core.keeps (setting a) h (Give id p all.taken all.computed now all.ends) (valid_of a) k.sound allowed_now;
         history = runs_on a s.views h k.history id m w at (Give id p all.taken all.computed now all.ends) allowed_now refl steps_are
-            (begins_all all_steps);
+            refl;
         stands = subst (λ (n : ℕ). StandsFor a (record {
           words = set s.words (word_at p) n;
           homes = set s.homes p (some (Some (brought t box)));

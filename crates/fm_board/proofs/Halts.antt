@@ -74,7 +74,7 @@ heeds_of a slots id m s k sized at small =
         alone = alone_still a s id m.0 w (set s.words (halt_at a) (get_or s.words (halt_at a) 0)) s.homes at k.stands.views.made k.alone
             refl refl refl (λ j lt. ap (λ (ws : List ℕ). get_or ws (word_at j) 0) (set-get_or s.words (halt_at a) 0));
       },
-      (refl, refl),
+      (λ halt_word. (refl, refl)),
     )
 
 pub halts_of : (a : About) (slots id : ℕ) (m : Holder) → m.0.view.number ≡ 0

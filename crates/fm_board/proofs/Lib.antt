@@ -20,6 +20,8 @@ pub mod Stocks
 pub mod Played
 pub mod Tokens
 pub mod OneState
+pub mod StepByStep
+pub mod Staying
 pub mod Steps
 pub mod Returns
 pub mod Peeks
@@ -33,6 +35,7 @@ pub mod Recalls
 pub mod Findings
 pub mod Meetings
 pub mod Sweeping
+pub mod FoundLast
 pub mod Advancing
 pub mod Taking
 mod Numerals

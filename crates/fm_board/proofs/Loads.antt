@@ -26,7 +26,7 @@ use Rattle.fm_board.specs.View.{InTurn, looked}
 use Rattle.fm_board.specs.Words.{word_at}
 use Rattle.fm_board.proofs.Frames.{Leaves, SameForZero, desk_moves}
 use Rattle.fm_board.proofs.Goings.{alone_on, alone_still, goes_on, same_cells, seen_known}
-use Rattle.fm_board.proofs.Runs.{begins_all, extends_on, runs_on}
+use Rattle.fm_board.proofs.Runs.{extends_on, runs_on}
 use Rattle.fm_board.proofs.Spellings.{one_floor}
 use Rattle.fm_board.proofs.Views.{looks_zero}
 use Rattle.fm_board.proofs.Views as views
@@ -79,7 +79,7 @@ looks_of a slots id p m near turn s k sized at small =
         sound = core.keeps (setting a) h (Look id p) (valid_of a) k.sound allowed;
         stands = looks_on a s k (word_at p) id m.0 w m.1 h' at refl refl refl l refl refl mine;
         history = runs_on a s.views h k.history id m.0 w at (Look id p) allowed refl mine_is
-            (begins_all (k.history.steps ++ Look id p ∷ []));
+            refl;
         going = goes_on a s h k.going id m.0 w at (set s.words (word_at p) word) h' (same_cells a h h' refl) (λ x e. (x, e, refl, refl))
             (seen_known a m.0 k.going.left p c.tag seat.is.plan (k.going.known id m.0 at) (λ b. k.going.born p in_range b));
         alone = alone_on a s id m.0 w (set s.words (word_at p) word) s.homes at k.stands.views.made
@@ -129,7 +129,7 @@ paces_of a slots id m s k sized at small =
         sound = core.keeps (setting a) h (Pace id) (valid_of a) k.sound allowed;
         stands = looks_on a s k 0 id m.0 w m.1 h' at refl refl refl l refl refl mine;
         history = runs_on a s.views h k.history id m.0 w at (Pace id) allowed refl mine_is
-            (begins_all (k.history.steps ++ Pace id ∷ []));
+            refl;
         going = goes_on a s h k.going id m.0 w at (set s.words 0 (get_or s.words 0 0)) h' (same_cells a h h' refl)
             (λ x e. (x, e, refl, refl)) (k.going.known id m.0 at);
         alone = alone_still a s id m.0 w (set s.words 0 (get_or s.words 0 0)) s.homes at k.stands.views.made k.alone refl refl refl

@@ -36,7 +36,7 @@ use Rattle.fm_board.proofs.Spellings.{one_floor, yes_or_no}
 
 -- ---- parts
 
-there_is : {A : Type 0} (l : List A) (i : ℕ) → i < length l → (x : A) × (get_elem? l i ≡ some x)
+pub there_is : {A : Type 0} (l : List A) (i : ℕ) → i < length l → (x : A) × (get_elem? l i ≡ some x)
 there_is [] i lt = absurd (omega arith)
 there_is (x ∷ xs) zero lt = (x, refl)
 there_is (x ∷ xs) (suc i) lt = there_is xs i (omega arith)

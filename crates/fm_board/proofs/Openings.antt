@@ -209,6 +209,7 @@ opens a rooms stocked =
         made = λ j v e. ap (λ (y : Mind). y.log.mine) (sym (only_one (first_mind a) v j e).1);
         none = λ j long. refl;
         seen = λ j v e. ([], ap (λ (y : Mind). y.log.seen ++ []) (only_one (first_mind a) v j e).1);
+        whole = record { seat = 0; mind = first_mind a; is = refl; all = inl refl };
       };
       going = first_going a rooms stocked ws h refl;
       alone = λ v e one near. absurd (let is = ap (λ (y : Mind). y.at) (only_one (first_mind a) v 0 e).1 in omega (arith, is, near));

@@ -17,8 +17,8 @@ use Rattle.fm_board.specs.Plays.{Finds, Holder, recalls}
 use Rattle.fm_board.specs.StandsFor.{IsRun, StandsForSome, Table, count, setting}
 use Rattle.fm_board.specs.Words.{word_at}
 use Rattle.fm_board.proofs.Found.{saw}
-use Rattle.fm_board.specs.Runs.{BeginsWith, Extends}
-use Rattle.fm_board.proofs.Runs.{begins_all, extends_on, extends_still, runs_on, runs_still}
+use Rattle.fm_board.specs.Runs.{Extends}
+use Rattle.fm_board.proofs.Runs.{extends_on, extends_still, runs_on, runs_still}
 use Rattle.fm_board.proofs.Spellings.{yes_or_no}
 use Rattle.fm_core.specs.declared.tag.Tag.{Tag}
 use Rattle.fm_board.proofs.Looks.{finds, lined}
@@ -46,7 +46,7 @@ module _ (a : About) (s : Table) (k : StandsForSome a s) (p id : ℕ) (m w : Min
       by_case (inl ended) =
           runs_on a s.views k.core k.history id m w at (Recall id p)
           (may_recall (setting a) k.core id p (k.stands.views.viewed id m at).here inside ended) refl (mine_is ended)
-          (subst (BeginsWith recalled_steps) (sym (seen_is ended)) (begins_all recalled_steps))
+          (seen_is ended)
       by_case (inr live) = runs_still a s.views k.core k.history id m w at (by_tag false live)
 
   pub recalls_extend : Extends m.view.number m.log w.log

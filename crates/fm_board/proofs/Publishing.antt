@@ -30,7 +30,7 @@ use Rattle.fm_board.proofs.Frames.{halt_stays, Leaves, desk_moves, floor_moves, 
 use Rattle.fm_board.proofs.Goings.{alone_still, goes_on, same_cells}
 use Rattle.fm_board.proofs.Later.{later, reviewed}
 use Rattle.fm_board.proofs.Looks.{lined, low, valid_of}
-use Rattle.fm_board.proofs.Runs.{begins_all, begins_more, extends_on, runs_on}
+use Rattle.fm_board.proofs.Runs.{extends_on, runs_on, runs_owed}
 use Rattle.fm_board.proofs.Spellings.{bounds_low}
 use Rattle.fm_board.proofs.Views as views
 use Rattle.fm_line.specs.declared.limits.TheConstants.{LAST_TICK}
@@ -109,7 +109,7 @@ module _ (a : About) (s : Table) (k : StandsForSome a s) (m : Mind) (at : get_el
       record {
         core = h';
         sound = core.keeps (setting a) h Publish (valid_of a) k.sound allowed;
-        history = runs_on a s.views h k.history 0 m w at Publish allowed refl refl (begins_all (k.history.steps ++ Publish ∷ []));
+        history = runs_on a s.views h k.history 0 m w at Publish allowed refl refl refl;
         stands = record {
           crew = l.desks ∙ k.stands.crew;
           words = subst (λ (f : Floor). Spelt a (set s.words 0 (floor_word f)) h.cells (floor_of (least (desk h 0).sweep))) same
@@ -169,9 +169,8 @@ module _ (a : About) (s : Table) (k : StandsForSome a s) (m : Mind) (at : get_el
       record {
         core = h';
         sound = core.keeps (setting a) h (Release (length h.gather)) (valid_of a) k.sound allowed;
-        history = runs_on a s.views h k.history 0 m (settled m) at (Release (length h.gather)) allowed refl
-            (ap (λ (n : ℕ). m.log.mine ++ Release n ∷ []) (ap length sights.gathered))
-            (begins_more k.history.steps m.log.seen (Release (length h.gather) ∷ []) (k.history.seen 0 m at));
+        history = runs_owed a s.views h k.history 0 m (settled m) at (length h.gather) allowed refl
+            (ap (λ (n : ℕ). m.log.mine ++ Release n ∷ []) (ap length sights.gathered)) refl;
         stands = record {
           crew = k.stands.crew;
           words = k.stands.words;

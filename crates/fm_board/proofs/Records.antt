@@ -33,7 +33,7 @@ use Rattle.fm_board.proofs.Frames.{halt_beside, halt_stays, Leaves, cell_moves, 
 use Rattle.fm_board.proofs.Goings.{alone_still, goes_on, one_same}
 use Rattle.fm_board.proofs.Looks.{valid_of}
 use Rattle.fm_board.specs.Runs.{Extends}
-use Rattle.fm_board.proofs.Runs.{begins_all, extends_on, runs_on}
+use Rattle.fm_board.proofs.Runs.{extends_on, runs_on}
 use Rattle.fm_board.proofs.Writes.{place_moves, read, written_moves}
 
 -- ---- the last one
@@ -143,7 +143,7 @@ module _ (a : About) (s : Table) (k : StandsForSome a s) (p id new : ℕ) (x : H
   recorded_stands = record {
     core = h';
     sound = core.keeps (setting a) h (Record id p) (valid_of a) k.sound may;
-    history = runs_on a s.views h k.history id m.0 w at (Record id p) may refl mine_is (begins_all (k.history.steps ++ Record id p ∷ []));
+    history = runs_on a s.views h k.history id m.0 w at (Record id p) may refl mine_is refl;
     stands = record {
       crew = k.stands.crew;
       words = record {

@@ -6,7 +6,7 @@ use Rattle.std.proofs.lemmas.List.{length-replicate}
 use Rattle.fm_program.specs.Parts.{PlanParts}
 use Rattle.fm_board.proofs.Goings.{goes_on, same_cells}
 use Rattle.atomic_table.specs.Table.{Splits}
-use Rattle.atomic_table.proofs.Lists.{at_set}
+use Rattle.atomic_table.proofs.Lists.{at_longer, at_set}
 use Rattle.fm_core.specs.State.{State, unborn}
 use Rattle.fm_core.specs.State as state
 use Rattle.fm_board.specs.declared.about.About.{About}
@@ -33,6 +33,12 @@ runs_apart a views h q right empty = record {
   seen = λ j u e. ⊎_elim (λ (y : get_elem? views j ≡ some u). q.seen j u y)
       (λ (y : (j ≡ length views) × (right ≡ u)). subst (λ (l : Log). BeginsWith q.steps l.seen)
       (sym empty ∙ ap (λ (z : Mind). z.log) y.1) (q.steps, refl)) (snoc_cases views right u j e);
+  whole = record {
+    seat = q.whole.seat;
+    mind = q.whole.mind;
+    is = at_longer views (right ∷ []) q.whole.seat q.whole.mind q.whole.is;
+    all = q.whole.all;
+  };
 }
 
 -- seat 0 makes a seat

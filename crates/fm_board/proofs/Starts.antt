@@ -37,7 +37,7 @@ use Rattle.fm_board.specs.Words.{spell, spelt, word_at}
 use Rattle.fm_board.proofs.Claims.{same_some}
 use Rattle.fm_board.proofs.Found.{saw}
 use Rattle.fm_board.proofs.Frames.{halt_other, halt_stays, Leaves, cell_moves, goes_out, no_word, places_stay, reseated, word_moves, written_stays}
-use Rattle.fm_board.proofs.Runs.{begins_all, extends_on, extends_still, runs_on, runs_still}
+use Rattle.fm_board.proofs.Runs.{extends_on, extends_still, runs_on, runs_still}
 use Rattle.fm_core.specs.declared.tag.Tag.{Tag}
 use Rattle.fm_board.proofs.Looks.{finds, found_tells, lined, says, sees_now, turned_seat, valid_of}
 
@@ -214,7 +214,7 @@ module _ (a : About) (s : Table) (k : StandsForSome a s) (p id : ℕ) (m : Holde
             views = set s.views id w;
           }) h') (sym is_new) stands;
           history = runs_on a s.views h k.history id m.0 w at (Start id p) allowed refl
-              (ap (λ (n : ℕ). m.0.log.mine ++ Start n p ∷ []) seat.is.number) (begins_all started_steps);
+              (ap (λ (n : ℕ). m.0.log.mine ++ Start n p ∷ []) seat.is.number) refl;
           going = going (set s.words (word_at p) new);
           alone = alone_on a s id m.0 w (set s.words (word_at p) new) (set s.homes p none) at k.stands.views.made
               (λ _ _ inside_now. absurd (let n = ap (λ (q : PlanParts). length q.programs) seat.is.plan in

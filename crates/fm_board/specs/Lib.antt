@@ -3,6 +3,7 @@ pub mod View
 pub mod Runs
 pub mod Calls
 pub mod StandsFor
+pub mod Follows
 pub mod Quantum
 pub mod Played
 pub mod Minds

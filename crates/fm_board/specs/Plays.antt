@@ -218,7 +218,8 @@ halts st m r m' = (m'.0 ≡ viewing m.0 (record m.0.view { halted = true })) × 
 
 -- the load of the halt word
 abbrev pub heeds : Step (Option Deposit) → Holder → ℕ → Holder → Type 0
-heeds st m r m' = (m'.0 ≡ viewing m.0 (record m.0.view { heeded = nat_eq r 1 })) × (m'.1 ≡ m.1)
+heeds st m r m' = st.word ≡ word_at (processes m.0.view)
+    → (m'.0 ≡ viewing m.0 (record m.0.view { heeded = nat_eq r 1 })) × (m'.1 ≡ m.1)
 
 -- ---- recall
 

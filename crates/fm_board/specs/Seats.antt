@@ -1,10 +1,11 @@
 -- What a contract sees of a seat.
-use Rattle.std.specs.Prelude.{◌≡◌, ℕ, ◌+◌, ◌^◌, ◌<◌, ◌≤◌, List, [], ◌∷◌, length, Bool, true, false, Option, Some, None, slice_index_or}
+use Rattle.std.specs.Prelude.{◌≡◌, ℕ, ◌+◌, ◌-◌, ◌^◌, ◌<◌, ◌≤◌, List, [], ◌∷◌, length, Bool, true, false, Option, Some, None, slice_index_or, slice_set}
 use mathlib.Core.Option.{some}
 use lib.ListN.{get_elem?}
 use Rattle.atomic_table.specs.Seated.{TableId}
 use Rattle.fm_line.specs.Piece.{sorted, Ordered}
 use Rattle.fm_program.specs.Parts.{PlanParts}
+use Rattle.fm_core.specs.declared.floor.Floor.{Floor}
 use Rattle.fm_core.specs.declared.sight.Sight.{Sight as Look}
 use Rattle.fm_strand.specs.declared.strand.Strand.{Strand}
 use Rattle.fm_strand.specs.Course.{end_place, steps_of}
@@ -56,6 +57,12 @@ pub record IsSwept (looks : List Look) (capacity : ℕ) (sweep : List Look) (man
   pub space : many ≤ capacity
   pub within : length sweep ≤ many
   pub few : many < 2 ^ 32
+
+-- a seat keeps the floor that it paced last; and where it says that the last look of seat 0's sweep found nothing to take, a
+-- visit by that look visits nothing new
+pub record IsLatest (floor : Floor) (idle : Bool) (paced : Floor) (number : ℕ) (visited : List Bool) (sweep : List Look) : Type 0 where
+  pub same : floor ≡ paced
+  pub again : idle ≡ true → number ≡ 0 → slice_set visited (length sweep - 1) true ≡ visited
 
 -- what a contract sees of a seat: its table, and what it knows
 pub record SeatState : Type 0 where

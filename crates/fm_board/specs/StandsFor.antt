@@ -1,5 +1,5 @@
 -- When words, slots and views stand for a state of the core.
-use Rattle.std.specs.Prelude.{nat_eq, ◌≡◌, ℕ, ◌+◌, ◌*◌, ◌<◌, ◌≤◌, List, [], length, true, false, ◌||◌, All, Option, Some, None, slice_index_or}
+use Rattle.std.specs.Prelude.{nat_eq, ◌≡◌, ◌⊎◌, ℕ, ◌+◌, ◌*◌, ◌<◌, ◌≤◌, List, [], ◌∷◌, ◌++◌, length, true, false, ◌||◌, All, Option, Some, None, slice_index_or}
 use mathlib.Core.Option.{some}
 use mathlib.Core.Option as maybe
 use lib.ListN.{get_elem?}
@@ -13,6 +13,7 @@ use Rattle.fm_core.specs.Taking.{outbox}
 use Rattle.fm_core.specs.declared.cell.Cell.{Cell}
 use Rattle.fm_core.specs.declared.floor.Floor.{Floor}
 use Rattle.fm_core.specs.declared.step.Step.{Step}
+use Rattle.fm_core.specs.declared.step.Step.TheVariants.{Release}
 use Rattle.fm_program.specs.Process.{plan_lines}
 use Rattle.fm_strand.specs.declared.strand.Strand.{Strand}
 use Rattle.fm_strand.specs.Strand.{steps_left}
@@ -150,8 +151,17 @@ Halted a words views =
 abbrev pub beginning : About → State
 beginning a = opening (length (plan_lines a.plan)) a.seats
 
+-- some seat has seen all of these steps, or all but the last one: a release that seat 0 owed, and made together with a step
+-- on a word that is none of the core's
+pub record IsSeen (views : List Mind) (steps : List Step) : Type 0 where
+  pub seat : ℕ
+  pub mind : Mind
+  pub is : get_elem? views seat ≡ some mind
+  pub all : (steps ≡ mind.log.seen) ⊎ ((n : ℕ) × (steps ≡ mind.log.seen ++ Release n ∷ []))
+
 -- from the beginning a run of allowed steps leads to this state; each seat made those of its steps that it knows of, in
--- their order, and no seat that was not made yet made any; the run begins with what any seat has seen
+-- their order, and no seat that was not made yet made any; the run begins with what any seat has seen, and some seat has
+-- seen it whole, but for a release at its end
 pub record IsRun (a : About) (views : List Mind) (h : State) : Type 0 where
   pub steps : List Step
   pub legal : Legal (setting a) (beginning a) steps
@@ -159,6 +169,7 @@ pub record IsRun (a : About) (views : List Mind) (h : State) : Type 0 where
   pub made : (k : ℕ) (m : Mind) → get_elem? views k ≡ some m → m.log.mine ≡ by_seat k steps
   pub none : (k : ℕ) → length views ≤ k → by_seat k steps ≡ []
   pub seen : (k : ℕ) (m : Mind) → get_elem? views k ≡ some m → BeginsWith steps m.log.seen
+  pub whole : IsSeen views steps
 
 -- ---- the rule
 

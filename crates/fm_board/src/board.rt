@@ -80,6 +80,7 @@ impl Board {
         let predecessors = self.about.plan.predecessors(process);
         let look = Sight::of(seen.tag, seen.clock, seat.looks.as_slice(), predecessors);
         enter(&mut seat.looks, process, look);
+        seat.idle = seen.tag.has_nothing();
         seen
     }
 
@@ -92,7 +93,9 @@ impl Board {
         ensures own { seat.old.mind.view.number ≡ 0 → result ≡ seat.old.mind.view.published }
     {
         let found = seat.token.load::<PacePlay>(&self.table.shared, 0);
-        floor_of_word(found)
+        let floor = floor_of_word(found);
+        seat.paced = floor;
+        floor
     }
 
     /// Takes a process whose word is as it was seen: one compare and exchange. `Busy` exactly where
@@ -177,6 +180,7 @@ impl Board {
         let new = word_of_floor(floor);
         seat.token.store::<PublishPlay>(&self.table.shared, 0, new);
         seat.looks.clear();
+        seat.idle = false;
     }
 
     /// Settles what was taken, which is the next part of the piece, and counts it as released. It

@@ -1,7 +1,4 @@
-pub mod NumberLemmas
-pub mod NeedsLemmas
-pub mod PassageLemmas
-pub mod PhraseLemmas
+pub mod PlaceLemmas
 pub mod SaturationLemmas
 pub mod SumsLemmas
 pub mod WeightLemmas

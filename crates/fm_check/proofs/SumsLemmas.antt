@@ -1,5 +1,5 @@
 -- Totals up to the ceiling, from those of parts.
-use Rattle.std.proofs.Common.{◌≡◌, ℕ, ◌<◌, ◌≤◌, Bool, true, false, refl, ap, arith}
+use Rattle.std.proofs.Common.{◌≡◌, ℕ, ◌<◌, ◌≤◌, refl, ap, arith}
 use Rattle.std.proofs.lemmas.Bool.{lt-leb, le-leb}
 use Rattle.std.specs.Prelude.{List}
 use Rattle.fm_tick.specs.declared.tick.TheConstants.{MAX_TICK}
@@ -11,8 +11,8 @@ use Rattle.fm_check.specs.declared.totals.sums.TheConstants.{CEILING}
 use Rattle.fm_check.specs.Saturation.{capped, saturated}
 
 -- totals by their columns
-abbrev pub sums : (processes operations length events steps : ℕ) → Bool → Sums
-sums p o l n s f = record { processes = p; operations = o; length = l; events = n; steps = s; forks = f }
+abbrev pub sums : (processes operations length events steps : ℕ) → Sums
+sums p o l n s = record { processes = p; operations = o; length = l; events = n; steps = s }
 
 -- a length past the last tick stays there
 pub warped_above : (length n : ℕ) (parts : List Part) → length ≡ capped n → MAX_TICK < length
@@ -30,23 +30,23 @@ warped_within length n parts is within =
 
 -- a length up to the ceiling
 pub span_saturated : (t span e s : ℕ) → capped t ≡ capped span
-    → saturated (totals 0 1 t e s) false ≡ saturated (totals 0 1 span e s) false
-span_saturated t span e s is = ap (λ l. sums (capped 0) (capped 1) l (capped e) (capped s) false) is
+    → saturated (totals 0 1 t e s) ≡ saturated (totals 0 1 span e s)
+span_saturated t span e s is = ap (λ l. sums (capped 0) (capped 1) l (capped e) (capped s)) is
 
 -- statements under a deformation
-pub warp_saturated : {x : Sums} (b : Totals) {f : Bool} (parts : List Part) {w : ℕ}
-    → x ≡ saturated b f → w ≡ capped (warped_length parts b.length)
-    → sums x.processes x.operations w x.events x.steps x.forks
-    ≡ saturated (record b { length = warped_length parts b.length }) f
+pub warp_saturated : {x : Sums} (b : Totals) (parts : List Part) {w : ℕ}
+    → x ≡ saturated b → w ≡ capped (warped_length parts b.length)
+    → sums x.processes x.operations w x.events x.steps
+    ≡ saturated (record b { length = warped_length parts b.length })
 warp_saturated b parts e is = cc
 
 -- no statements
-pub none_saturated : sums 0 0 0 0 0 false ≡ saturated (totals 0 0 0 0 0) false
+pub none_saturated : sums 0 0 0 0 0 ≡ saturated (totals 0 0 0 0 0)
 unfolding capped
 none_saturated = refl
 
 -- the process behind a fork
-pub joined_saturated : sums 1 0 0 0 0 true ≡ saturated (totals 1 0 0 0 0) true
+pub joined_saturated : sums 1 0 0 0 0 ≡ saturated (totals 1 0 0 0 0)
 unfolding capped
 joined_saturated = refl
 

@@ -43,13 +43,12 @@ after {score = score} {play = play} r = plus r.so_far (bounds_of (resolved score
 
 -- within the limits the walk goes on
 pub play_reached : (score : tree.Score) (before sums : Sums) (spot : Spot) (play : Play) (rest : Passage)
-    → (r : Reached score before (item spot play rest)) → sums ≡ saturated (after r) (r.forks || forks play)
+    → (r : Reached score before (item spot play rest)) → sums ≡ saturated (after r)
     → limit_faults (score_rules score) spot (score_totals (after r)) ≡ [] → Reached score sums rest
 play_reached score before sums spot play rest r saturates none =
     let longest = (resolved score).longest in
     record {
       so_far = after r;
-      forks = r.forks || forks play;
       saturates = saturates;
       within = are_within (score_rules score) spot (score_totals (after r)) none;
       faults = r.faults ∙ ap (λ fs. fs ++ sums_faults (score_rules score) longest (after r) rest) none;
@@ -68,15 +67,6 @@ play_refused score before spot play rest f r found =
 
 -- ---- the beginning and the end
 
--- what the outline of a score without a fault of names and numbers is
-pub made_of : (score : tree.Score) (o : Outline) → outline_view o ≡ outline score → o.seed ≡ seed_of score.seed
-    → rules_view o.rules ≡ score_rules score → ForksMarked o → passage_of_outline o ≡ (resolved score).passage
-    → second_walk score ≡ [] → IsMadeOf o score
-made_of score o view seed rules marked passage faultless = record {
-  sound = record { is = record { view = view; seed = seed; rules = rules; marked = marked }; passage = passage };
-  faultless = faultless;
-}
-
 -- the greatest entry of all rhythms of a score is that of its outline
 pub longest_kept : (score : tree.Score) (o : Outline) {longest : ℕ} → outline_view o ≡ outline score
     → longest ≡ capped (tables_view o.tables).longest → longest ≡ capped (resolved score).longest
@@ -84,10 +74,9 @@ longest_kept score o of is = is ∙ ap (λ v. capped v.tables.longest) of ∙ ap
 
 -- nothing was gone over yet
 pub begun : (score : tree.Score) (p : Passage) → p ≡ (resolved score).passage
-    → Reached score (sums 0 0 0 0 0 false) p
+    → Reached score (sums 0 0 0 0 0) p
 begun score p is = record {
   so_far = totals 0 0 0 0 0;
-  forks = false;
   saturates = none_saturated;
   within = record {
     processes = omega (arith, some_processes score);
@@ -132,10 +121,10 @@ pub record Ends (score : tree.Score) (whole : Sums) : Type 0 where
 
 -- so they are where no statement is left
 pub ends : (score : tree.Score) (before whole : Sums)
-    → ((a : Totals) (f : Bool) → before ≡ saturated a f → whole ≡ saturated (score_totals a) f)
+    → ((a : Totals) → before ≡ saturated a → whole ≡ saturated (score_totals a))
     → Reached score before done → Ends score whole
 ends score before whole is r =
-    let same = is r.so_far r.forks r.saturates in
+    let same = is r.so_far r.saturates in
     let w = r.within in
     let a = score_totals r.so_far in
     let p : whole.processes ≡ a.processes = ap (λ s. s.processes) same

@@ -1,19 +1,19 @@
 -- Totals of statements in turn and of branches, one more at the end.
-use Rattle.std.proofs.Common.{◌≡◌, ℕ, Bool, true, false, List, [], ◌∷◌, ◌++◌}
+use Rattle.std.proofs.Common.{◌≡◌, ℕ, List, [], ◌∷◌, ◌++◌}
 use Rattle.std.proofs.Common.{refl, ap, ◌∙◌, arith}
-use Rattle.std.specs.Prelude.{◌||◌, map}
+use Rattle.std.specs.Prelude.{map}
 use Rattle.fm_meaning.specs.Resolved.{Fork}
 use Rattle.fm_expansion.specs.Outline.{Tables, Block, play_in, passage_in, fork_in}
 use Rattle.fm_outline.specs.declared.step.Step.{Step}
 use Rattle.fm_outline.specs.View.{Look, step_view, block_view, arms_of_blocks}
-use Rattle.fm_meaning.specs.Bounds.{Totals, totals, plus, beside, bounds_of, bounds_in, bounds_beside, forks, forks_in}
+use Rattle.fm_meaning.specs.Bounds.{Totals, totals, plus, beside, bounds_of, bounds_in, bounds_beside}
 use Rattle.fm_check.specs.declared.totals.sums.Sums.{Sums}
 use Rattle.fm_check.specs.Saturation.{saturated}
 use Rattle.fm_check.specs.Weight.{weight_in}
 
 -- of branches
 abbrev pub weight_beside : (longest : ℕ) → Fork → Sums
-weight_beside longest branches = saturated (bounds_beside longest branches) true
+weight_beside longest branches = saturated (bounds_beside longest branches)
 
 -- of blocks, each by itself
 abbrev pub weights_of_blocks : Tables → (longest : ℕ) → List Block → List Sums
@@ -40,26 +40,6 @@ bounds_more longest t look (y ∷ xs) x =
     ap (plus (bounds_of longest (play_in t (step_view look y).what))) (bounds_more longest t look xs x)
     ∙ plus_plus (bounds_of longest (play_in t (step_view look y).what)) (bounds_in longest (passage_in t (block_view look xs)))
     (bounds_of longest (play_in t (step_view look x).what))
-
--- one of three
-or_or : (a b d : Bool) → a || (b || d) ≡ (a || b) || d
-or_or true b d = refl
-or_or false b d = refl
-
--- none behind
-or_none : (a : Bool) → a || false ≡ a
-or_none true = refl
-or_none false = refl
-
--- a fork in one statement more
-pub forks_more : (t : Tables) (look : Look) (xs : List Step) (x : Step)
-    → forks_in (passage_in t (block_view look (xs ++ x ∷ [])))
-    ≡ forks_in (passage_in t (block_view look xs)) || forks (play_in t (step_view look x).what)
-forks_more t look [] x = or_none (forks (play_in t (step_view look x).what))
-forks_more t look (y ∷ xs) x =
-    ap (λ b. forks (play_in t (step_view look y).what) || b) (forks_more t look xs x)
-    ∙ or_or (forks (play_in t (step_view look y).what)) (forks_in (passage_in t (block_view look xs)))
-    (forks (play_in t (step_view look x).what))
 
 -- two branches in either order
 beside_beside : (a b d : Totals) → beside a (beside b d) ≡ beside b (beside a d)

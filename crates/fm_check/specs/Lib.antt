@@ -1,5 +1,3 @@
-pub mod Needs
-pub mod Found
 pub mod Saturation
 pub mod Weight
 pub mod Reached

@@ -39,8 +39,7 @@ pub record AreWithin (most : ℕ) (a : Totals) : Type 0 where
 -- before these statements of a score nothing was too much, and so much was added
 pub record Reached (score : Score) (before : Sums) (rest : Passage) : Type 0 where
   pub so_far : Totals
-  pub forks : Bool
-  pub saturates : before ≡ saturated so_far forks
+  pub saturates : before ≡ saturated so_far
   pub within : AreWithin (score_rules score).most_processes (score_totals so_far)
   pub faults : fourth_walk (score_rules score) (resolved score)
       ≡ sums_faults (score_rules score) (resolved score).longest so_far rest

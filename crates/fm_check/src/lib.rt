@@ -13,4 +13,4 @@ mod walks;
 
 pub use fm_rules::{CheckFault, Why};
 pub use totals::bounds::Bounds;
-pub use walks::{Checked, check, check_made, check_outline};
+pub use walks::{Checked, check, check_made};

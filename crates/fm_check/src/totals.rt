@@ -11,6 +11,7 @@ ghost use Rattle.fm_meaning.specs.Resolved.{Play, Passage, done, item};
 ghost use Rattle.fm_meaning.specs.Resolve.{resolved};
 ghost use Rattle.fm_meaning.specs.Bounds.{score_bounds, fourth_walk};
 ghost use Rattle.fm_meaning.specs.Faults.{first_found};
+ghost use Rattle.fm_outline.specs.Forking.{PhrasesMarked};
 ghost use Rattle.fm_outline.specs.View.{tables_view, look_in, phrases_view};
 ghost use Rattle.fm_rules.specs.Why.{fault_at};
 ghost use Rattle.fm_rules.specs.declared.why.Why.{Why};
@@ -39,6 +40,7 @@ fn weigh_phrases(
     longest: u64,
     phrases: &[Vec<Step>],
 ) -> Result<Vec<Sums>, AllocError>
+    requires { PhrasesMarked (map vec_items phrases.now) }
     ensures { IfOk result (λ sums. (n : ℕ) → longest ≡ capped n →
         KnowsWeights (tables_view tables.now) sums.items n
         (look_in (phrases_view (map vec_items phrases.now)))) }

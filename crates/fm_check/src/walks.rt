@@ -7,7 +7,6 @@ ghost use Rattle.fm_grammar.specs.View.{score_view};
 ghost use Rattle.fm_meaning.specs.Resolve.{resolved};
 ghost use Rattle.fm_meaning.specs.Bounds.{score_bounds};
 ghost use Rattle.fm_meaning.specs.Faults.{score_faults, first_found};
-ghost use Rattle.fm_outline.specs.OfScore.{IsOutlineOf};
 ghost use Rattle.fm_check.specs.Made.{IsMadeOf};
 ghost use Rattle.fm_check.specs.Reached.{totals_of};
 ghost use Rattle.fm_rules.specs.Why.{fault_at};
@@ -41,30 +40,16 @@ pub fn check_made(alloc: Global, outline: Outline) -> Result<Checked, CheckFault
         result ≡ Err (CheckFault.Refused why spot) →
         first_found (score_faults s) ≡ Some (fault_at spot why) }
 {
-    if let Some(fault) = first_place_fault(alloc, &outline)? {
+    if let Some(fault) = first_place_fault(&outline) {
         return Err(refused(fault));
     }
     let bounds = find_bounds(alloc, &outline)?;
     Ok(Checked { outline, bounds })
 }
 
-/// The outline of a score with its static totals, or its first fault: of names and numbers, then of
-/// where statements stand, then of totals. A later walk is made only where those before it found
-/// nothing. The first makes the outline, and the others go over that.
-pub fn check_outline(alloc: Global, score: &Score) -> Result<Checked, CheckFault>
-    ensures outline { IfOk result (λ c. IsOutlineOf c.outline (score_view score.now)) }
-    ensures bounds { IfOk result
-        (λ c. totals_of c.bounds ≡ score_bounds (resolved (score_view score.now))) }
-    ensures faultless { OnOk result (score_faults (score_view score.now) ≡ []) }
-    ensures refused { (why : Reason) (spot : Spot) → result ≡ Err (CheckFault.Refused why spot) →
-        first_found (score_faults (score_view score.now)) ≡ Some (fault_at spot why) }
-{
-    let outline = outline_of(alloc, score)?;
-    check_made(alloc, outline)
-}
-
-/// The static totals of a score, or its first fault: of names and numbers, then of where statements
-/// stand, then of totals. A later walk is made only where those before it found nothing.
+/// The static totals of a score whose tree is there, or its first fault: of names and numbers, then
+/// of where statements stand, then of totals. The program does not call it: it checks the outline
+/// that it makes while it reads a text.
 pub fn check(alloc: Global, score: &Score) -> Result<Bounds, CheckFault>
     ensures bounds { IfOk result
         (λ b. totals_of b ≡ score_bounds (resolved (score_view score.now))) }
@@ -72,7 +57,8 @@ pub fn check(alloc: Global, score: &Score) -> Result<Bounds, CheckFault>
     ensures refused { (why : Reason) (spot : Spot) → result ≡ Err (CheckFault.Refused why spot) →
         first_found (score_faults (score_view score.now)) ≡ Some (fault_at spot why) }
 {
-    match check_outline(alloc, score) {
+    let outline = outline_of(alloc, score)?;
+    match check_made(alloc, outline) {
         Ok(checked) => Ok(checked.bounds),
         Err(fault) => Err(fault),
     }

@@ -76,7 +76,7 @@ module _ (g : Setting) (h : State) (valid : ValidSetting g) (ok : Sound g h) whe
           let b = valid.lines.rising q (cell h q).computed (length (line g.lines q).events) f.computed in let c = last in omega arith
 
   -- nor above what is still to be computed
-  bound_upper : (p k : ℕ) → p < length h.cells → (cell h p).computed ≤ k → (b : Bool) → is_unborn (cell h p).tag ≡ b
+  pub bound_upper : (p k : ℕ) → p < length h.cells → (cell h p).computed ≤ k → (b : Bool) → is_unborn (cell h p).tag ≡ b
       → bound g h p ≤ upper (line g.lines p) k
   bound_upper p k lt le false e = let f = ok.fits p lt in let a = f.timed e in let b = valid.lines.rising p (cell h p).computed k le in
       let c = bound_born g h p e in omega arith

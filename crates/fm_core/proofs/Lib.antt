@@ -23,6 +23,7 @@ pub mod KeepsRelease
 pub mod Keeps
 pub mod Opening
 pub mod Gathered
+pub mod OrderlyStates
 mod Rows
 mod Numerals
 pub mod Walking

@@ -9,3 +9,4 @@ pub mod Effects
 pub mod Giving
 pub mod Invariant
 pub mod Least
+pub mod Orderly

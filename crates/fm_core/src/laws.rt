@@ -13,6 +13,7 @@ ghost use Rattle.fm_core.specs.Effects.{after, Legal, run};
 ghost use Rattle.fm_core.specs.Giving.{MayGive};
 ghost use Rattle.fm_core.specs.Invariant.{ValidSetting, Sound};
 ghost use Rattle.fm_core.specs.Least.{IsLeastOf};
+ghost use Rattle.fm_core.specs.Orderly.{IsOrderly};
 ghost use Rattle.fm_core.specs.Sweep.{bound, least};
 ghost use Rattle.fm_core.specs.Tags.{is_unborn};
 
@@ -33,6 +34,12 @@ pub fn released_is_a_prefix()
         → ValidSetting g → 0 < seats → Legal g (opening (length g.lines) seats) ss
         → IsPiece g.lines piece
         → IsPrefix (run g (opening (length g.lines) seats) ss).released piece }
+{}
+
+/// A sound state is orderly: what is released is a prefix of the piece, no buffer passes its room,
+/// and no event is computed more than the lead past one that is still to come.
+pub fn sound_states_are_orderly()
+    ensures { (g : Setting) (h : State) → ValidSetting g → Sound g h → IsOrderly g h }
 {}
 
 /// The gather of a sound state never holds more events than processes times room.

@@ -22,7 +22,7 @@ pub use due::Due;
 pub use floor::Floor;
 pub use laws::{
     bounds_are_told_by_two_equations, gather_has_room, gives_are_allowed, least_is_the_least_pair,
-    released_is_a_prefix, steps_keep_sound,
+    released_is_a_prefix, sound_states_are_orderly, steps_keep_sound,
 };
 pub use limits::{MAX_LEAD, MAX_SEATS};
 pub use reason::Reason;

@@ -2,20 +2,20 @@
 use Rattle.std.proofs.Common.{◌≡◌, ℕ, List, [], ◌∷◌, map, rules, refl, ap}
 use Rattle.std.specs.Prelude.{Vec}
 use Rattle.std.specs.declared.alloc.Global.{Global}
-use Rattle.std.specs.Global.{Box}
 use Rattle.fm_lex.specs.declared.spot.Spot.{Spot}
 use Rattle.fm_value.specs.declared.expr.Expr.{Expr}
 use Rattle.fm_grammar.specs.declared.number.Number.{Number}
 use Rattle.fm_grammar.specs.declared.name.Name.{Name}
-use Rattle.fm_grammar.specs.declared.length.Length.{Length}
+use Rattle.fm_grammar.specs.declared.opening.Opening.{Opening}
 use Rattle.fm_grammar.specs.declared.pitch.Pitch as code_pitch
 use Rattle.fm_grammar.specs.declared.amount.Amount as code_amount
 use Rattle.fm_grammar.specs.declared.duration.Duration as code_duration
 use Rattle.fm_grammar.specs.declared.item.Item.{Item, the_lemmas}
 use Rattle.fm_grammar.specs.declared.item.What.{What}
 use Rattle.fm_grammar.specs.declared.item.What.TheVariants as code
+use Rattle.fm_grammar.specs.Opening.{filled}
 use Rattle.fm_grammar.specs.Score as tree
-use Rattle.fm_grammar.specs.View.{PlacedStmt, placed, branches_of, pitch_view, duration_view, amount_view, expr_view, name_view, item_view, items_view}
+use Rattle.fm_grammar.specs.View.{PlacedStmt, placed, branches_of, pitch_view, duration_view, amount_view, expr_view, name_view, opening_view, item_view, items_view}
 
 -- lists that are mapped twice
 pub map_twice : {A B C : Type 0} (f : B → C) (g : A → B) (xs : List A) → map f (map g xs) ≡ map (λ x. f (g x)) xs
@@ -61,24 +61,19 @@ pub bend_seen : (s : Spot) (a : code_amount.Amount)
 bend_seen s a = search (rules, the_lemmas)
 
 -- the setting of a register
-pub set_seen : (s : Spot) (a : ℕ) (b : Box Expr)
-    → seen s (code.Set a b) ≡ placed s (tree.set a (expr_view b.value))
+pub set_seen : (s : Spot) (a : ℕ) (b : Expr)
+    → seen s (code.Set a b) ≡ placed s (tree.set a (expr_view b))
 set_seen s a b = search (rules, the_lemmas)
 
 -- a choice
-pub choice_seen : (s : Spot) (a : Box Expr) (b : Vec Item Global) (c : Vec Item Global)
-    → seen s (code.If a b c) ≡ placed s (tree.choice (expr_view a.value) (items_view b.items) (items_view c.items))
+pub choice_seen : (s : Spot) (a : Expr) (b : Vec Item Global) (c : Vec Item Global)
+    → seen s (code.If a b c) ≡ placed s (tree.choice (expr_view a) (items_view b.items) (items_view c.items))
 choice_seen s a b c = search (rules, the_lemmas)
 
--- a loop with a fixed count
-pub repeat_seen : (s : Spot) (a : Number) (b : Vec Item Global)
-    → seen s (code.Repeat a b) ≡ placed s (tree.repeat a (items_view b.items))
-repeat_seen s a b = search (rules, the_lemmas)
-
--- a loop with a drawn count
-pub again_seen : (s : Spot) (a : Box Expr) (b : Number) (c : Vec Item Global)
-    → seen s (code.Again a b c) ≡ placed s (tree.again (expr_view a.value) b (items_view c.items))
-again_seen s a b c = search (rules, the_lemmas)
+-- a statement with one block
+pub block_seen : (s : Spot) (a : Opening) (b : Vec Item Global)
+    → seen s (code.Block a b) ≡ placed s (filled (opening_view a) (items_view b.items))
+block_seen s a b = search (rules, the_lemmas)
 
 -- the call of a phrase
 pub call_seen : (s : Spot) (a : Name)
@@ -89,38 +84,3 @@ call_seen s a = search (rules, the_lemmas)
 pub par_seen : (s : Spot) (a : Vec (Vec Item Global) Global)
     → seen s (code.Par a) ≡ placed s (tree.par (branches_of (map (λ b. items_view b.items) a.items)))
 par_seen s a = search (rules, the_lemmas, map_twice)
-
--- a block under a deformation
-pub warp_seen : (s : Spot) (a : Name) (b : Vec Item Global)
-    → seen s (code.Warp a b) ≡ placed s (tree.warp (name_view a) (items_view b.items))
-warp_seen s a b = search (rules, the_lemmas)
-
--- a block on a channel
-pub channel_seen : (s : Spot) (a : Number) (b : Vec Item Global)
-    → seen s (code.Channel a b) ≡ placed s (tree.channel a (items_view b.items))
-channel_seen s a b = search (rules, the_lemmas)
-
--- a block with a volume
-pub volume_seen : (s : Spot) (a : Number) (b : Vec Item Global)
-    → seen s (code.Volume a b) ≡ placed s (tree.volume a (items_view b.items))
-volume_seen s a b = search (rules, the_lemmas)
-
--- a block with an articulation
-pub gate_seen : (s : Spot) (a : Number) (b : Vec Item Global)
-    → seen s (code.Gate a b) ≡ placed s (tree.gate a (items_view b.items))
-gate_seen s a b = search (rules, the_lemmas)
-
--- a block with a list of durations
-pub rhythm_seen : (s : Spot) (a : Vec Length Global) (b : Vec Item Global)
-    → seen s (code.Rhythm a b) ≡ placed s (tree.rhythm a.items (items_view b.items))
-rhythm_seen s a b = search (rules, the_lemmas)
-
--- a block with a list of articulations
-pub artic_seen : (s : Spot) (a : Vec Number Global) (b : Vec Item Global)
-    → seen s (code.Artic a b) ≡ placed s (tree.artic a.items (items_view b.items))
-artic_seen s a b = search (rules, the_lemmas)
-
--- a block with a list of velocities
-pub loud_seen : (s : Spot) (a : Vec Number Global) (b : Vec Item Global)
-    → seen s (code.Loud a b) ≡ placed s (tree.loud a.items (items_view b.items))
-loud_seen s a b = search (rules, the_lemmas)

@@ -9,6 +9,9 @@ use Rattle.fm_grammar.specs.declared.amount.Amount as code_amount
 use Rattle.fm_grammar.specs.declared.amount.Amount.TheVariants as amounts
 use Rattle.fm_grammar.specs.declared.pitch.Pitch as code_pitch
 use Rattle.fm_grammar.specs.declared.pitch.Pitch.TheVariants as pitches
+use Rattle.fm_grammar.specs.declared.opening.Opening as code_opening
+use Rattle.fm_grammar.specs.declared.opening.Opening.TheVariants as openings
+use Rattle.fm_grammar.specs.declared.head.Head.{Head}
 use Rattle.fm_grammar.specs.declared.item.Item as code_item
 use Rattle.fm_grammar.specs.declared.item.What.TheOpen.{What-F, Item-F}
 use Rattle.fm_grammar.specs.declared.item.What.TheFolds.{fold-Item}
@@ -17,6 +20,8 @@ use Rattle.fm_grammar.specs.declared.entry.Entry.TheVariants as entries
 use Rattle.fm_grammar.specs.declared.score.Score as code_score
 use Rattle.fm_grammar.specs.Score.{Leaf, Postfix, Duration, Amount, Pitch, Stmt, Body, Branches, Entry, Score}
 use Rattle.fm_grammar.specs.Score as tree
+use Rattle.fm_grammar.specs.Opening.{Opening, filled}
+use Rattle.fm_grammar.specs.Opening as opening
 
 -- a name
 abbrev pub name_view : Name → Leaf
@@ -29,17 +34,29 @@ expr_view e = record { nodes = e.nodes.items; spots = e.spots.items }
 -- a duration
 abbrev pub duration_view : code_duration.Duration → Duration
 duration_view (durations.Fixed l) = tree.fixed l
-duration_view (durations.Computed e most) = tree.Duration.computed (expr_view e.value) most
+duration_view (durations.Computed e most) = tree.Duration.computed (expr_view e) most
 
 -- an amount
 abbrev pub amount_view : code_amount.Amount → Amount
 amount_view (amounts.Literal v s) = tree.literal v s
-amount_view (amounts.Computed e) = tree.Amount.computed (expr_view e.value)
+amount_view (amounts.Computed e) = tree.Amount.computed (expr_view e)
 
 -- a pitch
 abbrev pub pitch_view : code_pitch.Pitch → Pitch
 pitch_view (pitches.Named k s) = tree.named k s
 pitch_view (pitches.Key a s) = tree.keyed (amount_view a) s
+
+-- what stands before a block
+abbrev pub opening_view : code_opening.Opening → Opening
+opening_view (openings.Repeat n) = opening.repeat n
+opening_view (openings.Again e n) = opening.again (expr_view e) n
+opening_view (openings.Warp n) = opening.warp (name_view n)
+opening_view (openings.Channel n) = opening.channel n
+opening_view (openings.Volume n) = opening.volume n
+opening_view (openings.Gate n) = opening.gate n
+opening_view (openings.Rhythm ls) = opening.rhythm ls.items
+opening_view (openings.Artic ns) = opening.artic ns.items
+opening_view (openings.Loud ns) = opening.loud ns.items
 
 -- a statement with its spot
 pub record PlacedStmt : Type 0 where
@@ -69,19 +86,11 @@ what_level What-F.Skip = tree.skip
 what_level (What-F.Control c a) = tree.control c (amount_view a)
 what_level (What-F.Program a) = tree.program (amount_view a)
 what_level (What-F.Bend a) = tree.bend (amount_view a)
-what_level (What-F.Set r e) = tree.set r (expr_view e.value)
-what_level (What-F.If e ys ns) = tree.choice (expr_view e.value) (body_of ys.items) (body_of ns.items)
-what_level (What-F.Repeat n b) = tree.repeat n (body_of b.items)
-what_level (What-F.Again e n b) = tree.again (expr_view e.value) n (body_of b.items)
+what_level (What-F.Set r e) = tree.set r (expr_view e)
+what_level (What-F.If e ys ns) = tree.choice (expr_view e) (body_of ys.items) (body_of ns.items)
+what_level (What-F.Block o b) = filled (opening_view o) (body_of b.items)
 what_level (What-F.Do n) = tree.call (name_view n)
 what_level (What-F.Par bs) = tree.par (branches_of (map (λ b. body_of b.items) bs.items))
-what_level (What-F.Warp n b) = tree.warp (name_view n) (body_of b.items)
-what_level (What-F.Channel n b) = tree.channel n (body_of b.items)
-what_level (What-F.Volume n b) = tree.volume n (body_of b.items)
-what_level (What-F.Gate n b) = tree.gate n (body_of b.items)
-what_level (What-F.Rhythm ls b) = tree.rhythm ls.items (body_of b.items)
-what_level (What-F.Artic ns b) = tree.artic ns.items (body_of b.items)
-what_level (What-F.Loud ns b) = tree.loud ns.items (body_of b.items)
 
 -- one level of an item
 abbrev pub item_level : Item-F Stmt PlacedStmt → PlacedStmt
@@ -101,11 +110,10 @@ entry_view (entries.Shape n ps) = tree.shape (name_view n) ps.items
 entry_view (entries.Phrase n b) = tree.phrase (name_view n) (items_view b.items)
 entry_view (entries.Play i) = tree.plays (item_view i).spot (item_view i).what
 
+-- the score with a head and entries
+abbrev pub score_of : Head → List Entry → Score
+score_of h es = record { version = h.version; division = h.division; seed = h.seed; entries = es }
+
 -- a score
 abbrev pub score_view : code_score.Score → Score
-score_view s = record {
-  version = s.version;
-  division = s.division;
-  seed = s.seed;
-  entries = map entry_view s.entries.items;
-}
+score_view s = score_of s.head (map entry_view s.entries.items)

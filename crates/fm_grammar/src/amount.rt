@@ -7,5 +7,5 @@ use fm_value::Expr;
 #[derive(Drop)]
 pub enum Amount {
     Literal { value: i64, spot: Spot },
-    Computed { value: Box<Expr> },
+    Computed { value: Expr },
 }

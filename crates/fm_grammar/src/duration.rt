@@ -9,5 +9,5 @@ use fm_value::Expr;
 pub enum Duration {
     Fixed { length: Length },
     /// As many ticks as the value says, from 0 to `most`.
-    Computed { value: Box<Expr>, most: Number },
+    Computed { value: Expr, most: Number },
 }

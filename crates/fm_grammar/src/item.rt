@@ -2,9 +2,9 @@
 
 use crate::amount::Amount;
 use crate::duration::Duration;
-use crate::length::Length;
 use crate::name::Name;
 use crate::number::Number;
+use crate::opening::Opening;
 use crate::pitch::Pitch;
 use fm_lex::Spot;
 use fm_value::Expr;
@@ -44,20 +44,15 @@ pub enum What<'s> {
     },
     Set {
         register: u8,
-        value: Box<Expr>,
+        value: Expr,
     },
     If {
-        test: Box<Expr>,
+        test: Expr,
         yes: Vec<Item<'s>>,
         no: Vec<Item<'s>>,
     },
-    Repeat {
-        count: Number,
-        body: Vec<Item<'s>>,
-    },
-    Again {
-        count: Box<Expr>,
-        most: Number,
+    Block {
+        opening: Opening<'s>,
         body: Vec<Item<'s>>,
     },
     Do {
@@ -65,33 +60,5 @@ pub enum What<'s> {
     },
     Par {
         branches: Vec<Vec<Item<'s>>>,
-    },
-    Warp {
-        name: Name<'s>,
-        body: Vec<Item<'s>>,
-    },
-    Channel {
-        number: Number,
-        body: Vec<Item<'s>>,
-    },
-    Volume {
-        number: Number,
-        body: Vec<Item<'s>>,
-    },
-    Gate {
-        number: Number,
-        body: Vec<Item<'s>>,
-    },
-    Rhythm {
-        list: Vec<Length>,
-        body: Vec<Item<'s>>,
-    },
-    Artic {
-        list: Vec<Number>,
-        body: Vec<Item<'s>>,
-    },
-    Loud {
-        list: Vec<Number>,
-        body: Vec<Item<'s>>,
     },
 }

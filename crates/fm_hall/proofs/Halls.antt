@@ -5,8 +5,7 @@ use Rattle.std.proofs.lemmas.Bool.{cases_order}
 use Rattle.fm_line.specs.declared.line.Line.{Line}
 use Rattle.fm_line.specs.Line.{line, sum_below, total}
 use Rattle.fm_line.specs.declared.limits.TheConstants.{MAX_EVENTS}
-use Rattle.fm_line.specs.Piece.{piece, Ordered}
-use Rattle.fm_line.proofs.Pieces.{is_piece}
+use Rattle.fm_line.specs.Piece.{Ordered}
 use Rattle.fm_core.specs.Effects.{after}
 use Rattle.fm_core.specs.Giving.{MayGive}
 use Rattle.fm_core.specs.Invariant.{of_process}
@@ -21,6 +20,7 @@ use Rattle.fm_core.proofs.GiveTests.{given_may}
 use Rattle.fm_core.proofs.Keeps.{keeps}
 use Rattle.fm_core.proofs.KeepsRelease.{gather_ordered}
 use Rattle.fm_core.proofs.Opening.{opening_sound}
+use Rattle.fm_core.proofs.OrderlyStates.{orderly}
 use Rattle.fm_core.proofs.Sums.{sum_le, counted}
 use Rattle.fm_hall.specs.Hall.{IsSafe}
 use Rattle.fm_state.specs.Limits.{IsSetting}
@@ -39,16 +39,7 @@ hall_keeps g m s hall allowed = record {
 
 -- a hall is safe
 pub hall_safe : (g : Setting) (m : Stored) → IsHall g m → IsSafe g m.state
-hall_safe g m hall = record {
-  prefix = hall.sound.prefix (piece g.lines) (is_piece g.lines hall.setting.valid.lines);
-  boxed = λ p lt.
-      let few = length-outbox (line g.lines p) (cell m.state p) in
-      let fits = hall.sound.fits p lt in
-      let boxed = fits.boxed in
-      let taken = fits.taken in omega arith;
-  gathered = gather_fits g m.state hall.setting.valid hall.sound;
-  led = hall.sound.led;
-}
+hall_safe g m hall = record { orderly = orderly g m.state hall.setting.valid hall.sound; led = hall.sound.led }
 
 -- the opening with its memory is a hall
 pub hall_opens : (g : Setting) (seats : ℕ) → IsSetting g → 0 < seats

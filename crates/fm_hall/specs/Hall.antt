@@ -1,9 +1,8 @@
 -- What contracts see of a hall, and what a step answers and leaves.
-use Rattle.std.specs.Prelude.{◌≡◌, ℕ, ◌+◌, ◌*◌, ◌<◌, ◌≤◌, length, Option, Some, None}
+use Rattle.std.specs.Prelude.{◌≡◌, ℕ, ◌+◌, ◌<◌, ◌≤◌, length, Option, Some, None}
 use Rattle.fm_line.specs.Line.{line, upper}
-use Rattle.fm_line.specs.Piece.{IsPrefix, piece}
 use Rattle.fm_core.specs.State.{Setting, State, cell}
-use Rattle.fm_core.specs.Taking.{outbox}
+use Rattle.fm_core.specs.Orderly.{IsOrderly}
 use Rattle.fm_core.specs.declared.floor.Floor.TheVariants.{At}
 use Rattle.fm_core.specs.Effects.{after}
 use Rattle.fm_core.specs.declared.reason.Reason.{Reason}
@@ -25,11 +24,8 @@ answer (Some reason) = Refused reason
 abbrev pub stepped : HallState → Step → HallState
 stepped hall step = record hall { state = after hall.setting hall.state step }
 
--- what a hall keeps whatever its seats do: what is released is a beginning of the piece, no outbox passes the room,
--- the gather is at most processes times room, and nothing is computed above the floor plus the lead
+-- what a hall keeps whatever its seats do: its state is orderly, and nothing is computed above the floor plus the lead
 pub record IsSafe (g : Setting) (h : State) : Type 0 where
-  pub prefix : IsPrefix h.released (piece g.lines)
-  pub boxed : (p : ℕ) → p < length h.cells → length (outbox (line g.lines p) (cell h p)) ≤ g.room
-  pub gathered : length h.gather ≤ length h.cells * g.room
+  pub orderly : IsOrderly g h
   pub led : (f p k : ℕ) → h.floor ≡ At f → p < length h.cells → k < (cell h p).computed
       → upper (line g.lines p) k ≤ f + g.lead

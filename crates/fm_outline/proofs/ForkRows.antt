@@ -8,15 +8,16 @@ use Rattle.fm_outline.specs.declared.step.Instruction.TheVariants as leaf
 use Rattle.fm_outline.specs.declared.lasting.Lasting.TheVariants as lasting
 use Rattle.fm_outline.specs.View.{Look, step_view}
 use Rattle.fm_outline.specs.Forking.{IsMarked}
+use Rattle.fm_outline.specs.Needs.{nothing}
 use Rattle.fm_outline.proofs.ForkLemmas.{says}
 
 -- a rest that says so much of itself
 abbrev rest : Spot → Bool → Step
-rest at b = record { spot = at; forks = b; what = leaf.Rest lasting.Beat }
+rest at b = record { spot = at; what = leaf.Rest lasting.Beat; needs = record nothing { forks = b } }
 
 -- a fork that says so much of itself
 abbrev fork : Spot → Bool → Vec (Vec Step Global) Global → Step
-fork at b bs = record { spot = at; forks = b; what = code.Par bs }
+fork at b bs = record { spot = at; what = code.Par bs; needs = record nothing { forks = b } }
 
 rest_forks : (look : Look) (at : Spot) (b : Bool) → forks (step_view look (rest at b)).what ≡ false
 rest_forks look at b = search (rules, the_lemmas)

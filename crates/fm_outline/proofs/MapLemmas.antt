@@ -1,5 +1,6 @@
 -- A list that is mapped, one entry at a time.
-use Rattle.std.proofs.Common.{◌≡◌, ℕ, ◌+◌, ◌<◌, ◌≤◌, List, [], ◌∷◌, ◌++◌, map, take, length, get_or, ap, sym, ◌∙◌}
+use Rattle.std.proofs.Common.{◌≡◌, ℕ, zero, suc, ◌+◌, ◌<◌, ◌≤◌, List, [], ◌∷◌, ◌++◌, map, take, length, get_or, ap, sym, ◌∙◌, arith}
+use Rattle.std.specs.Prelude.{slice_index_or}
 use Rattle.std.proofs.lemmas.List.{map-append, take_more, take_all}
 
 -- one entry more is taken
@@ -27,3 +28,10 @@ mapped_more f xs i d entries grown within so_far pushed =
 pub mapped_end : {A B : Type 0} (f : A → B) (xs : List A) (i : ℕ) (entries : List B) → length xs ≤ i
     → entries ≡ map f (take i xs) → entries ≡ map f xs
 mapped_end f xs i entries past so_far = so_far ∙ ap (map f) (take_all i xs past)
+
+-- an element of a mapped list
+pub map_at : {A B : Type 0} (f : A → B) (xs : List A) (n : ℕ) (x : A) (d : B) → n < length xs → x ≡ slice_index_or xs n x
+    → slice_index_or (map f xs) n d ≡ f x
+map_at f [] n x d within is = absurd (omega (arith, within))
+map_at f (y ∷ ys) zero x d within is = ap f (sym is)
+map_at f (y ∷ ys) (suc n) x d within is = map_at f ys n x d (omega (arith, within)) is

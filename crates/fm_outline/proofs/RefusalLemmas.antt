@@ -1,7 +1,6 @@
 -- What a refusal tells.
 use Rattle.std.proofs.Common.{◌≡◌, List, [], ◌∷◌, ◌++◌, ◌∙◌, sym, ap, refl, Option, Some, None, Result, Ok, Err, IsErrAnd, subst}
-use Rattle.std.specs.Prelude.{⊤, IfOk, IfErr}
-use Rattle.std.specs.declared.alloc.AllocError.{AllocError}
+use Rattle.std.specs.Prelude.{IfOk, ⊤}
 use Rattle.fm_lex.specs.declared.spot.Spot.{Spot}
 use Rattle.fm_meaning.specs.Fault.{NumberedFault}
 use Rattle.fm_meaning.specs.Faults.{first_found}
@@ -10,8 +9,8 @@ use Rattle.fm_rules.specs.Why.{fault_at}
 use Rattle.fm_rules.specs.declared.why.Why.{Why}
 use Rattle.fm_rules.specs.declared.fault.Fault.{Fault}
 use Rattle.fm_rules.specs.declared.fault.CheckFault.{CheckFault}
-use Rattle.fm_rules.specs.declared.fault.CheckFault.TheVariants.{Refused, Memory}
-use Rattle.fm_outline.specs.Refusal.{answer_of, memory_answer, Told, Tells}
+use Rattle.fm_rules.specs.declared.fault.CheckFault.TheVariants.{Refused}
+use Rattle.fm_outline.specs.Refusal.{answer_of, Told}
 
 -- what `?` hands on is what it was given
 pub handed : {A B E : Type 0} {r : Result A E} {e f : E} → r ≡ Err f → IsErrAnd r (λ y. y ≡ e)
@@ -48,43 +47,12 @@ failed (Ok y) e fs answer first why spot is = cc
 failed (Err f) e fs answer first why spot is =
     let told : Refused f.why f.spot ≡ Refused why spot = cc in sym first ∙ ap told_by told
 
--- of a statement without a fault, what holds of all that was made holds of the answer
-pub made_tells : {A : Type 0} {P Q : A → Type 0} {r : Result A CheckFault} (fs : List NumberedFault) (m : Result A AllocError)
-    → r ≡ memory_answer m → first_found fs ≡ None → IfOk m P → ((x : A) → P x → Q x) → Tells fs Q r
-made_tells {Q = Q} fs (Ok x) is none given more = subst (Tells fs Q) (sym is) (none, more x given)
-made_tells {Q = Q} fs (Err e) is none given more = subst (Tells fs Q) (sym is) tt
-
--- what `?` hands on tells the same, where the same fault is the first of others
-pub handed_tells : {B : Type 0} (fs gs : List NumberedFault) (Q : B → Type 0) (r : Result B CheckFault) (e : CheckFault)
-    → IsErrAnd r (λ y. y ≡ e) → Told fs e → ((f : NumberedFault) → first_found fs ≡ Some f → first_found gs ≡ Some f)
-    → Tells gs Q r
-handed_tells fs gs Q (Ok x) e is told more = absurd is
-handed_tells fs gs Q (Err y) (Refused why spot) is told more = subst (Told gs) (sym is) (more (fault_at spot why) told)
-handed_tells fs gs Q (Err y) Memory is told more = subst (Told gs) (sym is) tt
-
--- what `?` hands on tells what it was given, and is no other answer
-pub handed_told : {B : Type 0} (fs : List NumberedFault) (r : Result B CheckFault) (e : CheckFault) → IsErrAnd r (λ y. y ≡ e)
-    → Told fs e → IfErr r (Told fs)
-handed_told fs (Ok x) e is told = tt
-handed_told fs (Err y) e is told = subst (Told fs) (sym is) told
-
-pub handed_none : {B : Type 0} (P : B → Type 0) (r : Result B CheckFault) (e : CheckFault) → IsErrAnd r (λ y. y ≡ e) → IfOk r P
-handed_none P (Ok x) e is = absurd is
-handed_none P (Err y) e is = tt
-
 -- a check that finds a fault
 pub checked_tells : {e : CheckFault} (r : Result ⊤ Fault) (fs : List NumberedFault)
     → Err e ≡ answer_of r → found r ≡ first_found fs → Told fs e
 checked_tells (Ok y) fs answer first = cc
 checked_tells {e} (Err f) fs answer first =
     let same : e ≡ Refused f.why f.spot = cc in subst (Told fs) (sym same) (sym first)
-
--- the fault that `?` hands on
-pub refused_tells : {B : Type 0} {why : Why} {spot : Spot} (r : Result B CheckFault) (fs : List NumberedFault) (e : CheckFault)
-    → Told fs e → r ≡ Err (Refused why spot) → IsErrAnd r (λ y. y ≡ e) → first_found fs ≡ Some (fault_at spot why)
-refused_tells (Ok x) fs e told is handed = absurd handed
-refused_tells {why = why} {spot = spot} (Err y) fs e told is handed =
-    let same : e ≡ Refused why spot = cc in subst (Told fs) same told
 
 -- faults behind none
 pub behind : (fs gs : List NumberedFault) → None ≡ first_found fs → first_found (fs ++ gs) ≡ first_found gs

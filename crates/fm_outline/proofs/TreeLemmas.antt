@@ -1,15 +1,21 @@
--- A tree that is reported statement by statement.
+-- A tree that is told statement by statement.
 use Rattle.std.proofs.Common.{◌≡◌, ℕ, ◌+◌, ◌<◌, ◌≤◌, List, [], ◌∷◌, ◌++◌, ◌∙◌, map, drop, length, get_or, sym, ap, refl, subst, append-nil, append_assoc, drop_of_length-le, Vec, Global}
 use Rattle.std.specs.Prelude.{vec_items}
 use Rattle.std.proofs.lemmas.List.{map-append}
 use Rattle.fm_grammar.specs.declared.item.Item.{Item}
+use Rattle.fm_grammar.specs.declared.item.What.{What}
 use Rattle.fm_grammar.specs.Making.{AreMade, AreForked}
 use Rattle.fm_grammar.specs.Score as text
 use Rattle.fm_grammar.specs.View.{item_view, items_view, branches_of}
+use Rattle.fm_grammar.proofs.StatementViews.{seen}
 use Rattle.fm_outline.specs.declared.outliner.Outliner.{Outliner}
 use Rattle.fm_outline.specs.declared.step.Step.{Step}
 use Rattle.fm_outline.specs.Outlining.{IsOutlined}
 use Rattle.fm_outline.proofs.GrowingLemmas.{items_from, arms_from}
+
+-- a statement of the code of a known kind
+pub of_kind : (i : Item) (w : What) → i.what ≡ w → item_view i ≡ seen i.spot w
+of_kind i w is = ap (λ (x : What). seen i.spot x) is
 
 -- what is made of all statements, with what is made of those from one on
 abbrev pub ItemsSoFar : Outliner → List Item → ℕ → List Step → Outliner → Type 0

@@ -18,7 +18,6 @@ use Rattle.fm_meaning.specs.Faults.{first_found}
 use Rattle.fm_meaning.specs.Ranges.{Names, stmt_faults, body_faults, double_faults, each_faults, part_faults, part_length, length_spot, head_faults, entries_faults, second_walk}
 use Rattle.fm_meaning.specs.Rules.{score_rules}
 use Rattle.fm_expansion.specs.Outline as plain
-use Rattle.fm_expansion.specs.Emission.{forks_in}
 use Rattle.fm_expansion.specs.Numbering.{Catalogue, numbered, instruction_of, block_of, outline, outline_from, warp_added, no_tables}
 use Rattle.fm_outline.specs.declared.known.Known.{Known}
 use Rattle.fm_outline.specs.declared.known.Meaning.{Meaning}
@@ -26,15 +25,19 @@ use Rattle.fm_outline.specs.declared.known.Meaning.TheVariants.{Shape, Phrase}
 use Rattle.fm_outline.specs.declared.step.Step.{Step}
 use Rattle.fm_outline.specs.View.{Look, phrase_at, look_in, phrases_view, instruction_view, step_view, block_view}
 use Rattle.fm_outline.specs.Growing.{followed}
+use Rattle.fm_outline.specs.Asking.{BlockAsks}
+use Rattle.fm_outline.specs.declared.needs.Needs.{Needs}
 use Rattle.fm_outline.specs.Knows.{Knows, labels, names_of, phrase_number, shape_index}
 use Rattle.fm_outline.specs.Outlined.{IsStepOf, IsBlockOf}
-use Rattle.fm_outline.specs.Forking.{AreMarked, IsKnownOf}
+use Rattle.fm_outline.specs.Forking.{AreAsking, IsKnownOf, PhrasesAsk, SaysNeeds}
 use Rattle.fm_outline.specs.Walked.{Extends, WalkedBy}
 use Rattle.fm_outline.proofs.NameLemmas.{either_of, either_known, other_kind, double_is, new_behind}
 use Rattle.fm_outline.proofs.PhraseLemmas.{phrases_more}
 use Rattle.fm_outline.proofs.LookLemmas.{phrases_length, extends_less, extends_last}
 use Rattle.fm_outline.proofs.RefusalLemmas.{before, behind, no_first}
-use Rattle.fm_outline.proofs.ForkLemmas.{known_either, more_marked, none_marked, phrases_more_marked}
+use Rattle.fm_outline.proofs.ForkLemmas.{known_either, more_marked, none_marked, phrases_more_ask}
+use Rattle.fm_outline.proofs.AskingLemmas.{body_grown, stmt_grown}
+use Rattle.fm_expansion.proofs.Tables.{Grows, grows_self, grows_then, grows_warp}
 use Rattle.fm_outline.proofs.SeenLemmas.{step_seen}
 use Rattle.fm_outline.proofs.GrowingLemmas.{placed, placed_more}
 
@@ -47,7 +50,7 @@ parts_faults whole parts = each_faults (part_faults whole) (λ p. length_spot (p
 -- before the first entry
 pub begun : (score : text.Score) (known : Known) (t : plain.Tables) → ((q : List ℕ) → named known.names q ≡ None)
     → t ≡ no_tables → known.whole ≡ (score_rules score).whole_note → None ≡ first_found (head_faults score)
-    → known.forking.items ≡ [] → WalkedBy score known [] [] t score.entries
+    → known.needs.items ≡ [] → WalkedBy score known [] [] t score.entries
 begun score known t names empty is clean no_phrases =
     let k : Catalogue = record { whole = (score_rules score).whole_note; shapes = []; phrases = [] } in
     record {
@@ -59,13 +62,14 @@ begun score known t names empty is clean no_phrases =
         phrases = λ q. ap (λ o. phrase_at look (phrase_number o)) (names q);
         is_shape = λ q. ap (λ o. is_some (shape_index o)) (names q);
         is_phrase = λ q. ap (λ o. is_some (phrase_number o)) (names q);
-        forking = λ q. subst (λ o. IsKnownOf known.forking.items look (phrase_number o)) (sym (names q)) tt;
       };
       stand = λ look more. refl;
       so_far = λ look more. ap (outline_from k score.entries) (sym empty);
       as_many = ap length no_phrases;
-      marked = λ look more. none_marked;
-      phrases_marked = λ n within. absurd (omega (arith, within));
+      knows_needs = λ look more v grows q.
+          subst (λ o. IsKnownOf known.needs.items v look (phrase_number o)) (sym (names q)) tt;
+      asking = λ look more v grows. none_marked {P = SaysNeeds v look};
+      phrases_asking = λ v grows n within. absurd (omega (arith, within));
     }
 
 module _ {score : text.Score} {known : Known} {phrases : List (List Step)} {block : List Step} {t : plain.Tables} where
@@ -97,9 +101,17 @@ module _ {score : text.Score} {known : Known} {phrases : List (List Step)} {bloc
         ∙ ap (λ l. followed l (outline_from r.k rest u)) (sym (map-append (step_view look) block (s ∷ [])))
         ∙ ap (λ l. followed (map (step_view look) l) (outline_from r.k rest u)) (sym pushed);
     as_many = r.as_many;
-    marked = λ look more. more_marked block s pushed (r.marked look more) (made.marked r.k look (r.knows look more));
-    phrases_marked = r.phrases_marked;
+    knows_needs = λ look more v grows. r.knows_needs look more v (grows_then t u v (grown look more) grows);
+    asking = λ look more v grows.
+        let later = grows_then t u v (grown look more) grows in
+        more_marked block s pushed (r.asking look more v later)
+        (made.asking r.k look (r.knows look more) v grows (r.knows_needs look more v later));
+    phrases_asking = λ v grows. r.phrases_asking v (grows_then t u v (grown (look_in (phrases_view phrases)) (λ n within. refl)) grows);
   }
+    where
+      grown : (look : Look) → Extends (phrases_view phrases) look → Grows t u
+      grown look more =
+          stmt_grown r.k stmt.what t u (instruction_view look s.what) (made.view r.k look (r.knows look more)).1
 
   -- a shape more
   pub shape_walked : {name : text.Leaf} {parts : List PartText} {rest : List text.Entry} {names : table.Names Meaning}
@@ -108,7 +120,8 @@ module _ {score : text.Score} {known : Known} {phrases : List (List Step)} {bloc
       → warp ≡ map (part_of known.whole) parts → p ≡ length t.warps → u ≡ warp_added warp t
       → ((q : List ℕ) → named names q ≡ cond (bytes_eq q name.text) (Some (Shape p)) (named known.names q))
       → WalkedBy score (record known { names = names }) phrases block u rest
-  shape_walked {name = name} {parts = parts} {rest = rest} p warp r new clean is at added defined =
+  shape_walked {name = name} {parts = parts} {rest = rest} {u = u} p warp r new clean is at added defined =
+      let here : Grows t u = subst (Grows t) (sym added) (grows_warp warp t) in
       let k : Catalogue = record r.k { shapes = named_as name (length t.warps) ∷ r.k.shapes } in
       record {
         k = k;
@@ -136,10 +149,6 @@ module _ {score : text.Score} {known : Known} {phrases : List (List Step)} {bloc
               is_phrase = λ q. ap (λ o. is_some (phrase_number o)) (defined q)
                   ∙ other_kind (λ o. is_some (phrase_number o)) q name.text (Shape p) (named known.names) new refl
                   ∙ knows.is_phrase q;
-              forking = λ q.
-                  subst (IsKnownOf known.forking.items look)
-                  (sym (ap phrase_number (defined q) ∙ other_kind phrase_number q name.text (Shape p) (named known.names) new refl))
-                  (knows.forking q);
             };
         stand = r.stand;
         so_far = λ look more.
@@ -149,19 +158,23 @@ module _ {score : text.Score} {known : Known} {phrases : List (List Step)} {bloc
             ∙ ap (λ w. followed steps (outline_from k rest (warp_added w t))) (sym is)
             ∙ ap (λ w. followed steps (outline_from k rest w)) (sym added);
         as_many = r.as_many;
-        marked = r.marked;
-        phrases_marked = r.phrases_marked;
+        knows_needs = λ look more v grows q.
+            subst (IsKnownOf known.needs.items v look)
+            (sym (ap phrase_number (defined q) ∙ other_kind phrase_number q name.text (Shape p) (named known.names) new refl))
+            (r.knows_needs look more v (grows_then t u v here grows) q);
+        asking = λ look more v grows. r.asking look more v (grows_then t u v here grows);
+        phrases_asking = λ v grows. r.phrases_asking v (grows_then t u v here grows);
       }
 
   -- a phrase more
   pub phrase_walked : {name : text.Leaf} {body : text.Body} {rest : List text.Entry} {names : table.Names Meaning}
-      {forking : Vec Bool Global} {grown : List (List Step)} (u : plain.Tables) (p : ℕ) (steps : List Step) (b : Bool)
+      {asked : Vec Needs Global} {grown : List (List Step)} (u : plain.Tables) (p : ℕ) (steps : List Step) (b : Needs)
       → WalkedBy score known phrases block t (text.phrase name body ∷ rest) → named known.names name.text ≡ None
       → p ≡ length phrases → grown ≡ phrases ++ steps ∷ []
       → ((q : List ℕ) → named names q ≡ cond (bytes_eq q name.text) (Some (Phrase p)) (named known.names q))
-      → IsBlockOf known t body steps u → forking.items ≡ known.forking.items ++ b ∷ []
-      → ((look : Look) → AreMarked look steps → b ≡ forks_in (block_view look steps))
-      → WalkedBy score (record known { names = names; forking = forking }) grown block u rest
+      → IsBlockOf known t body steps u → asked.items ≡ known.needs.items ++ b ∷ []
+      → ((v : plain.Tables) (look : Look) → AreAsking v look steps → BlockAsks v (block_view look steps) b)
+      → WalkedBy score (record known { names = names; needs = asked }) grown block u rest
   phrase_walked {name = name} {body = body} {rest = rest} {names = names} {grown = grown} u p steps b r new at pushed defined made
       flagged says =
       let blocks = phrases_view phrases in
@@ -175,6 +188,12 @@ module _ {score : text.Score} {known : Known} {phrases : List (List Step)} {bloc
       let all : phrases_view grown ≡ blocks ++ last ∷ [] = ap phrases_view pushed ∙ phrases_more [] phrases steps in
       let fewer : (look : Look) → Extends (phrases_view grown) look → Extends blocks look
       = λ look more. extends_less blocks last look (subst (λ bs. Extends bs look) all more) in
+      let found : (look : Look) → Extends (phrases_view grown) look → look p ≡ value
+      = λ look more.
+      ap look (at ∙ sym (phrases_length phrases))
+      ∙ extends_last blocks last look (subst (λ bs. Extends bs look) all more) ∙ last_is in
+      let later : (v : plain.Tables) → Grows u v → Grows t v
+      = λ v grows. grows_then t u v (body_grown r.k body t u last (here (look_in blocks) itself)) grows in
       record {
         k = k;
         first =
@@ -184,9 +203,6 @@ module _ {score : text.Score} {known : Known} {phrases : List (List Step)} {bloc
             (sym (new_behind name (body_faults (names_of r.k) body) knows new ∙ (made.view r.k _ knows).0));
         knows = λ look more.
             let knows = r.knows look (fewer look more) in
-            let found : look p ≡ value
-            = ap look (at ∙ sym (phrases_length phrases))
-            ∙ extends_last blocks last look (subst (λ bs. Extends bs look) all more) ∙ last_is in
             record {
               whole = knows.whole;
               shapes = λ q.
@@ -196,7 +212,7 @@ module _ {score : text.Score} {known : Known} {phrases : List (List Step)} {bloc
               phrases = λ q.
                   ap (λ o. phrase_at look (phrase_number o)) (defined q)
                   ∙ either_of (λ o. phrase_at look (phrase_number o)) (bytes_eq q name.text) (Phrase p)
-                  (named known.names q) value (meaning_of q plain.done r.k.phrases) found (knows.phrases q);
+                  (named known.names q) value (meaning_of q plain.done r.k.phrases) (found look more) (knows.phrases q);
               is_shape = λ q.
                   ap (λ o. is_some (shape_index o)) (defined q)
                   ∙ other_kind (λ o. is_some (shape_index o)) q name.text (Phrase p) (named known.names) new refl
@@ -205,13 +221,6 @@ module _ {score : text.Score} {known : Known} {phrases : List (List Step)} {bloc
                   ap (λ o. is_some (phrase_number o)) (defined q)
                   ∙ either_known (λ o. is_some (phrase_number o)) (bytes_eq q name.text) (Phrase p) (named known.names q)
                   (list_any (bytes_eq q) (labels r.k.phrases)) refl (knows.is_phrase q);
-              forking = λ q.
-                  let fs = known.forking.items in
-                  let own : b ≡ forks_in (look p)
-                  = says look (made.marked r.k look knows) ∙ ap forks_in (ap (λ x. x.value) (here look (fewer look more)) ∙ sym found) in
-                  subst (λ l. IsKnownOf l look (phrase_number (named names q))) (sym flagged)
-                  (subst (λ o. IsKnownOf (fs ++ b ∷ []) look (phrase_number o)) (sym (defined q))
-                  (known_either look fs b p (bytes_eq q name.text) (named known.names q) (at ∙ sym r.as_many) own (knows.forking q)));
             };
         stand = λ look more.
             let same : last ≡ block_view look steps
@@ -226,10 +235,21 @@ module _ {score : text.Score} {known : Known} {phrases : List (List Step)} {bloc
             (sym (ap (λ x. x.tables) (here look (fewer look more))));
         as_many =
             ap length flagged
-            ∙ omega (arith, length-append known.forking.items (b ∷ []), length-append phrases (steps ∷ []), r.as_many, ap length pushed);
-        marked = λ look more. r.marked look (fewer look more);
-        phrases_marked =
-            phrases_more_marked phrases steps pushed r.phrases_marked (made.marked r.k _ (knows_here r));
+            ∙ omega (arith, length-append known.needs.items (b ∷ []), length-append phrases (steps ∷ []), r.as_many, ap length pushed);
+        knows_needs = λ look more v grows q.
+            let fs = known.needs.items in
+            let knows = r.knows look (fewer look more) in
+            let needs = r.knows_needs look (fewer look more) v (later v grows) in
+            let own : BlockAsks v (look p) b
+            = subst (λ x. BlockAsks v x b) (ap (λ x. x.value) (here look (fewer look more)) ∙ sym (found look more))
+            (says v look (made.asking r.k look knows v grows needs)) in
+            subst (λ l. IsKnownOf l v look (phrase_number (named names q))) (sym flagged)
+            (subst (λ o. IsKnownOf (fs ++ b ∷ []) v look (phrase_number o)) (sym (defined q))
+            (known_either v look fs b p (bytes_eq q name.text) (named known.names q) (at ∙ sym r.as_many) own (needs q)));
+        asking = λ look more v grows. r.asking look (fewer look more) v (later v grows);
+        phrases_asking = λ v grows.
+            phrases_more_ask v phrases steps pushed (r.phrases_asking v (later v grows))
+            (made.asking r.k _ (knows_here r) v grows (r.knows_needs _ itself v (later v grows)));
       }
 
   -- ---- entries with a fault
@@ -271,10 +291,14 @@ module _ {score : text.Score} {known : Known} {phrases : List (List Step)} {bloc
   pub ends_faultless : WalkedBy score known phrases block t [] → second_walk score ≡ []
   ends_faultless r = no_first (second_walk score) (sym r.first)
 
-  -- each statement says whether it forks
-  pub ends_marked : {rest : List text.Entry} → WalkedBy score known phrases block t rest
-      → AreMarked (look_in (phrases_view phrases)) block
-  ends_marked r = r.marked (look_in (phrases_view phrases)) (λ n within. refl)
+  -- each statement says rightly what it asks
+  pub ends_asking : {rest : List text.Entry} → WalkedBy score known phrases block t rest
+      → AreAsking t (look_in (phrases_view phrases)) block
+  ends_asking r = r.asking (look_in (phrases_view phrases)) (λ n within. refl) t (grows_self t)
+
+  -- and so do those of the phrases
+  pub ends_phrases : {rest : List text.Entry} → WalkedBy score known phrases block t rest → PhrasesAsk t phrases
+  ends_phrases r = r.phrases_asking t (grows_self t)
 
   -- what was made is the outline
   pub ends_as_outline : WalkedBy score known phrases block t []

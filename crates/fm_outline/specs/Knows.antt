@@ -9,7 +9,7 @@ use Rattle.fm_meaning.specs.Resolve.{Named, meaning_of}
 use Rattle.fm_rules.specs.declared.fault.CheckFault.{CheckFault}
 use Rattle.fm_rules.specs.declared.fault.CheckFault.TheVariants.{Refused}
 use Rattle.fm_rules.specs.declared.why.Why.TheVariants.{DoubleName, UnknownName}
-use Rattle.fm_expansion.specs.Outline.{done}
+use Rattle.fm_expansion.specs.Outline.{done, Tables}
 use Rattle.fm_expansion.specs.Numbering.{Catalogue}
 use Rattle.fm_outline.specs.declared.known.Known.{Known}
 use Rattle.fm_outline.specs.declared.known.Meaning.{Meaning}
@@ -45,8 +45,7 @@ labels ds = map (λ d. d.name) ds
 abbrev pub names_of : Catalogue → Names
 names_of k = record { whole = k.whole; shapes = labels k.shapes; phrases = labels k.phrases }
 
--- a whole note has as many ticks, each name stands for the same, the same names are known, and of each phrase it is
--- known whether it forks
+-- a whole note has as many ticks, each name stands for the same, and the same names are known
 pub record Knows (known : Known) (look : Look) (k : Catalogue) : Type 0 where
   pub whole : k.whole ≡ known.whole
   pub shapes : (name : List ℕ) → unwrap_or (shape_index (named known.names name)) 0 ≡ meaning_of name 0 k.shapes
@@ -56,4 +55,8 @@ pub record Knows (known : Known) (look : Look) (k : Catalogue) : Type 0 where
       → is_some (shape_index (named known.names name)) ≡ list_any (bytes_eq name) (labels k.shapes)
   pub is_phrase : (name : List ℕ)
       → is_some (phrase_number (named known.names name)) ≡ list_any (bytes_eq name) (labels k.phrases)
-  pub forking : (name : List ℕ) → IsKnownOf known.forking.items look (phrase_number (named known.names name))
+
+-- of each phrase it is known what it asks, where the tables are these
+abbrev pub KnowsNeeds : Known → Tables → Look → Type 0
+KnowsNeeds known t look =
+    (name : List ℕ) → IsKnownOf known.needs.items t look (phrase_number (named known.names name))

@@ -2,8 +2,8 @@
 use Rattle.std.specs.Prelude.{◌≡◌, ℕ, List, [], map, vec_items, slice_index_or}
 use Rattle.fm_outline.specs.declared.step.Step.{Step}
 use Rattle.fm_outline.specs.declared.outline.Outline.{Outline}
-use Rattle.fm_outline.specs.View.{look_of, block_view}
-use Rattle.fm_outline.specs.Forking.{AreMarked, PhrasesMarked}
+use Rattle.fm_outline.specs.View.{look_of, block_view, tables_view}
+use Rattle.fm_outline.specs.Forking.{AreAsking, AreMarked, PhrasesAsk, PhrasesMarked}
 
 -- the statements of a phrase, none where there is no phrase of the number
 abbrev pub phrase_steps : Outline → ℕ → List Step
@@ -18,3 +18,8 @@ pub record PhrasesStand (o : Outline) : Type 0 where
 pub record ForksMarked (o : Outline) : Type 0 where
   pub block : AreMarked (look_of o) o.block.items
   pub phrases : PhrasesMarked (map vec_items o.phrases.items)
+
+-- each statement says rightly what it asks
+pub record NeedsMarked (o : Outline) : Type 0 where
+  pub block : AreAsking (tables_view o.tables) (look_of o) o.block.items
+  pub phrases : PhrasesAsk (tables_view o.tables) (map vec_items o.phrases.items)

@@ -9,14 +9,15 @@ use Rattle.fm_meaning.specs.Ranges.{entries_faults, second_walk}
 use Rattle.fm_rules.specs.Why.{fault_at}
 use Rattle.fm_rules.specs.declared.why.Why.{Why}
 use Rattle.fm_expansion.specs.Outline as plain
+use Rattle.fm_expansion.proofs.Tables.{Grows}
 use Rattle.fm_expansion.specs.Numbering.{Catalogue, outline, outline_from}
 use Rattle.fm_outline.specs.declared.known.Known.{Known}
 use Rattle.fm_outline.specs.declared.step.Step.{Step}
 use Rattle.fm_outline.specs.declared.walk.Walk.{Walk}
 use Rattle.fm_outline.specs.View.{Look, look_in, phrases_view, step_view, block_view, tables_view}
 use Rattle.fm_outline.specs.Growing.{followed}
-use Rattle.fm_outline.specs.Knows.{Knows, names_of}
-use Rattle.fm_outline.specs.Forking.{AreMarked, PhrasesMarked}
+use Rattle.fm_outline.specs.Knows.{Knows, KnowsNeeds, names_of}
+use Rattle.fm_outline.specs.Forking.{AreAsking, PhrasesAsk}
 use Rattle.fm_outline.specs.Outlined.{IsStepOf, IsBlockOf}
 
 -- these phrases stand for what they are, whatever phrases are behind them
@@ -33,9 +34,12 @@ pub record WalkedBy (score : text.Score) (known : Known) (phrases : List (List S
       → phrases_view phrases ≡ map (block_view look) phrases
   pub so_far : (look : Look) → Extends (phrases_view phrases) look
       → outline score ≡ followed (map (step_view look) block) (outline_from k rest tables)
-  pub as_many : length known.forking.items ≡ length phrases
-  pub marked : (look : Look) → Extends (phrases_view phrases) look → AreMarked look block
-  pub phrases_marked : PhrasesMarked phrases
+  pub as_many : length known.needs.items ≡ length phrases
+  pub knows_needs : (look : Look) → Extends (phrases_view phrases) look → (v : plain.Tables) → Grows tables v
+      → KnowsNeeds known v look
+  pub asking : (look : Look) → Extends (phrases_view phrases) look → (v : plain.Tables) → Grows tables v
+      → AreAsking v look block
+  pub phrases_asking : (v : plain.Tables) → Grows tables v → PhrasesAsk v phrases
 
 -- the same of the walk
 abbrev pub Walked : text.Score → Walk → List text.Entry → Type 0

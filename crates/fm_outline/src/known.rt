@@ -5,6 +5,7 @@ ghost use Rattle.fm_grammar.specs.View.{name_view};
 ghost use Rattle.fm_names.specs.Named.{named};
 ghost use Rattle.fm_outline.specs.Knows.{new_or_told, number_or_told, shape_index, phrase_number};
 
+use crate::needs::Needs;
 use fm_grammar::Name;
 use fm_names::Names;
 use fm_rules::{CheckFault, Why};
@@ -18,13 +19,12 @@ pub(crate) enum Meaning {
     Phrase { number: u32 },
 }
 
-/// The ticks of a whole note, what each name stands for, and, by its number, whether a phrase
-/// forks.
+/// The ticks of a whole note, what each name stands for, and, by its number, what a phrase asks.
 #[derive(Drop)]
 pub(crate) struct Known<'s> {
     pub(crate) whole: u32,
     pub(crate) names: Names<'s, Meaning>,
-    pub(crate) forking: Vec<bool>,
+    pub(crate) needs: Vec<Needs>,
 }
 
 impl<'s> Known<'s> {

@@ -6,29 +6,38 @@
 //! its number.
 #![tactic(auto)]
 
-mod begun;
-mod fork;
+mod asking;
+mod copying;
+mod depths;
+mod indices;
 mod known;
 mod lasting;
 mod leaf;
+mod needs;
 mod number;
+mod opened;
+mod opening;
 mod outline;
 mod outliner;
+mod own;
 mod quality;
 mod refusal;
 mod shell;
 mod sketch;
-mod statement;
 mod step;
 mod tables;
 mod tree;
 mod value;
 mod walk;
 
-pub use begun::Begun;
+pub use asking::steps_ask;
+pub use depths::{Depths, MAX_BLOCKS, MAX_FRAMES, MAX_WARPS, nothing_open, opened_by};
 pub use lasting::Lasting;
+pub use needs::{Needs, no_needs};
+pub use opened::{Opened, Tested};
 pub use outline::Outline;
 pub use outliner::Outliner;
+pub use own::{opens, own_needs};
 pub use quality::Quality;
 pub use step::{Instruction, Step};
 pub use tables::Tables;

@@ -1,34 +1,41 @@
 //! The outline of a score, made while its text is read.
 
-ghost use Rattle.std.specs.Prelude.{◌≡◌, [], IfOk, OnOk, Some, map, vec_items};
-ghost use Rattle.fm_grammar.specs.Making.{AreForked, AreMade, HasOneBlock, filled_at};
-ghost use Rattle.fm_grammar.specs.Score.{Body, Branches, Postfix, Score as Tree};
-ghost use Rattle.fm_grammar.specs.Score.{choice, par, phrase, shape};
-ghost use Rattle.fm_grammar.specs.View.{PlacedStmt, item_view, name_view, placed, score_view};
+ghost use Rattle.std.specs.Prelude.{◌≡◌, [], IfOk, OnOk, Some, None, map, vec_items};
+ghost use Rattle.fm_grammar.specs.Making.{AreForked, AreMade};
+ghost use Rattle.fm_grammar.specs.Opening.{Opening as Before, filled};
+ghost use Rattle.fm_grammar.specs.Score.{Body, Branches, Postfix, Score as Tree, Stmt};
+ghost use Rattle.fm_grammar.specs.Score.{choice, par, phrase};
+ghost use Rattle.fm_grammar.specs.View.{PlacedStmt, name_view, placed, score_of};
 ghost use Rattle.fm_meaning.specs.Faults.{first_found};
 ghost use Rattle.fm_meaning.specs.Ranges.{second_walk};
 ghost use Rattle.fm_meaning.specs.Resolve.{resolved};
 ghost use Rattle.fm_rules.specs.Why.{fault_at};
+ghost use Rattle.fm_expansion.specs.Numbering.{Catalogue};
+ghost use Rattle.fm_expansion.specs.Outline.{Tables as PlainTables};
 ghost use Rattle.fm_outline.specs.declared.outliner.Outliner.{Outliner};
+ghost use Rattle.fm_outline.specs.Answered.{Answers};
+ghost use Rattle.fm_outline.specs.Forking.{CanMark, MarksStep};
+ghost use Rattle.fm_outline.specs.Knows.{Knows, KnowsNeeds};
 ghost use Rattle.fm_outline.specs.OfScore.{IsOutlineOf, passage_of_outline};
-ghost use Rattle.fm_outline.specs.Outlining.{GoesOn, IsBegun, IsEntered, IsOutlined};
-ghost use Rattle.fm_outline.specs.Outlining.{IsNamed, SoFar};
+ghost use Rattle.fm_outline.specs.Outlining.{IsEntered, IsNamed, IsOpened, IsOutlined};
+ghost use Rattle.fm_outline.specs.Outlining.{IsTested, SoFar, with_tables};
 ghost use Rattle.fm_outline.specs.Phrases.{PhrasesStand};
 ghost use Rattle.fm_outline.specs.Refusal.{Refuses};
-ghost use Rattle.fm_outline.specs.Sketched.{head_of};
+ghost use Rattle.fm_outline.specs.View.{Look, tables_view};
 
-use crate::begun::{Beginning, Begun};
-use crate::fork::step_at;
-use crate::leaf::skip;
+use crate::asking::{beat_at, step_at};
+use crate::leaf;
+use crate::opened::{Opened, Tested};
+use crate::opening::{outline_opening, outline_test};
 use crate::outline::Outline;
 use crate::refusal::{answered, lacking};
 use crate::sketch::Sketch;
-use crate::statement::{outline_opening, outline_step};
 use crate::step::{Instruction, Step};
-use fm_grammar::{Item, Maker, Name, PartText, Score};
+use fm_grammar::{Amount, Duration, Head, Maker, Name, Number, Opening, PartText, Pitch};
 use fm_lex::Spot;
 use fm_ranges::check_head;
 use fm_rules::CheckFault;
+use fm_value::Expr;
 use std::alloc::Global;
 
 /// The outline of a score as far as it was told. It remembers its first fault, and ignores what it
@@ -41,11 +48,11 @@ pub struct Outliner<'s> {
 
 impl<'s> Outliner<'s> {
     /// Begins with the head of a score. No entry of the score is read.
-    pub fn open(alloc: Global, score: &Score) -> Outliner<'s>
-        ensures { SoFar result (head_of (score_view score.now)) }
+    pub fn open(alloc: Global, head: Head) -> Outliner<'s>
+        ensures { SoFar result (score_of head []) }
     {
-        let fault = answered(check_head(score)).err();
-        let sketch = Sketch::begin(alloc, score);
+        let fault = answered(check_head(head)).err();
+        let sketch = Sketch::begin(alloc, head);
         Outliner { sketch, fault }
     }
 
@@ -65,130 +72,194 @@ impl<'s> Outliner<'s> {
         }
     }
 
-    // Remembers want of memory, where there is no fault before it.
-    fn lack(&mut self)
-        ensures { GoesOn ⊥ (λ e. e ≡ CheckFault.Memory) self.old.fault self.new.fault }
+    // A statement at its spot, from what is known so far.
+    fn step(&self, spot: Spot, what: Instruction) -> Step
+        ensures spot { result.spot ≡ spot }
+        ensures what { result.what ≡ what }
+        ensures asking { MarksStep (tables_view self.now.sketch.walk.tables)
+            self.now.sketch.walk.known.needs.items what result }
     {
-        if self.fault.is_none() {
-            self.fault = Some(CheckFault::Memory);
-        }
+        let walk = &self.sketch.walk;
+        step_at(spot, what, &walk.known.needs, &walk.tables)
     }
 
-    /// A statement without a block, or a rest in its place behind a fault.
-    pub(crate) fn outlined(&mut self, alloc: Global, item: &Item) -> Step
-        ensures { IsOutlined self.old (item_view item.now) result self.new }
+    // The step of a statement without a block, or its fault. A rest stands in the place of one that
+    // is not outlined.
+    fn finish(&mut self, spot: Spot, made: Result<Instruction, CheckFault>) -> Step
+        ensures { (before : Outliner) (stmt : Stmt) →
+            before.fault ≡ None → self.old.fault ≡ None →
+            self.old.sketch ≡ with_tables before.sketch self.old.sketch.walk.tables →
+            ((k : Catalogue) (look : Look) → Knows before.sketch.walk.known look k →
+            Answers k look stmt (tables_view before.sketch.walk.tables)
+            (tables_view self.old.sketch.walk.tables) made) →
+            ((look : Look) (v : PlainTables) → KnowsNeeds before.sketch.walk.known v look →
+            IfOk made (CanMark before.sketch.walk.known.needs.items v look)) →
+            IsOutlined before (placed spot stmt) result self.new }
     {
-        match self.fault {
-            None => {
-                let walk = &mut self.sketch.walk;
-                match outline_step(alloc, item, &walk.known, &mut walk.tables) {
-                    Ok(step) => step,
-                    Err(fault) => {
-                        self.fault = Some(fault);
-                        nothing_at(item.spot)
-                    }
-                }
+        match made {
+            Ok(what) => self.step(spot, what),
+            Err(fault) => {
+                self.fault = Some(fault);
+                beat_at(spot)
             }
-            Some(_) => nothing_at(item.spot),
         }
-    }
-
-    /// What a statement says before its blocks, whatever stands in them.
-    pub(crate) fn begun(&mut self, alloc: Global, item: &Item) -> Begun
-        ensures { IsBegun self.old (item_view item.now) result self.new }
-    {
-        let spot = item.spot;
-        let opening = match self.fault {
-            None => {
-                let walk = &mut self.sketch.walk;
-                match outline_opening(alloc, item, &walk.known, &mut walk.tables) {
-                    Ok(opening) => opening,
-                    Err(fault) => {
-                        self.fault = Some(fault);
-                        Beginning::Lost
-                    }
-                }
-            }
-            Some(_) => Beginning::Lost,
-        };
-        Begun { spot, opening }
-    }
-
-    /// A definition of a shape.
-    pub(crate) fn add_shape(&mut self, alloc: Global, name: &Name<'s>, parts: &[PartText])
-        ensures { IsEntered self.old (shape (name_view name.now) parts.now) self.new }
-    {
-        if self.fault.is_none() {
-            self.fault = self.sketch.walk.add_shape(alloc, name, parts).err();
-        }
-    }
-}
-
-// A rest in the place of a statement that is not outlined.
-fn nothing_at(spot: Spot) -> Step {
-    Step {
-        spot,
-        forks: false,
-        what: skip(),
     }
 }
 
 impl<'s> Maker<'s> for Outliner<'s> {
     type Made = Step;
 
-    type Begun = Begun;
+    type Opened = Opened;
+
+    type Tested = Tested;
 
     ghost is_made = { IsOutlined };
 
-    ghost is_begun = { IsBegun };
+    ghost is_opened = { IsOpened };
+
+    ghost is_tested = { IsTested };
 
     ghost is_named = { IsNamed };
 
     ghost is_entered = { IsEntered };
 
-    fn make(&mut self, alloc: Global, item: Item<'s>) -> Step {
-        self.outlined(alloc, &item)
+    fn note(&mut self, alloc: Global, spot: Spot, pitches: Vec<Pitch>, duration: Duration) -> Step {
+        if self.fault.is_some() {
+            return beat_at(spot);
+        }
+        let walk = &mut self.sketch.walk;
+        let made = leaf::note(alloc, walk.known.whole, pitches, duration, &mut walk.tables);
+        self.finish(spot, made)
     }
 
-    fn begin(&mut self, alloc: Global, item: Item<'s>) -> Begun {
-        self.begun(alloc, &item)
+    fn play(&mut self, alloc: Global, spot: Spot, pitches: Vec<Pitch>) -> Step {
+        if self.fault.is_some() {
+            return beat_at(spot);
+        }
+        let walk = &mut self.sketch.walk;
+        let made = leaf::play(alloc, pitches, &mut walk.tables);
+        self.finish(spot, made)
     }
 
-    fn enclose(&mut self, begun: Begun, body: Vec<Step>) -> Step
-        ensures { (before inside : Outliner) (bare : PlacedStmt) (b : Body) →
-            HasOneBlock bare.what → IsBegun before bare begun inside →
-            AreMade IsOutlined inside b body.items self.old →
-            IsOutlined before (filled_at bare b) result self.new }
-    {
-        match begun.opening {
-            Beginning::Block { shell } => {
-                let what = shell.round(body);
-                step_at(begun.spot, what, &self.sketch.walk.known.forking)
-            }
-            _ => {
-                self.lack();
-                nothing_at(begun.spot)
+    fn rest(&mut self, alloc: Global, spot: Spot, duration: Duration) -> Step {
+        if self.fault.is_some() {
+            return beat_at(spot);
+        }
+        let walk = &mut self.sketch.walk;
+        let made = leaf::rest(alloc, walk.known.whole, duration, &mut walk.tables);
+        self.finish(spot, made)
+    }
+
+    fn skip(&mut self, spot: Spot) -> Step {
+        beat_at(spot)
+    }
+
+    fn control(&mut self, alloc: Global, spot: Spot, controller: Number, amount: Amount) -> Step {
+        if self.fault.is_some() {
+            return beat_at(spot);
+        }
+        let walk = &mut self.sketch.walk;
+        let made = leaf::control(alloc, controller, amount, &mut walk.tables);
+        self.finish(spot, made)
+    }
+
+    fn program(&mut self, alloc: Global, spot: Spot, amount: Amount) -> Step {
+        if self.fault.is_some() {
+            return beat_at(spot);
+        }
+        let walk = &mut self.sketch.walk;
+        let made = leaf::program(alloc, amount, &mut walk.tables);
+        self.finish(spot, made)
+    }
+
+    fn bend(&mut self, alloc: Global, spot: Spot, amount: Amount) -> Step {
+        if self.fault.is_some() {
+            return beat_at(spot);
+        }
+        let walk = &mut self.sketch.walk;
+        let made = leaf::bend(alloc, amount, &mut walk.tables);
+        self.finish(spot, made)
+    }
+
+    fn set(&mut self, alloc: Global, spot: Spot, register: u8, value: Expr) -> Step {
+        if self.fault.is_some() {
+            return beat_at(spot);
+        }
+        let walk = &mut self.sketch.walk;
+        let made = leaf::set(alloc, register, value, &mut walk.tables);
+        self.finish(spot, made)
+    }
+
+    fn call(&mut self, spot: Spot, name: Name<'s>) -> Step {
+        if self.fault.is_some() {
+            return beat_at(spot);
+        }
+        let walk = &mut self.sketch.walk;
+        let made = leaf::call(&name, &walk.known);
+        self.finish(spot, made)
+    }
+
+    fn open(&mut self, alloc: Global, spot: Spot, opening: Opening<'s>) -> Opened {
+        if self.fault.is_some() {
+            return Opened { spot, shell: None };
+        }
+        let walk = &mut self.sketch.walk;
+        match outline_opening(alloc, opening, &walk.known, &mut walk.tables) {
+            Ok(shell) => Opened {
+                spot,
+                shell: Some(shell),
+            },
+            Err(fault) => {
+                self.fault = Some(fault);
+                Opened { spot, shell: None }
             }
         }
     }
 
-    fn choose(&mut self, begun: Begun, yes: Vec<Step>, no: Vec<Step>) -> Step
-        ensures { (before inside between : Outliner) (spot : Spot) (test : Postfix)
-            (a b y n : Body) →
-            IsBegun before (placed spot (choice test a b)) begun inside →
+    fn enclose(&mut self, opened: Opened, body: Vec<Step>) -> Step
+        ensures { (before inside : Outliner) (spot : Spot) (o : Before) (b : Body) →
+            IsOpened before spot o opened inside →
+            AreMade IsOutlined inside b body.items self.old →
+            IsOutlined before (placed spot (filled o b)) result self.new }
+    {
+        match opened.shell {
+            Some(shell) => {
+                let what = shell.round(body);
+                self.step(opened.spot, what)
+            }
+            None => beat_at(opened.spot),
+        }
+    }
+
+    fn test(&mut self, alloc: Global, spot: Spot, test: Expr) -> Tested {
+        if self.fault.is_some() {
+            return Tested { spot, expr: None };
+        }
+        match outline_test(alloc, test, &mut self.sketch.walk.tables) {
+            Ok(expr) => Tested {
+                spot,
+                expr: Some(expr),
+            },
+            Err(fault) => {
+                self.fault = Some(fault);
+                Tested { spot, expr: None }
+            }
+        }
+    }
+
+    fn choose(&mut self, tested: Tested, yes: Vec<Step>, no: Vec<Step>) -> Step
+        ensures { (before inside between : Outliner) (spot : Spot) (test : Postfix) (y n : Body) →
+            IsTested before spot test tested inside →
             AreMade IsOutlined inside y yes.items between →
             AreMade IsOutlined between n no.items self.old →
             IsOutlined before (placed spot (choice test y n)) result self.new }
     {
-        match begun.opening {
-            Beginning::Test { expr } => {
+        match tested.expr {
+            Some(expr) => {
                 let what = Instruction::Choice { expr, yes, no };
-                step_at(begun.spot, what, &self.sketch.walk.known.forking)
+                self.step(tested.spot, what)
             }
-            _ => {
-                self.lack();
-                nothing_at(begun.spot)
-            }
+            None => beat_at(tested.spot),
         }
     }
 
@@ -198,11 +269,13 @@ impl<'s> Maker<'s> for Outliner<'s> {
             IsOutlined before (placed spot (par bs)) result self.new }
     {
         let what = Instruction::Par { branches };
-        step_at(spot, what, &self.sketch.walk.known.forking)
+        self.step(spot, what)
     }
 
     fn shape(&mut self, alloc: Global, name: Name<'s>, parts: Vec<PartText>) {
-        self.add_shape(alloc, &name, &parts);
+        if self.fault.is_none() {
+            self.fault = self.sketch.walk.add_shape(alloc, &name, &parts).err();
+        }
     }
 
     fn name(&mut self, name: &Name<'s>) {
@@ -222,7 +295,7 @@ impl<'s> Maker<'s> for Outliner<'s> {
         }
     }
 
-    fn play(&mut self, made: Step) {
+    fn enter(&mut self, made: Step) {
         if self.fault.is_none() {
             self.fault = lacking(self.sketch.walk.append_step(made));
         }

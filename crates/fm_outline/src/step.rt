@@ -1,6 +1,9 @@
 //! A statement.
 
+ghost use Rattle.std.specs.Prelude.{◌≡◌};
+
 use crate::lasting::Lasting;
+use crate::needs::Needs;
 use crate::quality::Quality;
 use fm_lex::Spot;
 use fm_program::{Count, Draw, Point};
@@ -10,9 +13,25 @@ use fm_program::{Count, Draw, Point};
 #[cycle(step)]
 pub struct Step {
     pub spot: Spot,
-    /// Whether a `par` stands in it, at any depth, also in a phrase that it names.
-    pub forks: bool,
     pub what: Instruction,
+    // Found where the statement is made, and by no one else.
+    pub(crate) needs: Needs,
+}
+
+impl Step {
+    /// What it asks of the blocks that are open round it, with all that stands inside it.
+    pub fn needs(&self) -> Needs
+        ensures { result ≡ self.now.needs }
+    {
+        self.needs
+    }
+
+    /// Whether a `par` stands in it, at any depth, also in a phrase that it names.
+    pub fn forks(&self) -> bool
+        ensures { result ≡ self.now.needs.forks }
+    {
+        self.needs.forks
+    }
 }
 
 /// What a statement says. Expressions, lists, chords and deformations are given by their indices in

@@ -46,16 +46,19 @@ pub(crate) fn append<T: Drop>(list: &mut Vec<T>, entry: T) -> Result<(), AllocEr
     Ok(())
 }
 
-// A copy of an expression without the spots of its nodes in the text.
-fn nodes_alone(alloc: Global, expr: &Expr) -> Result<Expr, AllocError>
-    ensures nodes { IfOk result (λ e. expr_nodes e ≡ expr_nodes expr.now) }
-    ensures alone { IfOk result (λ e. e.spots.items ≡ []) }
+// An expression without the spots of its nodes in the text.
+fn nodes_alone(alloc: Global, expr: Expr) -> Expr
+    ensures nodes { expr_nodes result ≡ expr_nodes expr }
+    ensures alone { result.spots.items ≡ [] }
 {
-    let nodes = expr.nodes.clone()?;
-    Ok(Expr {
+    let Expr {
+        nodes,
+        spots: _spots,
+    } = expr;
+    Expr {
         nodes,
         spots: Vec::new(alloc),
-    })
+    }
 }
 
 // The greatest of these entries, 0 of none.
@@ -83,14 +86,14 @@ impl Tables {
         }
     }
 
-    /// Appends a copy of an expression and gives its index.
-    pub(crate) fn add_expr(&mut self, alloc: Global, expr: &Expr) -> Result<u32, AllocError>
+    /// Appends an expression and gives its index.
+    pub(crate) fn add_expr(&mut self, alloc: Global, expr: Expr) -> Result<u32, AllocError>
         ensures at { IfOk result (λ p. p ≡ length (tables_view self.old).exprs) }
         ensures added { OnOk result
-            (tables_view self.new ≡ expr_added (expr_nodes expr.now) (tables_view self.old)) }
+            (tables_view self.new ≡ expr_added (expr_nodes expr) (tables_view self.old)) }
     {
         let index = next_index(self.exprs.len())?;
-        self.exprs.push(nodes_alone(alloc, expr)?)?;
+        self.exprs.push(nodes_alone(alloc, expr))?;
         Ok(index)
     }
 

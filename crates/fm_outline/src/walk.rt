@@ -6,7 +6,7 @@ ghost use Rattle.fm_grammar.specs.View.{name_view};
 ghost use Rattle.fm_outline.specs.Refusal.{Refuses};
 ghost use Rattle.fm_outline.specs.Walked.{EntryDone, EntryRefused, PhraseDefined, StepAppended};
 
-use crate::fork::steps_fork;
+use crate::asking::steps_ask;
 use crate::known::{Known, Meaning};
 use crate::refusal::answered;
 use crate::step::Step;
@@ -38,9 +38,9 @@ impl<'s> Walk<'s> {
         ensures { OnOk result (PhraseDefined self.old (name_view name.now) steps.items self.new) }
     {
         let number = next_index(self.phrases.len())?;
-        let forks = steps_fork(&steps);
+        let needs = steps_ask(&steps);
         append(&mut self.phrases, steps)?;
-        append(&mut self.known.forking, forks)?;
+        append(&mut self.known.needs, needs)?;
         self.known
             .names
             .define(name.text, Meaning::Phrase { number })

@@ -1,21 +1,31 @@
 //! The tree of a score, made while its text is read.
 
 ghost use Rattle.std.specs.Prelude.{◌≡◌, [], false, IfOk, IfErr, map, vec_items};
-ghost use Rattle.fm_grammar.specs.Making.{AreForked, AreMade, HasOneBlock, filled_at};
+ghost use Rattle.fm_grammar.specs.Making.{AreForked, AreMade};
 ghost use Rattle.fm_grammar.specs.Score.{Body, Branches, Postfix, choice, par, phrase};
-ghost use Rattle.fm_grammar.specs.View.{PlacedStmt, entry_view, item_view, items_view, name_view, placed, score_view};
+ghost use Rattle.fm_grammar.specs.Opening.{Opening as Before, filled};
+ghost use Rattle.fm_grammar.specs.View.{entry_view, item_view, name_view, placed, score_of, score_view};
+ghost use Rattle.fm_grammar.proofs.StatementViews.{seen};
 ghost use Rattle.fm_lex.specs.declared.spot.Spot.{Spot};
-ghost use Rattle.fm_parse.specs.Begun.{score_of};
-ghost use Rattle.fm_parse.specs.Building.{IsGrown, IsSame};
-ghost use Rattle.fm_parse.specs.Whole.{head_view};
+ghost use Rattle.fm_parse.specs.Building.{IsGrown, IsSame, IsSameOpening, IsSameTest};
 ghost use Rattle.fm_parse.specs.declared.builder.Builder.{Builder};
 ghost use Rattle.fm_terms.specs.declared.fault.ParseFault.TheVariants.{Memory};
 
-use crate::head::Head;
-use fm_grammar::{Entry, Item, Maker, Name, PartText, Score, What};
+use crate::opening::Opened;
+use fm_grammar::{
+    Amount, Duration, Entry, Head, Item, Maker, Name, Number, Opening, PartText, Pitch, Score, What,
+};
 use fm_lex::Spot;
 use fm_terms::{ParseFault, push};
+use fm_value::Expr;
 use std::alloc::Global;
+
+/// The expression of a choice, with the spot of its word.
+#[derive(Drop)]
+pub(crate) struct Tested {
+    spot: Spot,
+    test: Expr,
+}
 
 /// The entries of a score so far.
 #[derive(Drop)]
@@ -49,7 +59,7 @@ impl<'s> Builder<'s> {
     /// The score with this head and these entries.
     pub(crate) fn score(self, head: Head) -> Result<Score<'s>, ParseFault>
         ensures score { IfOk result (λ s. score_view s
-            ≡ score_of (head_view head) (map entry_view self.entry.entries.items)) }
+            ≡ score_of head (map entry_view self.entry.entries.items)) }
         ensures whole { IfOk result (λ _. self.entry.is_short ≡ false) }
         ensures memory { IfErr result (λ e. e ≡ Memory) }
     {
@@ -57,105 +67,104 @@ impl<'s> Builder<'s> {
             return Err(ParseFault::Memory);
         }
         Ok(Score {
-            version: head.version,
-            division: head.division,
-            seed: head.seed,
+            head,
             entries: self.entries,
         })
     }
 }
 
-// A statement with another body in its one block.
-fn with_body<'s>(item: Item<'s>, body: Vec<Item<'s>>) -> Item<'s>
-    ensures { item_view result ≡ filled_at (item_view item.entry) (items_view body.entry.items) }
-{
-    let spot = item.spot;
-    let what = match item.what {
-        What::Repeat { count, body: _bare } => What::Repeat { count, body },
-        What::Again {
-            count,
-            most,
-            body: _bare,
-        } => What::Again { count, most, body },
-        What::Warp { name, body: _bare } => What::Warp { name, body },
-        What::Channel {
-            number,
-            body: _bare,
-        } => What::Channel { number, body },
-        What::Volume {
-            number,
-            body: _bare,
-        } => What::Volume { number, body },
-        What::Gate {
-            number,
-            body: _bare,
-        } => What::Gate { number, body },
-        What::Rhythm { list, body: _bare } => What::Rhythm { list, body },
-        What::Artic { list, body: _bare } => What::Artic { list, body },
-        What::Loud { list, body: _bare } => What::Loud { list, body },
-        other => other,
-    };
-    Item { spot, what }
-}
-
-// A choice with other statements in its blocks.
-fn with_blocks<'s>(item: Item<'s>, yes: Vec<Item<'s>>, no: Vec<Item<'s>>) -> Item<'s>
-    ensures { (spot : Spot) (test : Postfix) (a b : Body)
-        → item_view item.entry ≡ placed spot (choice test a b)
-        → item_view result ≡ placed spot
-        (choice test (items_view yes.entry.items) (items_view no.entry.items)) }
-{
-    let spot = item.spot;
-    let what = match item.what {
-        What::If {
-            test,
-            yes: _bare,
-            no: _empty,
-        } => What::If { test, yes, no },
-        other => other,
-    };
-    Item { spot, what }
-}
-
 impl<'s> Maker<'s> for Builder<'s> {
     type Made = Item<'s>;
 
-    type Begun = Item<'s>;
+    type Opened = Opened<'s>;
+
+    type Tested = Tested;
 
     ghost is_made = { IsSame };
 
-    ghost is_begun = { IsSame };
+    ghost is_opened = { IsSameOpening };
+
+    ghost is_tested = { IsSameTest };
 
     ghost is_named = { λ before name behind. before ≡ behind };
 
     ghost is_entered = { IsGrown };
 
-    fn make(&mut self, _alloc: Global, item: Item<'s>) -> Item<'s> {
-        item
+    fn note(
+        &mut self,
+        _alloc: Global,
+        spot: Spot,
+        pitches: Vec<Pitch>,
+        duration: Duration,
+    ) -> Item<'s> {
+        item(spot, What::Note { pitches, duration })
     }
 
-    fn begin(&mut self, _alloc: Global, item: Item<'s>) -> Item<'s> {
-        item
+    fn play(&mut self, _alloc: Global, spot: Spot, pitches: Vec<Pitch>) -> Item<'s> {
+        item(spot, What::Play { pitches })
     }
 
-    fn enclose(&mut self, begun: Item<'s>, body: Vec<Item<'s>>) -> Item<'s>
-        ensures { (before inside : Builder) (bare : PlacedStmt) (b : Body) →
-            HasOneBlock bare.what → IsSame before bare begun.entry inside →
+    fn rest(&mut self, _alloc: Global, spot: Spot, duration: Duration) -> Item<'s> {
+        item(spot, What::Rest { duration })
+    }
+
+    fn skip(&mut self, spot: Spot) -> Item<'s> {
+        item(spot, What::Skip)
+    }
+
+    fn control(
+        &mut self,
+        _alloc: Global,
+        spot: Spot,
+        controller: Number,
+        amount: Amount,
+    ) -> Item<'s> {
+        item(spot, What::Control { controller, amount })
+    }
+
+    fn program(&mut self, _alloc: Global, spot: Spot, amount: Amount) -> Item<'s> {
+        item(spot, What::Program { amount })
+    }
+
+    fn bend(&mut self, _alloc: Global, spot: Spot, amount: Amount) -> Item<'s> {
+        item(spot, What::Bend { amount })
+    }
+
+    fn set(&mut self, _alloc: Global, spot: Spot, register: u8, value: Expr) -> Item<'s> {
+        item(spot, What::Set { register, value })
+    }
+
+    fn call(&mut self, spot: Spot, name: Name<'s>) -> Item<'s> {
+        item(spot, What::Do { name })
+    }
+
+    fn open(&mut self, _alloc: Global, spot: Spot, opening: Opening<'s>) -> Opened<'s> {
+        Opened { spot, opening }
+    }
+
+    fn enclose(&mut self, opened: Opened<'s>, body: Vec<Item<'s>>) -> Item<'s>
+        ensures { (before inside : Builder) (spot : Spot) (o : Before) (b : Body) →
+            IsSameOpening before spot o opened.entry inside →
             AreMade IsSame inside b body.entry.items self.old →
-            IsSame before (filled_at bare b) result self.new }
+            IsSame before (placed spot (filled o b)) result self.new }
     {
-        with_body(begun, body)
+        let Opened { spot, opening } = opened;
+        item(spot, What::Block { opening, body })
     }
 
-    fn choose(&mut self, begun: Item<'s>, yes: Vec<Item<'s>>, no: Vec<Item<'s>>) -> Item<'s>
+    fn test(&mut self, _alloc: Global, spot: Spot, test: Expr) -> Tested {
+        Tested { spot, test }
+    }
+
+    fn choose(&mut self, tested: Tested, yes: Vec<Item<'s>>, no: Vec<Item<'s>>) -> Item<'s>
         ensures { (before inside between : Builder) (spot : Spot) (test : Postfix)
-            (a b y n : Body) →
-            IsSame before (placed spot (choice test a b)) begun.entry inside →
+            (y n : Body) → IsSameTest before spot test tested inside →
             AreMade IsSame inside y yes.entry.items between →
             AreMade IsSame between n no.entry.items self.old →
             IsSame before (placed spot (choice test y n)) result self.new }
     {
-        with_blocks(begun, yes, no)
+        let Tested { spot, test } = tested;
+        item(spot, What::If { test, yes, no })
     }
 
     fn fork(&mut self, spot: Spot, branches: Vec<Vec<Item<'s>>>) -> Item<'s>
@@ -163,10 +172,7 @@ impl<'s> Maker<'s> for Builder<'s> {
             AreForked IsSame before bs (map vec_items branches.entry.items) self.old →
             IsSame before (placed spot (par bs)) result self.new }
     {
-        Item {
-            spot,
-            what: What::Par { branches },
-        }
+        item(spot, What::Par { branches })
     }
 
     fn shape(&mut self, _alloc: Global, name: Name<'s>, parts: Vec<PartText>) {
@@ -183,7 +189,14 @@ impl<'s> Maker<'s> for Builder<'s> {
         self.push(Entry::Phrase { name, body });
     }
 
-    fn play(&mut self, item: Item<'s>) {
+    fn enter(&mut self, item: Item<'s>) {
         self.push(Entry::Play { item });
     }
+}
+
+// A statement at a spot.
+fn item<'s>(spot: Spot, what: What<'s>) -> Item<'s>
+    ensures { item_view result ≡ seen spot what.entry }
+{
+    Item { spot, what }
 }

@@ -2,17 +2,17 @@
 
 ghost use Rattle.std.specs.Prelude.{◌≡◌, map, vec_items};
 ghost use Rattle.fm_lex.specs.declared.spot.Spot.{Spot};
-ghost use Rattle.fm_grammar.specs.Making.{AreForked, AreMade, HasOneBlock, filled_at};
-ghost use Rattle.fm_grammar.specs.Score.{Body, Branches, Postfix, choice, done, par};
-ghost use Rattle.fm_grammar.specs.View.{PlacedStmt, expr_view, item_view, placed};
+ghost use Rattle.fm_grammar.specs.Making.{AreForked, AreMade};
+ghost use Rattle.fm_grammar.specs.Score.{Body, Branches, Postfix, choice, par};
+ghost use Rattle.fm_grammar.specs.Opening.{Opening, filled};
+ghost use Rattle.fm_grammar.specs.View.{placed};
 
-use crate::opening::{item_of, read_opening};
+use crate::opening::{Opened, read_opening};
 use crate::reading::Reading;
 use crate::simple::read_plain;
-use fm_grammar::{Item, Maker, What};
+use fm_grammar::Maker;
 use fm_lex::{Keyword, Kind, Spot};
-use fm_terms::{ParseFault, Reader, check_limit, expect, read_boxed};
-use fm_value::Expr;
+use fm_terms::{ParseFault, Reader, check_limit, expect, read_expr};
 use std::alloc::Global;
 
 /// The tokens of a text that are left, and the maker.
@@ -22,24 +22,12 @@ pub(crate) struct Relay<'s, M> {
     pub(crate) maker: M,
 }
 
-// A choice with nothing in its blocks.
-fn bare_choice<'s>(alloc: Global, spot: Spot, test: Box<Expr>) -> Item<'s>
-    ensures { item_view result ≡ placed spot (choice (expr_view test.value) done done) }
-{
-    Item {
-        spot,
-        what: What::If {
-            test,
-            yes: Vec::new(alloc),
-            no: Vec::new(alloc),
-        },
-    }
-}
-
 impl<'s, M: Maker<'s>> Reading for Relay<'s, M> {
     type Made = M::Made;
 
-    type Begun = M::Begun;
+    type Opened = M::Opened;
+
+    type Tested = M::Tested;
 
     type Receiver = M;
 
@@ -49,7 +37,9 @@ impl<'s, M: Maker<'s>> Reading for Relay<'s, M> {
 
     ghost is_made = { M.is_made };
 
-    ghost is_begun = { M.is_begun };
+    ghost is_opened = { M.is_opened };
+
+    ghost is_tested = { M.is_tested };
 
     fn kind(&self) -> Kind {
         self.rest.kind()
@@ -68,39 +58,38 @@ impl<'s, M: Maker<'s>> Reading for Relay<'s, M> {
     }
 
     fn plain(&mut self, alloc: Global, word: Keyword) -> Result<M::Made, ParseFault> {
-        let item = read_plain(alloc, &mut self.rest, word)?;
-        Ok(self.maker.make(alloc, item))
+        read_plain(alloc, self, word)
     }
 
-    fn opened(&mut self, alloc: Global, word: Keyword) -> Result<M::Begun, ParseFault> {
-        let opening = read_opening(alloc, &mut self.rest, word)?;
-        Ok(self.maker.begin(alloc, item_of(opening, Vec::new(alloc))))
+    fn opened(&mut self, alloc: Global, word: Keyword) -> Result<M::Opened, ParseFault> {
+        let Opened { spot, opening } = read_opening(alloc, &mut self.rest, word)?;
+        Ok(self.maker.open(alloc, spot, opening))
     }
 
-    fn tested(&mut self, alloc: Global, spot: Spot) -> Result<M::Begun, ParseFault> {
-        let test = read_boxed(alloc, &mut self.rest)?;
-        Ok(self.maker.begin(alloc, bare_choice(alloc, spot, test)))
+    fn tested(&mut self, alloc: Global, spot: Spot) -> Result<M::Tested, ParseFault> {
+        let test = read_expr(alloc, &mut self.rest)?;
+        Ok(self.maker.test(alloc, spot, test))
     }
 
-    fn enclose(&mut self, begun: M::Begun, body: Vec<M::Made>) -> M::Made
-        ensures made { (before inside : M) (bare : PlacedStmt) (b : Body) →
-            HasOneBlock bare.what → M.is_begun before bare begun inside →
+    fn enclose(&mut self, opened: M::Opened, body: Vec<M::Made>) -> M::Made
+        ensures made { (before inside : M) (spot : Spot) (o : Opening) (b : Body) →
+            M.is_opened before spot o opened inside →
             AreMade M.is_made inside b body.items self.old.maker →
-            M.is_made before (filled_at bare b) result self.new.maker }
+            M.is_made before (placed spot (filled o b)) result self.new.maker }
         ensures left { self.new.rest ≡ self.old.rest }
     {
-        self.maker.enclose(begun, body)
+        self.maker.enclose(opened, body)
     }
 
-    fn choose(&mut self, begun: M::Begun, yes: Vec<M::Made>, no: Vec<M::Made>) -> M::Made
-        ensures made { (before inside between : M) (spot : Spot) (test : Postfix) (a b y n : Body) →
-            M.is_begun before (placed spot (choice test a b)) begun inside →
+    fn choose(&mut self, tested: M::Tested, yes: Vec<M::Made>, no: Vec<M::Made>) -> M::Made
+        ensures made { (before inside between : M) (spot : Spot) (test : Postfix) (y n : Body) →
+            M.is_tested before spot test tested inside →
             AreMade M.is_made inside y yes.items between →
             AreMade M.is_made between n no.items self.old.maker →
             M.is_made before (placed spot (choice test y n)) result self.new.maker }
         ensures left { self.new.rest ≡ self.old.rest }
     {
-        self.maker.choose(begun, yes, no)
+        self.maker.choose(tested, yes, no)
     }
 
     fn fork(&mut self, spot: Spot, branches: Vec<Vec<M::Made>>) -> M::Made

@@ -41,13 +41,6 @@ phrase_stands ps n within =
     let here : n ≡ 0 + n = omega arith in
     ap (λ k. slice_index_or (phrases_view ps) k done) here ∙ phrase_behind [] ps n within
 
--- an element of a mapped list
-pub map_at : {A B : Type 0} (f : A → B) (xs : List A) (n : ℕ) (x : A) (d : B) → n < length xs → x ≡ slice_index_or xs n x
-    → slice_index_or (map f xs) n d ≡ f x
-map_at f [] n x d within is = absurd (omega (arith, within))
-map_at f (y ∷ ys) zero x d within is = ap f (sym is)
-map_at f (y ∷ ys) (suc n) x d within is = map_at f ys n x d (omega (arith, within)) is
-
 -- behind the last phrase there is none
 pub phrase_past : (ps : List (List Step)) (n : ℕ) → length ps ≤ n → look_at ps n ≡ done
 phrase_past ps n past = get_or-eq_default (phrases_view ps) done (omega (arith, past, phrases_length ps))

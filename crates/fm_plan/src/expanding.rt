@@ -44,9 +44,9 @@ fn written_rounds(count: Count) -> u32
 
 // Whether a loop is written out: it forks, and stands where statements may.
 fn is_written_out(step: &Step, forking: bool) -> bool
-    ensures { result ≡ (forking && step.now.forks) }
+    ensures { result ≡ (forking && step.now.needs.forks) }
 {
-    forking && step.forks
+    forking && step.forks()
 }
 
 // A statement, which may name the phrases before it. It is written out where `forking` says that it

@@ -52,18 +52,24 @@ fn put_together(alloc: Global, outline: Outline, processes: u32) -> Result<Plan,
     Ok(Plan::of(stock, programs, u64::from(seed), rules.profile))
 }
 
-/// The plan of a score that is accepted, from its outline and its static totals.
+/// The plan of a score that is accepted, from its outline and its static totals: its processes have
+/// the lines that the score means, and take no more steps together than the totals say.
 pub fn plan_outline(alloc: Global, outline: Outline, bounds: &Bounds) -> Result<Plan, AllocError>
     requires { (text : List ℕ) × (s : Tree) × Means text s × IsOutlineOf outline s
         × (totals_of bounds.now ≡ score_bounds (resolved s)) }
-    ensures { (s : Tree) → IsOutlineOf outline s → IfOk result (λ p. p ≡ score_plan s) }
+    ensures parts { (s : Tree) → IsOutlineOf outline s → IfOk result (λ p. p ≡ score_plan s) }
+    ensures lines { (text : List ℕ) (s : Tree) → Means text s → IsOutlineOf outline s →
+        IfOk result (λ p. plan_lines p ≡ played_lines (resolved s)) }
+    ensures steps { (text : List ℕ) (s : Tree) → Means text s → IsOutlineOf outline s →
+        IfOk result (λ p. all_steps (plan_played p) ≤ (score_bounds (resolved s)).steps) }
 {
     plans_fit();
+    plans_play_the_score();
     put_together(alloc, outline, bounds.processes)
 }
 
-/// The plan of a score that is accepted, where its static totals are known: its processes have the
-/// lines that the score means, and take no more steps together than the totals say.
+/// The same of a score whose tree is there. The program does not call it: it plans the outline that
+/// it makes while it reads a text.
 pub fn plan(alloc: Global, score: &Score, bounds: &Bounds) -> Result<Plan, AllocError>
     requires accepted { (text : List ℕ) × Means text (score_view score.now) }
     requires bounds { totals_of bounds.now ≡ score_bounds (resolved (score_view score.now)) }
@@ -73,12 +79,9 @@ pub fn plan(alloc: Global, score: &Score, bounds: &Bounds) -> Result<Plan, Alloc
     ensures steps { IfOk result (λ p.
         all_steps (plan_played p) ≤ (score_bounds (resolved (score_view score.now))).steps) }
 {
-    plans_fit();
-    plans_play_the_score();
     // A score that is accepted has no fault.
-    let outline = match outline_of(alloc, score) {
-        Ok(outline) => outline,
-        Err(_) => return Err(AllocError),
-    };
-    plan_outline(alloc, outline, bounds)
+    match outline_of(alloc, score) {
+        Ok(outline) => plan_outline(alloc, outline, bounds),
+        Err(_) => Err(AllocError),
+    }
 }

@@ -1,1 +1,3 @@
 pub mod Tapes
+pub mod KeptRuns
+pub mod LookedAt

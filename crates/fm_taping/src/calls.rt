@@ -11,6 +11,7 @@ ghost use Rattle.fm_board.specs.Answers.{Claims, Gave, Looks};
 ghost use Rattle.fm_board.specs.Calls.{MayComeBack, MayRecord, Releases};
 ghost use Rattle.fm_board.specs.Knowing.{Knows};
 ghost use Rattle.fm_board.specs.Plays.{MayRelease};
+ghost use Rattle.fm_board.specs.Runs.{Extends};
 ghost use Rattle.fm_board.specs.Seats.{IsOurs, making, seeing};
 ghost use Rattle.fm_board.specs.Starting.{Starts};
 ghost use Rattle.fm_board.specs.View.{InTurn, noted, processes, published, released};
@@ -78,6 +79,7 @@ pub trait Calls {
         requires ours { IsOurs (table self.now) (about self.now) seat.old }
         ensures paced { seat.new ≡ making seat.old (Pace seat.old.mind.view.number)
             (record seat.old.mind.view { paced = result }) seat.new.mind.log.seen }
+        ensures extends { Extends seat.old.mind.view.number seat.old.mind.log seat.new.mind.log }
         ensures own { seat.old.mind.view.number ≡ 0 → result ≡ seat.old.mind.view.published };
 
     /// Takes a process whose word is as it was seen.
@@ -100,9 +102,10 @@ pub trait Calls {
         requires ours { IsOurs (table self.now) (about self.now) seat.old }
         requires may { MayRecord (about self.now) seat.old.mind.view
             berth.now.process berth.now.strand }
-        ensures { seat.new ≡ making seat.old
+        ensures seat { seat.new ≡ making seat.old
             (Record seat.old.mind.view.number berth.now.process) (noted seat.old.mind.view)
-            seat.new.mind.log.seen };
+            seat.new.mind.log.seen }
+        ensures extends { Extends seat.old.mind.view.number seat.old.mind.log seat.new.mind.log };
 
     /// Gives the process back, with what was computed in it. What the seat did with it is told to
     /// those who keep a record, just as it was.
@@ -112,7 +115,8 @@ pub trait Calls {
             berth.process berth.strand berth.outbox }
         requires told { IsWorkOf seat.old.mind.view (length berth.outbox.events) work }
         ensures gave { Gave (about self.now) seat.old berth seat.new }
-        ensures knows { Knows seat.old.mind seat.new.mind };
+        ensures knows { Knows seat.old.mind seat.new.mind }
+        ensures extends { Extends seat.old.mind.view.number seat.old.mind.log seat.new.mind.log };
 
     /// Makes the least clock of seat 0's sweep the floor, and all up to that pair due.
     fn publish(&self, seat: &mut BoardSeat, floor: Floor)
@@ -121,9 +125,10 @@ pub trait Calls {
         requires swept { length seat.old.mind.view.sweep ≡ processes seat.old.mind.view }
         requires settled { seat.old.mind.view.due ≡ Nothing }
         requires floor { floor ≡ floor_of (least seat.old.mind.view.sweep) }
-        ensures { seat.new ≡ making seat.old Publish
+        ensures seat { seat.new ≡ making seat.old Publish
             (published seat.old.mind.view floor (due_of (least seat.old.mind.view.sweep)))
-            seat.new.mind.log.seen };
+            seat.new.mind.log.seen }
+        ensures extends { Extends seat.old.mind.view.number seat.old.mind.log seat.new.mind.log };
 
     /// Settles what was taken, which is the next part of the piece, and counts it as released.
     fn release(&self, seat: &mut BoardSeat, gather: &mut Gather)

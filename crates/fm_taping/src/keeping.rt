@@ -1,12 +1,11 @@
 //! The calls of a board that are steps of the core, made by a recorder. Each does what the board's
 //! call does, whatever becomes of the tape.
-ghost use Rattle.std.specs.Prelude.{◌≡◌, ◌&&◌, ◌<◌, ℕ, length, None, Option, Some, IfSome, if◌then◌else◌, nat_eq, slice_index_or, true};
-ghost use Rattle.fm_core.specs.Floors.{floor_eq, floor_of};
+ghost use Rattle.std.specs.Prelude.{◌≡◌, ◌<◌, ℕ, length, None, Some, IfSome, true};
+ghost use Rattle.fm_core.specs.Floors.{floor_of};
 ghost use Rattle.fm_core.specs.Sweep.{least};
 ghost use Rattle.fm_core.specs.Tags.{is_claimable};
 ghost use Rattle.fm_core.specs.Taking.{due_of};
 ghost use Rattle.fm_core.specs.declared.due.Due.TheVariants.{Nothing};
-ghost use Rattle.fm_core.specs.declared.floor.Floor.TheVariants.{At};
 ghost use Rattle.fm_core.specs.declared.limits.TheConstants.{MAX_SEATS};
 ghost use Rattle.fm_core.specs.declared.step.Step.TheVariants as step;
 ghost use Rattle.fm_record.specs.StepBytes.{HasFields};
@@ -15,18 +14,19 @@ ghost use Rattle.fm_board.specs.Answers.{Claims, Gave, Looks};
 ghost use Rattle.fm_board.specs.Calls.{MayComeBack, MayRecord, Releases};
 ghost use Rattle.fm_board.specs.Knowing.{Knows};
 ghost use Rattle.fm_board.specs.Plays.{MayRelease};
+ghost use Rattle.fm_board.specs.Runs.{Extends};
 ghost use Rattle.fm_board.specs.Seats.{IsOurs, making};
 ghost use Rattle.fm_board.specs.Starting.{Starts};
 ghost use Rattle.fm_board.specs.View.{InTurn, giving, noted, processes, published, released};
 ghost use Rattle.fm_taping.specs.Works.{IsWorkOf};
-ghost use Rattle.fm_taping.specs.Keeping.{Keeps, claim_step, is_news, look_step, pace_step, start_step};
+ghost use Rattle.fm_taping.specs.Keeping.{Keeps, KeepsLook, claim_step, look_step, pace_step, start_step};
+ghost use Rattle.fm_taping.specs.Keeping as words;
 
 use crate::Work;
-use crate::known::Known;
 use crate::recorder::Recorder;
-use fm_board::{Berth, Board, BoardSeat, Claim, Seen, Started};
+use fm_board::{Berth, Board, BoardSeat, Claim, Latest, Seen, Started};
 use fm_buffer::Gather;
-use fm_core::{Floor, MAX_SEATS, Step};
+use fm_core::{Floor, Step, Tag};
 use fm_record::Tape;
 
 impl Recorder {
@@ -36,31 +36,31 @@ impl Recorder {
         requires ours { IsOurs board.now.table.shared.table_id board.now.about seat.old }
         requires turn { InTurn seat.old.mind.view process }
         ensures found { Looks seat.old process result seat.new }
-        ensures kept { Keeps self.old.tape
-            (look_step seat.old.mind.view.number self.old.known.look process result)
-            self.new.tape }
+        ensures kept { KeepsLook process result.tag seat.old.mind.view seat.new.mind.view
+            self.old.tape self.new.tape }
     {
         let number = seat.number();
+        let before = seat.latest();
         let seen = board.look(seat, process);
-        let step = step_of_look(number, &mut self.known, process, &seen);
+        let step = step_of_look(number, &before, &seat.latest(), process, seen.tag);
         keep(&mut self.tape, step);
         seen
     }
 
-    /// A pace. It is kept where it finds another floor than the seat found before.
+    /// A pace. It is kept where it finds another floor than the seat paced before.
     pub fn pace(&mut self, board: &Board, seat: &mut BoardSeat) -> Floor
         requires ours { IsOurs board.now.table.shared.table_id board.now.about seat.old }
         ensures paced { seat.new ≡ making seat.old (step.Pace seat.old.mind.view.number)
             (record seat.old.mind.view { paced = result }) seat.new.mind.log.seen }
+        ensures extends { Extends seat.old.mind.view.number seat.old.mind.log seat.new.mind.log }
         ensures own { seat.old.mind.view.number ≡ 0 → result ≡ seat.old.mind.view.published }
-        ensures kept { seat.old.mind.view.number < MAX_SEATS → Keeps self.old.tape
-            (pace_step seat.old.mind.view.number
-            (slice_index_or self.old.known.floors seat.old.mind.view.number (At 0)) result)
+        ensures kept { Keeps self.old.tape
+            (pace_step seat.old.mind.view.number seat.old.mind.view.paced result)
             self.new.tape }
     {
-        let number = kept_number(seat);
+        let number = seat.number();
+        let before = seat.paced();
         let floor = board.pace(seat);
-        let before = self.known.note_pace(number, floor);
         let step = step_of_pace(number, before, floor);
         keep(&mut self.tape, step);
         floor
@@ -80,11 +80,10 @@ impl Recorder {
         requires idle { seat.old.mind.view.holds ≡ None }
         requires tag { is_claimable seat.old.mind.view.number expected.now.tag ≡ true }
         ensures claims { Claims board.now.about seat.old process expected.now result seat.new }
-        ensures kept { seat.old.mind.view.number < MAX_SEATS
-            → Keeps self.old.tape (claim_step seat.old.mind.view.number process result)
-            self.new.tape }
+        ensures kept { Keeps self.old.tape
+            (claim_step seat.old.mind.view.number process result) self.new.tape }
     {
-        let number = kept_number(seat);
+        let number = seat.number();
         let claim = board.claim(seat, process, expected);
         let step = step_of_claim(number, process, &claim);
         keep(&mut self.tape, step);
@@ -98,11 +97,10 @@ impl Recorder {
         requires there { process < processes seat.old.mind.view }
         requires idle { seat.old.mind.view.holds ≡ None }
         ensures starts { Starts board.now.about seat.old process result seat.new }
-        ensures kept { seat.old.mind.view.number < MAX_SEATS
-            → Keeps self.old.tape (start_step seat.old.mind.view.number process result)
-            self.new.tape }
+        ensures kept { Keeps self.old.tape
+            (start_step seat.old.mind.view.number process result) self.new.tape }
     {
-        let number = kept_number(seat);
+        let number = seat.number();
         let started = board.start(seat, process);
         let step = step_of_start(number, process, &started);
         keep(&mut self.tape, step);
@@ -118,11 +116,12 @@ impl Recorder {
         ensures seat { seat.new ≡ making seat.old
             (step.Record seat.old.mind.view.number berth.now.process) (noted seat.old.mind.view)
             seat.new.mind.log.seen }
-        ensures kept { seat.old.mind.view.number < MAX_SEATS → Keeps self.old.tape
+        ensures extends { Extends seat.old.mind.view.number seat.old.mind.log seat.new.mind.log }
+        ensures kept { Keeps self.old.tape
             (Some (step.Record seat.old.mind.view.number berth.now.process)) self.new.tape }
     {
         let step = Step::Record {
-            seat: kept_number(seat),
+            seat: seat.number(),
             process: berth.process,
         };
         board.record(seat, berth);
@@ -137,18 +136,19 @@ impl Recorder {
         requires told { IsWorkOf seat.old.mind.view (length berth.outbox.events) work }
         ensures gave { Gave board.now.about seat.old berth seat.new }
         ensures knows { Knows seat.old.mind seat.new.mind }
-        ensures kept { seat.old.mind.view.number < MAX_SEATS → Keeps self.old.tape
+        ensures extends { Extends seat.old.mind.view.number seat.old.mind.log seat.new.mind.log }
+        ensures kept { Keeps self.old.tape
             (Some (giving seat.old.mind.view berth.process (length berth.outbox.events)
             (clock_of board.now.about.plan berth.strand))) self.new.tape }
     {
-        let number = kept_number(seat);
+        let number = seat.number();
         let clock = berth.strand.clock();
         let step = step_of_give(number, berth.process, clock, work);
         board.give(seat, berth);
         keep(&mut self.tape, Some(step));
     }
 
-    /// A publish, which is always kept. The next look of seat 0 begins a sweep.
+    /// A publish, which is always kept.
     pub fn publish(&mut self, board: &Board, seat: &mut BoardSeat, floor: Floor)
         requires ours { IsOurs board.now.table.shared.table_id board.now.about seat.old }
         requires conductor { seat.old.mind.view.number ≡ 0 }
@@ -158,11 +158,10 @@ impl Recorder {
         ensures seat { seat.new ≡ making seat.old step.Publish
             (published seat.old.mind.view floor (due_of (least seat.old.mind.view.sweep)))
             seat.new.mind.log.seen }
+        ensures extends { Extends seat.old.mind.view.number seat.old.mind.log seat.new.mind.log }
         ensures kept { Keeps self.old.tape (Some step.Publish) self.new.tape }
-        ensures begins { self.new.known.look ≡ None }
     {
         board.publish(seat, floor);
-        self.known.note_publish();
         keep(&mut self.tape, Some(Step::Publish));
     }
 
@@ -198,26 +197,27 @@ fn keep(tape: &mut Tape, step: Option<Step>)
     }
 }
 
-// The number by which the steps of a seat are kept: its own, which is below the most seats.
-fn kept_number(seat: &BoardSeat) -> u32
-    ensures number { seat.now.mind.view.number < MAX_SEATS
-        → result ≡ seat.now.mind.view.number }
-    ensures low { result < MAX_SEATS }
-{
-    seat.number().min(MAX_SEATS - 1)
-}
-
-// The step of a look. Seat 0's is noted.
-fn step_of_look(number: u32, known: &mut Known, process: u32, seen: &Seen) -> Option<Step>
+// The step of a look that found this tag, from what its seat found last before it and with it.
+fn step_of_look(number: u32, before: &Latest, now: &Latest, process: u32, tag: Tag) -> Option<Step>
     requires { process < 65536 }
-    ensures step { result ≡ look_step number known.old.look process seen.now }
+    ensures step { result ≡ look_step number before.now now.now process tag }
     ensures fits { IfSome result HasFields }
 {
-    if number == 0 && known.note_look(process, seen) {
+    if number == 0 && is_news(before, now, tag) {
         Some(Step::Look { seat: 0, process })
     } else {
         None
     }
+}
+
+// Whether a look of seat 0 that found this tag changes what the core keeps.
+fn is_news(before: &Latest, now: &Latest, tag: Tag) -> bool
+    ensures { result ≡ words.is_news before.now now.now tag }
+{
+    before.looks != now.looks
+        || before.last.clock != now.last.clock
+        || before.last.ended != now.last.ended
+        || tag.has_nothing() && !before.idle
 }
 
 // The step of a pace that found these floors, one after the other.

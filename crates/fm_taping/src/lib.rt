@@ -10,10 +10,11 @@
 
 mod calls;
 mod keeping;
-mod known;
+mod laws;
 mod recorder;
 mod taped;
 
 pub use calls::{Calls, Work};
+pub use laws::kept_steps_are_a_run;
 pub use recorder::Recorder;
 pub use taped::Taped;

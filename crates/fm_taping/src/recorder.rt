@@ -1,25 +1,19 @@
 //! What a board is played on record with.
-ghost use Rattle.std.specs.Prelude.{◌≡◌, None};
+ghost use Rattle.std.specs.Prelude.{◌≡◌};
 
-use crate::known::Known;
 use fm_record::Tape;
 
-/// A tape, and what seats found last, by which the steps that change nothing are told.
+/// A tape on which the steps of a board are kept.
 #[derive(Drop)]
 pub struct Recorder {
     pub tape: Tape,
-    pub(crate) known: Known,
 }
 
 impl Recorder {
-    /// One that begins with this tape. Nothing was looked at yet.
+    /// One that goes on with this tape.
     pub fn new(tape: Tape) -> Recorder
-        ensures tape { result.tape ≡ tape }
-        ensures fresh { result.known.look ≡ None }
+        ensures { result.tape ≡ tape }
     {
-        Recorder {
-            tape,
-            known: Known::new(),
-        }
+        Recorder { tape }
     }
 }

@@ -38,7 +38,7 @@ count_tree (drawn o e c m n) = drawn_tree (expr_tree e) (num_tree n)
 -- what a count of the code stands for
 abbrev pub count_view : code_count.Count → CountTree
 count_view (counts.Fixed n) = fixed_tree n
-count_view (counts.Drawn e n) = drawn_tree (expr_view e.value) n
+count_view (counts.Drawn e n) = drawn_tree (expr_view e) n
 
 -- a duration of so many ticks
 abbrev pub timed_view : CountTree → Duration

@@ -7,5 +7,5 @@ use fm_value::Expr;
 #[derive(Drop)]
 pub enum Count {
     Fixed { number: Number },
-    Drawn { value: Box<Expr>, most: Number },
+    Drawn { value: Expr, most: Number },
 }

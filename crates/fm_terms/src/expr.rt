@@ -16,7 +16,7 @@ ghost use Rattle.fm_terms.specs.Drafts.{Drafted, IsComparing, IsPlain, pair_text
 
 use crate::fault::ParseFault;
 use crate::operators::{adding_of, leaf_of, scaling_of};
-use crate::pushes::{boxed, push_node};
+use crate::pushes::push_node;
 use crate::reader::Reader;
 use crate::token::{check_limit, expect};
 use fm_lex::{Keyword, Kind, Spot};
@@ -269,8 +269,8 @@ fn read_inner(r: &mut Reader, draft: &mut Expr, used: u32, owed: u32) -> Result<
     read_sums(r, draft, term, owed)
 }
 
-// Reads an outermost expression, which a token outside of it follows.
-fn read_expr(alloc: Global, r: &mut Reader) -> Result<Expr, ParseFault>
+/// Reads an outermost expression, which a token outside of it follows.
+pub fn read_expr(alloc: Global, r: &mut Reader) -> Result<Expr, ParseFault>
     ensures text { IfOk result (λ e. Spelt expr_text expr_tree (expr_view e) r.old r.new) }
     ensures follows { (whole : Option Fault) (k : TheKind) (below : List Sym)
         → At whole 0 (expr_syms (one k ∷ below)) r.old
@@ -282,15 +282,4 @@ fn read_expr(alloc: Global, r: &mut Reader) -> Result<Expr, ParseFault>
     };
     read_inner(r, &mut draft, 0, 0)?;
     Ok(draft)
-}
-
-/// Reads an outermost expression, which a token outside of it follows, and puts it behind a box.
-pub fn read_boxed(alloc: Global, r: &mut Reader) -> Result<Box<Expr>, ParseFault>
-    ensures text { IfOk result (λ b. Spelt expr_text expr_tree (expr_view b.value) r.old r.new) }
-    ensures follows { (whole : Option Fault) (k : TheKind) (below : List Sym)
-        → At whole 0 (expr_syms (one k ∷ below)) r.old
-        → Leads whole 0 (one k ∷ below) result r.new }
-{
-    let expr = read_expr(alloc, r)?;
-    boxed(alloc, expr)
 }

@@ -18,7 +18,7 @@ mod token;
 mod value;
 
 pub use count::Count;
-pub use expr::read_boxed;
+pub use expr::read_expr;
 pub use fault::ParseFault;
 pub use lists::{read_lengths, read_numbers, read_parts, read_pitches};
 pub use pushes::{make_room, push};

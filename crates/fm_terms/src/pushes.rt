@@ -7,7 +7,6 @@ ghost use Rattle.fm_terms.specs.Drafts.{spotted, extended};
 use crate::fault::ParseFault;
 use fm_lex::Spot;
 use fm_value::{Expr, Node, Spot2};
-use std::alloc::Global;
 
 /// Takes room for the next item of a list. The first and the second take it for themselves alone,
 /// since most lists of a score have one entry or two.
@@ -47,15 +46,4 @@ pub fn push_node(draft: &mut Expr, node: Node, spot: Spot) -> Result<(), ParseFa
             column: spot.column,
         },
     )
-}
-
-/// Puts an expression behind a box.
-pub fn boxed(alloc: Global, expr: Expr) -> Result<Box<Expr>, ParseFault>
-    ensures ok { IfOk result (λ b. b.value ≡ expr) }
-    ensures memory { IfErr result (λ e. e ≡ ParseFault.Memory) }
-{
-    match Box::new(alloc, expr) {
-        Ok(value) => Ok(value),
-        Err(_) => Err(ParseFault::Memory),
-    }
 }

@@ -13,7 +13,7 @@ ghost use Rattle.fm_terms.specs.Follow.{FollowsStack, Spelt};
 ghost use Rattle.fm_terms.specs.Counts.{count_text, count_tree, count_view, timed_view};
 
 use crate::count::Count;
-use crate::expr::read_boxed;
+use crate::expr::read_expr;
 use crate::fault::ParseFault;
 use crate::reader::Reader;
 use crate::token::{expect, read_number};
@@ -105,7 +105,7 @@ fn read_computed(alloc: Global, r: &mut Reader) -> Result<Amount, ParseFault>
         result r.old r.new }
 {
     expect(r, OPENS)?;
-    let value = read_boxed(alloc, r)?;
+    let value = read_expr(alloc, r)?;
     expect(r, CLOSES)?;
     Ok(Amount::Computed { value })
 }
@@ -139,7 +139,7 @@ fn read_drawn(alloc: Global, r: &mut Reader) -> Result<Count, ParseFault>
     ensures follows { FollowsStack (one open_parenthesis ∷ with_most []) result r.old r.new }
 {
     expect(r, OPENS)?;
-    let value = read_boxed(alloc, r)?;
+    let value = read_expr(alloc, r)?;
     expect(r, CLOSES)?;
     expect(r, MAX)?;
     let most = read_number(r)?;

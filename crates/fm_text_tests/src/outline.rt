@@ -2,7 +2,7 @@
 
 use crate::same::same;
 use crate::texts::read;
-use fm_grammar::{Item, Maker, Number, What};
+use fm_grammar::{Maker, Number, Opening};
 use fm_lex::Spot;
 use fm_outline::{Instruction, Lasting, Outline, Outliner, Step, outline_of};
 use fm_rules::{CheckFault, Why};
@@ -64,7 +64,7 @@ const FORK_IN_A_PHRASE: &str =
 fn a_fork_in_a_phrase_is_found_in_a_loop(rt: HostRuntime) {
     match outlined(rt.alloc(), FORK_IN_A_PHRASE) {
         Some(outline) => {
-            let forks = outline.block.first().map(|step| step.forks);
+            let forks = outline.block.first().map(|step| step.forks());
             same(&rt, &forks, &Some(true));
         }
         None => assert!(rt; false),
@@ -82,25 +82,22 @@ fn looped<'s>(outliner: &mut Outliner<'s>, alloc: Global, rounds: u32) -> Step {
         value: rounds,
         spot: at(8),
     };
-    let body = Vec::new(alloc);
-    let what = What::Repeat { count, body };
-    let begun = outliner.begin(alloc, Item { spot: at(1), what });
-    let what = What::Skip;
-    let inside = outliner.make(alloc, Item { spot: at(20), what });
+    let opened = outliner.open(alloc, at(1), Opening::Repeat { count });
+    let inside = outliner.skip(at(20));
     let mut body = Vec::new(alloc);
     let _ = body.push(inside);
-    outliner.enclose(begun, body)
+    outliner.enclose(opened, body)
 }
 
 // The outline of two loops, as a reader tells them.
 fn told(alloc: Global, first: u32, second: u32) -> Result<Outline, CheckFault> {
     match read(alloc, "formula 1; seed 7;") {
         Ok(score) => {
-            let mut outliner = Outliner::open(alloc, &score);
+            let mut outliner = Outliner::open(alloc, score.head);
             let step = looped(&mut outliner, alloc, first);
-            outliner.play(step);
+            outliner.enter(step);
             let step = looped(&mut outliner, alloc, second);
-            outliner.play(step);
+            outliner.enter(step);
             outliner.close()
         }
         Err(_) => Err(CheckFault::Memory),

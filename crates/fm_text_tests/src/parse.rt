@@ -142,8 +142,8 @@ fn check_told<R: Abort>(rt: &R, alloc: Global, text: &str, want: Told) {
 
 // The version of a score, its seed, and how many entries it has.
 fn numbers(score: &Score) -> (u32, Option<u32>, usize) {
-    let seed = score.seed.map(|number| number.value);
-    (score.version.value, seed, score.entries.len())
+    let seed = score.head.seed.map(|number| number.value);
+    (score.head.version.value, seed, score.entries.len())
 }
 
 // The name of a shape that is the first entry, and how many parts it has.

@@ -1,11 +1,10 @@
 //! The rules of both versions, and lengths in ticks.
 
 use crate::same::same;
-use fm_grammar::{Length, Number, Score};
+use fm_grammar::{Head, Length, Number};
 use fm_lex::Spot;
 use fm_msg::Profile;
 use fm_rules::{FIRST_VERSION, LAST_VERSION, rules_of, ticks_of};
-use std::alloc::Global;
 
 fn number(value: u32) -> Number {
     Number {
@@ -21,14 +20,13 @@ fn share(over: u32, under: u32) -> Length {
     }
 }
 
-// What the rules of a score without entries are: whether they have running status, the ticks of a
-// quarter and of a whole note, and the most processes.
-fn rules(alloc: Global, version: u32, division: Option<Number>) -> (bool, u16, u32, u32) {
-    let rules = rules_of(&Score {
+// What the rules of a head are: whether they have running status, the ticks of a quarter and of a
+// whole note, and the most processes.
+fn rules(version: u32, division: Option<Number>) -> (bool, u16, u32, u32) {
+    let rules = rules_of(Head {
         version: number(version),
         division,
         seed: None,
-        entries: Vec::new(alloc),
     });
     let Profile { running, division } = rules.profile;
     (running, division, rules.whole_note, rules.most_processes)
@@ -36,15 +34,15 @@ fn rules(alloc: Global, version: u32, division: Option<Number>) -> (bool, u16, u
 
 #[test]
 fn first_version(rt: HostRuntime) {
-    let found = rules(rt.alloc(), FIRST_VERSION, None);
+    let found = rules(FIRST_VERSION, None);
     same(&rt, &found, &(false, 480, 1_920, 4_096));
 }
 
 #[test]
 fn last_version(rt: HostRuntime) {
-    let stated = rules(rt.alloc(), LAST_VERSION, Some(number(96)));
+    let stated = rules(LAST_VERSION, Some(number(96)));
     same(&rt, &stated, &(true, 96, 384, 16_384));
-    same(&rt, &rules(rt.alloc(), LAST_VERSION, None).1, &480);
+    same(&rt, &rules(LAST_VERSION, None).1, &480);
 }
 
 /// The ticks of a whole note, a share of it, and the ticks of the share.

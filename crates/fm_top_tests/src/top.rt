@@ -3,6 +3,7 @@ ghost use Rattle.std.specs.Prelude.{◌≡◌, [], IfOk};
 
 mod breaks;
 mod damaged;
+mod limits;
 mod runs;
 mod scores;
 mod tasks;

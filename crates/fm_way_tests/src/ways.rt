@@ -1,11 +1,11 @@
 //! Pieces under each way of playing, and their plans.
 
 use crate::runs::{CAPACITY, FILES, Failing, NOTE, THREE_BRANCHES, run_at, sum_of};
-use fm_check::{Checked, check_outline};
+use fm_check::check;
 use fm_edge::{MemorySink, OpenGate};
 use fm_lex::MAX_TEXT;
 use fm_parse::parse;
-use fm_plan::plan_outline;
+use fm_plan::plan;
 use fm_program::Plan;
 use fm_round::Rounds;
 use std::alloc::{AllocError, Global};
@@ -153,14 +153,14 @@ const TOTALS: &[(&[u8], Totals)] = &[
 
 type Totals = (u32, u64, u64, u64);
 
-// The plan of an accepted text, made by the calls of which the command is put together.
+// The plan of an accepted text, made by the calls that go by its tree, as the command does not.
 pub fn plan_of(alloc: Global, text: &[u8]) -> Result<Plan, Fail> {
     if text.len() > MAX_TEXT {
         return Err(Fail::from("too much text"));
     }
     let score = parse(alloc, text)?;
-    let Checked { outline, bounds } = check_outline(alloc, &score)?;
-    Ok(plan_outline(alloc, outline, &bounds)?)
+    let bounds = check(alloc, &score)?;
+    Ok(plan(alloc, &score, &bounds)?)
 }
 
 fn copy_of(alloc: Global, text: &[u8]) -> Result<Plan, Fail> {

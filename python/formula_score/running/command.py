@@ -220,26 +220,52 @@ def environment() -> dict[str, str]:
 def _run(program: Optional[str], options: Sequence[str], source: str, target: str,
          text: Optional[bytes] = None) -> str:
     """Runs the command, and gives its line; raises what its status says."""
-    status, said = answer(program, [*options, "--", source, target])
-    if status == 0:
-        return said
+    words = [*options, "--", source, target]
+    status, said = answer(program, words)
+    if status:
+        complain(status, said, words, text)
+    return said
+
+
+def complain(status: int, said: str, words: Sequence[str], text: Optional[bytes] = None) -> None:
+    """Raises what a status above 0 and its line say of a run with these words, of which the last two are IN and OUT."""
     if status == 3:
-        _refuse(said, source, text, "--audit" in options)
-    raise CommandError(status, said, explanation(status, said, [*options, "--", source, target]))
+        _refuse(said, words[-2], text, "--audit" in words)
+    raise CommandError(status, said, explanation(status, said, words))
 
 
 def answer(program: Optional[str], words: Sequence[str]) -> tuple[int, str]:
     """Runs the command on these words, and gives its status and its line."""
-    command = find_program(program)
-    if command is None:
-        raise CommandError(127, "", "there is no program: name it, or let FORMULA name it, or put formula into PATH")
+    command = needed_program(program)
     try:
         run = subprocess.run([command, *words], stdin=subprocess.DEVNULL, stdout=subprocess.PIPE,
                              stderr=subprocess.DEVNULL, check=False, env=environment())
     except (OSError, ValueError) as error:  # a name that no file has is the one or the other
-        reason = error.strerror if isinstance(error, OSError) else str(error)
-        raise CommandError(127, "", f"{command} cannot be run: {reason}") from error
+        raise _unusable(command, "run", error) from error
     return run.returncode, run.stdout.decode("utf-8", "replace").strip()
+
+
+def content_of(program: Optional[str] = None) -> bytes:
+    """The bytes of the program, as an executor is sent them."""
+    command = needed_program(program)
+    try:
+        with open(command, "rb") as file:
+            return file.read()
+    except (OSError, ValueError) as error:
+        raise _unusable(command, "read", error) from error
+
+
+def needed_program(program: Optional[str] = None) -> str:
+    """The program; a `CommandError` where there is none."""
+    found = find_program(program)
+    if found is None:
+        raise CommandError(127, "", "there is no program: name it, or let FORMULA name it, or put formula into PATH")
+    return found
+
+
+def _unusable(command: str, what: str, error: Exception) -> CommandError:
+    reason = error.strerror if isinstance(error, OSError) else str(error)
+    return CommandError(127, "", f"{command} cannot be {what}: {reason}")
 
 
 def _refuse(said: str, source: str, text: Optional[bytes], is_record: bool) -> None:

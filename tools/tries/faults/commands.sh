@@ -128,7 +128,7 @@ fi
 # Names below /dev, and closed descriptors, without explanations.
 rm -r "$scratch/installed/lib/formula/python"
 ln -s /dev/stdout "$scratch/link"
-fault '1:1 fault 3' >"$scratch/line"
+echo "$read" >"$scratch/line"
 { cat "$score" && head -c 2000 /dev/zero | tr '\0' '\n' && echo 'note e4 1/4;'; } >"$scratch/padded"
 "$program" "$scratch/padded" "$scratch/padded_file"
 error_closed() { "$@" 2>&-; }
@@ -158,7 +158,7 @@ for way in installed scripted; do
     done
     ends "$way, IN is a descriptor that is open" 0 "" third_open onto "$way" /dev/fd/3 /dev/stdout
     leaves "$way, IN is a descriptor that is open" "$scratch/file"
-    ends "$way, IN is a descriptor that nobody opened" 3 "" third_closed into_cat "$way" /dev/fd/3 /dev/stdout
+    ends "$way, IN is a descriptor that nobody opened" 2 "" third_closed into_cat "$way" /dev/fd/3 /dev/stdout
     leaves "$way, IN is a descriptor that nobody opened" "$scratch/line"
     ends "$way, OUT is a pipe, standard input" 4 "$write" from_pipe "$score" "$way" "$score" /dev/stdin
     leaves "$way, OUT is a pipe, standard input"

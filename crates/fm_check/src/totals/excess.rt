@@ -1,6 +1,6 @@
 //! Which total is too much.
 
-ghost use Rattle.std.specs.Prelude.{◌≡◌, Bool, nat_lt, option_map};
+ghost use Rattle.std.specs.Prelude.{◌≡◌, nat_lt, option_map};
 ghost use Rattle.fm_lex.specs.declared.spot.Spot.{Spot};
 ghost use Rattle.fm_meaning.specs.Rules.{VersionRules};
 ghost use Rattle.fm_meaning.specs.Faults.{first_found};
@@ -30,8 +30,8 @@ fn passes(total: u64, limit: u64) -> bool
 /// has so many processes at most.
 #[tactic(auto, using(crate::proofs::LimitLemmas::capped_lt))]
 pub(crate) fn first_excess(most_processes: u32, whole: Sums) -> Option<Why>
-    ensures { (rules : VersionRules) (spot : Spot) (a : Totals) (f : Bool) →
-        rules.most_processes ≡ most_processes → whole ≡ saturated a f →
+    ensures { (rules : VersionRules) (spot : Spot) (a : Totals) →
+        rules.most_processes ≡ most_processes → whole ≡ saturated a →
         first_found (limit_faults rules spot a) ≡ option_map (fault_at spot) result }
 {
     if passes(whole.processes, u64::from(most_processes)) {

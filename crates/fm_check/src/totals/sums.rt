@@ -1,6 +1,6 @@
 //! Totals that stop at a ceiling.
 
-ghost use Rattle.std.specs.Prelude.{◌≡◌, ℕ, ◌+◌, ◌*◌, ◌||◌, Bool, true, false};
+ghost use Rattle.std.specs.Prelude.{◌≡◌, ℕ, ◌+◌, ◌*◌};
 ghost use Rattle.fm_meaning.specs.Bounds.{Totals, totals, plus, with_more, either, beside, repeated, score_totals};
 ghost use Rattle.fm_check.specs.Saturation.{capped, saturated};
 
@@ -33,7 +33,7 @@ fn product(a: u64, b: u64) -> u64
     cap(a.saturating_mul(b))
 }
 
-/// The totals of statements, each up to the ceiling, and whether a fork is among them.
+/// The totals of statements, each up to the ceiling.
 #[derive(Clone, Copy, Debug, PartialEq, Eq)]
 pub(crate) struct Sums {
     pub(crate) processes: u64,
@@ -42,7 +42,6 @@ pub(crate) struct Sums {
     pub(crate) length: u64,
     pub(crate) events: u64,
     pub(crate) steps: u64,
-    pub(crate) forks: bool,
 }
 
 impl Sums {
@@ -53,7 +52,6 @@ impl Sums {
         length: 0,
         events: 0,
         steps: 0,
-        forks: false,
     };
 
     /// No branches: the process that follows a fork.
@@ -63,13 +61,12 @@ impl Sums {
         length: 0,
         events: 0,
         steps: 0,
-        forks: true,
     };
 
     /// A statement of one operation.
     #[tactic(auto, unfolding(crate::specs::Saturation::capped))]
     pub(crate) fn single(length: u64, events: u64, steps: u64) -> Sums
-        ensures { result ≡ saturated (totals 0 1 length events steps) false }
+        ensures { result ≡ saturated (totals 0 1 length events steps) }
     {
         Sums {
             processes: 0,
@@ -77,16 +74,14 @@ impl Sums {
             length: cap(length),
             events: cap(events),
             steps: cap(steps),
-            forks: false,
         }
     }
 
     /// Statements in turn.
     #[tactic(auto, using(crate::proofs::SaturationLemmas::saturation))]
     pub(crate) fn plus(self, other: Sums) -> Sums
-        ensures { (a b : Totals) (f g : Bool) →
-            self ≡ saturated a f → other ≡ saturated b g →
-            result ≡ saturated (plus a b) (f || g) }
+        ensures { (a b : Totals) → self ≡ saturated a → other ≡ saturated b →
+            result ≡ saturated (plus a b) }
     {
         Sums {
             processes: sum(self.processes, other.processes),
@@ -94,15 +89,14 @@ impl Sums {
             length: sum(self.length, other.length),
             events: sum(self.events, other.events),
             steps: sum(self.steps, other.steps),
-            forks: self.forks || other.forks,
         }
     }
 
     /// Statements inside a block of so many operations and steps.
     #[tactic(auto, using(crate::proofs::SaturationLemmas::saturation))]
     pub(crate) fn inside(self, operations: u64, steps: u64) -> Sums
-        ensures { (a : Totals) (f : Bool) →
-            self ≡ saturated a f → result ≡ saturated (with_more operations steps a) f }
+        ensures { (a : Totals) →
+            self ≡ saturated a → result ≡ saturated (with_more operations steps a) }
     {
         Sums {
             operations: sum(operations, self.operations),
@@ -114,9 +108,8 @@ impl Sums {
     /// One block or the other.
     #[tactic(auto, using(crate::proofs::SaturationLemmas::saturation))]
     pub(crate) fn either(self, other: Sums) -> Sums
-        ensures { (a b : Totals) (f g : Bool) →
-            self ≡ saturated a f → other ≡ saturated b g →
-            result ≡ saturated (either a b) (f || g) }
+        ensures { (a b : Totals) → self ≡ saturated a → other ≡ saturated b →
+            result ≡ saturated (either a b) }
     {
         Sums {
             processes: 0,
@@ -124,15 +117,14 @@ impl Sums {
             length: self.length.max(other.length),
             events: self.events.max(other.events),
             steps: sum(2, self.steps.max(other.steps)),
-            forks: self.forks || other.forks,
         }
     }
 
     /// One branch more beside others.
     #[tactic(auto, using(crate::proofs::SaturationLemmas::saturation))]
     pub(crate) fn beside(self, branch: Sums) -> Sums
-        ensures { (a b : Totals) (f g : Bool) →
-            self ≡ saturated a f → branch ≡ saturated b g → result ≡ saturated (beside b a) f }
+        ensures { (a b : Totals) →
+            self ≡ saturated a → branch ≡ saturated b → result ≡ saturated (beside b a) }
     {
         Sums {
             processes: sum(1, sum(branch.processes, self.processes)),
@@ -140,27 +132,25 @@ impl Sums {
             length: self.length.max(branch.length),
             events: sum(branch.events, self.events),
             steps: sum(branch.steps, self.steps),
-            forks: self.forks,
         }
     }
 
     /// A loop of so many rounds: one that forks is written out, a round after the other.
     #[tactic(auto, using(crate::proofs::SaturationLemmas::saturation))]
-    pub(crate) fn repeated(self, count: u32) -> Sums
-        ensures { (a : Totals) (f : Bool) →
-            self ≡ saturated a f → result ≡ saturated (repeated f count a) f }
+    pub(crate) fn repeated(self, count: u32, forks: bool) -> Sums
+        ensures { (a : Totals) →
+            self ≡ saturated a → result ≡ saturated (repeated forks count a) }
     {
         let count = u64::from(count);
         let length = product(count, self.length);
         let events = product(count, self.events);
-        if self.forks {
+        if forks {
             Sums {
                 processes: product(count, self.processes),
                 operations: sum(1, product(count, sum(1, self.operations))),
                 length,
                 events,
                 steps: product(count, self.steps),
-                forks: true,
             }
         } else {
             Sums {
@@ -169,7 +159,6 @@ impl Sums {
                 length,
                 events,
                 steps: sum(2, product(count, sum(self.steps, 1))),
-                forks: false,
             }
         }
     }
@@ -178,8 +167,7 @@ impl Sums {
     /// of each process.
     #[tactic(auto, using(crate::proofs::SaturationLemmas::saturation))]
     pub(crate) fn whole(self) -> Sums
-        ensures { (a : Totals) (f : Bool) →
-            self ≡ saturated a f → result ≡ saturated (score_totals a) f }
+        ensures { (a : Totals) → self ≡ saturated a → result ≡ saturated (score_totals a) }
     {
         let processes = sum(1, self.processes);
         Sums {

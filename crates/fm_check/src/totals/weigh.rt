@@ -1,10 +1,11 @@
 //! What statements add at most.
 
-ghost use Rattle.std.specs.Prelude.{◌≡◌, ℕ, ◌+◌, ◌*◌, ◌^◌, ◌<◌, false, length};
+ghost use Rattle.std.specs.Prelude.{◌≡◌, ℕ, ◌+◌, ◌*◌, ◌^◌, ◌<◌, length};
 ghost use Rattle.fm_expansion.specs.Outline.{Tables as PlainTables, play_in, passage_in};
 ghost use Rattle.fm_expansion.specs.Outline.{chord_in, parts_in, length_of, rounds_of};
 ghost use Rattle.fm_meaning.specs.Bounds.{totals, most_span, most_count, warped_length};
 ghost use Rattle.fm_outline.specs.View.{Look, tables_view, lasting_view, step_view, block_view};
+ghost use Rattle.fm_outline.specs.Forking.{AreMarked, IsMarked};
 ghost use Rattle.fm_outline.specs.View.{phrase_at};
 ghost use Rattle.fm_check.specs.Saturation.{capped, saturated};
 ghost use Rattle.fm_check.specs.Weight.{weight_of, weight_in, KnowsWeights};
@@ -41,7 +42,7 @@ fn pitches(tables: &Tables, chord: u32) -> usize
 // A note of so many pitches.
 fn note(ticks: u64, pitches: usize) -> Sums
     requires { pitches < 2 ^ 63 }
-    ensures { result ≡ saturated (totals 0 1 ticks (2 * pitches) (2 * pitches + 1)) false }
+    ensures { result ≡ saturated (totals 0 1 ticks (2 * pitches) (2 * pitches + 1)) }
 {
     let offs_and_ons = 2 * pitches as u64;
     Sums::single(ticks, offs_and_ons, offs_and_ons + 1)
@@ -91,7 +92,7 @@ fn weigh_phrase(phrases: &[Sums], number: Option<u32>) -> Sums
 #[cycle(weigh)]
 #[inline(never)]
 pub(crate) fn weigh_step(tables: &Tables, phrases: &[Sums], longest: u64, step: &Step) -> Sums
-    ensures { (n : ℕ) (look : Look) → longest ≡ capped n →
+    ensures { (n : ℕ) (look : Look) → longest ≡ capped n → IsMarked look step.now →
         KnowsWeights (tables_view tables.now) phrases.now n look →
         result ≡ weight_of n (play_in (tables_view tables.now) (step_view look step.now).what) }
 {
@@ -106,7 +107,7 @@ pub(crate) fn weigh_step(tables: &Tables, phrases: &[Sums], longest: u64, step: 
             weigh_steps(tables, phrases, longest, no),
         ),
         Instruction::Loop { count, body } => {
-            weigh_steps(tables, phrases, longest, body).repeated(most_rounds(*count))
+            weigh_steps(tables, phrases, longest, body).repeated(most_rounds(*count), step.forks())
         }
         Instruction::Phrase { number } => weigh_phrase(phrases, *number).inside(1, 0),
         Instruction::Par { branches } => {
@@ -136,7 +137,7 @@ pub(crate) fn weigh_step(tables: &Tables, phrases: &[Sums], longest: u64, step: 
 /// What statements in turn add at most.
 #[cycle(weigh)]
 pub(crate) fn weigh_steps(tables: &Tables, phrases: &[Sums], longest: u64, steps: &[Step]) -> Sums
-    ensures { (n : ℕ) (look : Look) → longest ≡ capped n →
+    ensures { (n : ℕ) (look : Look) → longest ≡ capped n → AreMarked look steps.now →
         KnowsWeights (tables_view tables.now) phrases.now n look →
         result ≡ weight_in n (passage_in (tables_view tables.now) (block_view look steps.now)) }
 {

@@ -21,7 +21,9 @@ loop-step-preserved c = λ s sound.
     c.in_ok-before.ensures.ok s (play_in t (step_view look c.step-item.result).what)
     (passage_in t (block_view look (drop (i + 1) o.block.items)))
     (ap VersionRules.most_processes sound.is.rules)
-    (c.weigh_step-weight.ensures (resolved s).longest look is (rw c.deref-in-loop-step.ensures.value
+    (c.weigh_step-weight.ensures (resolved s).longest look is
+    (sound.is.marked.block c.step-item.result i (rw c.deref-step-items.ensures.value at c.loop-step-test.true)
+    (rw c.deref-step-items.ensures.value at c.step-item.is)) (rw c.deref-in-loop-step.ensures.value
     (rw c.deref.ensures.value at (c.in_ok-phrases.ensures (resolved s).longest is))))
     (at_step s c.loop-step.before t look o.block.items i c.step-item.result
     (rw c.deref-step-items.ensures.value at c.loop-step-test.true)
@@ -37,7 +39,9 @@ returns-in_err-before-clause-refused c = λ s sound why spot failed.
     c.in_err-before.ensures.refused why spot (handed failed c.from_residual-in_err-before.ensures.1) s
     (play_in t (step_view look c.step-item.result).what) (passage_in t (block_view look (drop (i + 1) o.block.items)))
     (ap VersionRules.most_processes sound.is.rules)
-    (c.weigh_step-weight.ensures (resolved s).longest look is (rw c.deref-in-loop-step.ensures.value
+    (c.weigh_step-weight.ensures (resolved s).longest look is
+    (sound.is.marked.block c.step-item.result i (rw c.deref-step-items.ensures.value at c.loop-step-test.true)
+    (rw c.deref-step-items.ensures.value at c.step-item.is)) (rw c.deref-in-loop-step.ensures.value
     (rw c.deref.ensures.value at (c.in_ok-phrases.ensures (resolved s).longest is))))
     (at_step s c.loop-step.before t look o.block.items i c.step-item.result
     (rw c.deref-step-items.ensures.value at c.loop-step-test.true)
@@ -65,3 +69,8 @@ returns-clause-faultless c = λ s sound.
     let o = c.args.outline.now in
     (at_end s c.loop-step.before (tables_view o.tables) (look_of o) o.block.items
     c.loop-step.step-index (rw c.deref-step-items.ensures.value at c.loop-step-test.false) (c.loop-step.invariant s sound)).faults
+
+-- ---- what is found of phrases
+
+pub weigh_phrases-requires : goal.weigh_phrases-requires
+weigh_phrases-requires c = rw c.deref.ensures.value c.requires.1.is.marked.phrases

@@ -12,14 +12,15 @@ use Rattle.fm_grammar.proofs.StatementViews.{map_twice}
 use Rattle.fm_outline.specs.View.{arms_of_blocks, block_view, step_view, quality_view}
 use Rattle.fm_outline.specs.declared.step.Step.{the_lemmas}
 use Rattle.fm_outline.specs.Forking.{inside, AreMarked}
-use Rattle.fm_outline.proofs.ForkLemmas.{drop_at, left_marked, right_marked, says}
+use Rattle.fm_outline.proofs.ForkLemmas.{branch_marked, drop_at, left_marked, phrase_marked, right_marked, says}
+use Rattle.fm_outline.proofs.MapLemmas.{map_at}
 use Rattle.fm_plan.specs.Made.{made, made_in}
 use Rattle.fm_plan.specs.Seen.{emitting_of, look_at, look_of, Agrees, Makes}
 use Rattle.fm_plan.proofs.MadeLemmas.{made_phrase, made_channel, made_steady}
 use Rattle.fm_plan.proofs.AgreesLemmas.{agrees_channel, agrees_steady}
 use Rattle.fm_plan.proofs.Weights.{total, step_weight, steps_weight, phrases_weight, element_weight, phrase_weight}
-use Rattle.fm_plan.proofs.PhraseLemmas.{phrase_stands, phrase_past, map_at}
-use Rattle.fm_plan.proofs.ForkLemmas.{branch_marked, phrase_marked, those_marked}
+use Rattle.fm_plan.proofs.PhraseLemmas.{phrase_stands, phrase_past}
+use Rattle.fm_plan.proofs.ForkLemmas.{those_marked}
 use Rattle.fm_plan.proofs.ExpandLemmas.{nothing, loop_written, loop_framed, choice_made, loop_made, list_made, warp_made, steps_on}
 use Rattle.fm_plan.proofs.ExpandLemmas.{rounds_on, fork_on}
 use Rattle.fm_plan.proofs.expanding.+expand.Goals as goal

@@ -4,6 +4,9 @@ use Rattle.fm_board.specs.Words.{spell}
 use Rattle.fm_board.specs.declared.seen.Seen.{Seen}
 use Rattle.fm_board.specs.declared.view.Mind.{Mind}
 use Rattle.fm_board.specs.declared.view.View.{View}
+use Rattle.fm_board.proofs.FoundLast.{latest_now}
+use Rattle.fm_board.specs.Plays.{Holder}
+use Rattle.fm_board.specs.View.{holding}
 use Rattle.fm_board.proofs.Steps.{claims_at, found_as, hands_as, held_tidy, is_out, no_strand, stays_tidy, taken_out}
 use Rattle.fm_board.proofs.board.Board.claim.Goals as goal
 
@@ -14,7 +17,7 @@ compare_exchange-found-requires-clause-may c =
     c.seat.inside.number _ c.args.seat.now
     c.args.self.now.same.0 c.requires.ours (ap (λ (x : SeatState). x.mind) c.seat.view_is) c.index_of.ensures c.requires.there c.requires.idle
     c.requires.tag
-    e.fits.few c.word_of-old.ensures c.claimed.ensures c.seat.invariant.0 c.word_of-new.ensures
+    e.fits.few c.word_of-old.ensures c.claimed.ensures c.seat.invariant.0.0 c.word_of-new.ensures
 
 pub seen_of-requires : goal.seen_of-requires
 seen_of-requires c = ((c.compare_exchange-found.ensures.told c.args.process c.index_of.ensures).1 c.if-found-old.true).word
@@ -23,9 +26,12 @@ pub invariant_of-seat : goal.invariant_of-seat
 invariant_of-seat c =
     let found = (c.compare_exchange-found.ensures.told c.args.process c.index_of.ensures).1 c.if-found-old.true in
     let s = c.seen_of.result in
-    let mind = found.mind s.tag s.clock s.seat c.seen_of.ensures.few c.seen_of.ensures.word in
-    stays_tidy _ _ _ _ c.seat.inside.token.me c.compare_exchange-found.new.self.me c.seat.invariant (ap (λ (m : Mind). m.view.number) mind)
-    (ap (λ (m : Mind). m.view.holds) mind) (ap (λ (m : Mind). m.view.sweep) mind) (ap (λ (m : Mind). m.view.plan) mind) found.out
+    let mind = found.mind s.tag s.clock s.seat c.seen_of.ensures.few c.seen_of.ensures.word in (
+      stays_tidy _ _ _ _ c.seat.inside.token.me c.compare_exchange-found.new.self.me c.seat.invariant.0
+          (ap (λ (m : Mind). m.view.number) mind) (ap (λ (m : Mind). m.view.holds) mind) (ap (λ (m : Mind). m.view.sweep) mind)
+          (ap (λ (m : Mind). m.view.plan) mind) found.out,
+      latest_now _ _ c.seat.inside.token.me.0.view _ c.seat.invariant.1 (ap (λ (m : Mind). m.view) mind),
+    )
 
 pub returns-then-found-old : goal.returns-then-found-old
 returns-then-found-old c =
@@ -65,10 +71,13 @@ pub invariant_of-seat-2 : goal.invariant_of-seat-2
 invariant_of-seat-2 c =
     let e : Seen = c.args.expected.now in
     let hit = (c.compare_exchange-found.ensures.told c.args.process c.index_of.ensures).0 c.if-found-old.false e.tag e.clock e.seat
-    e.fits.few c.word_of-old.ensures in
-    held_tidy _ _ _ _ _ c.seat.inside.token.me _ _ c.args.process _ _ _ c.seat.invariant
-    (ap (λ (x : SeatState). x.mind.view.holds) c.seat.view_is ∙ c.requires.idle) hit
-    c.exchange.ensures.is c.is_ended-seat-inside.ensures
+    e.fits.few c.word_of-old.ensures in (
+      held_tidy _ _ _ _ _ c.seat.inside.token.me _ _ c.args.process _ _ _ c.seat.invariant.0
+          (ap (λ (x : SeatState). x.mind.view.holds) c.seat.view_is ∙ c.requires.idle) hit
+          c.exchange.ensures.is c.is_ended-seat-inside.ensures,
+      latest_now _ _ (holding c.seat.inside.token.me.0.view hit.hold) _ c.seat.invariant.1
+          (ap (λ (y : Holder). y.0.view) c.exchange.ensures.is ∙ ap (λ (m : Mind). m.view) hit.mind),
+    )
 
 pub returns : goal.returns
 returns c =

@@ -3,9 +3,12 @@ use Rattle.atomic_table.specs.Table.{rest}
 use Rattle.fm_buffer.specs.Outbox.{EventQueue}
 use Rattle.fm_strand.specs.declared.strand.Strand.{Strand}
 use Rattle.fm_program.specs.Parts.{PlanParts}
-use Rattle.fm_board.specs.Plays.{left_of}
+use Rattle.fm_board.specs.Plays.{Holder, left_of}
 use Rattle.fm_board.specs.Seats.{SeatState}
 use Rattle.fm_board.specs.declared.deposit.Deposit.{Deposit}
+use Rattle.fm_board.specs.View.{gave}
+use Rattle.fm_board.specs.declared.view.Mind.{Mind}
+use Rattle.fm_board.proofs.FoundLast.{latest_gave}
 use Rattle.fm_board.proofs.Returns.{clock_low, gave_as, gave_extends, gave_knows, gave_tidy, gives_at}
 use Rattle.fm_board.proofs.board.Board.give.Goals as goal
 
@@ -28,21 +31,25 @@ store-requires-clause-may c =
     gives_at _ c.args.self.now.about _ _ _ c.args.berth.process _ c.len.result _ _ _ _ _ _ c.seat.inside.token.me _ c.args.berth.strand
     c.args.berth.outbox c.args.seat.now
     c.args.self.now.same.0 (ap (λ (x : SeatState). x.mind) c.seat.view_is) c.index_of.ensures c.requires.may c.len.ensures.bound.within
-    c.seat.invariant
+    c.seat.invariant.0
     c.given-tag.ensures c.len.ensures.value (c.clock-clock.ensures c.args.self.now.about.plan c.requires.may.strand.course)
     c.word_of-new.ensures brought
 
 pub invariant_of-seat : goal.invariant_of-seat
 invariant_of-seat c =
-    gave_tidy _ c.args.berth.process _ _ _ _ _ c.seat.inside.token.me c.exchange.new.self.me _ _ c.seat.invariant c.exchange.ensures.is
-    (c.store.ensures.told c.args.berth.process c.given-tag.result c.clock-clock.result 0 c.index_of.ensures
-    (omega arith) c.word_of-new.ensures)
+    let back = c.store.ensures.told c.args.berth.process c.given-tag.result c.clock-clock.result 0 c.index_of.ensures
+    (omega arith) c.word_of-new.ensures in (
+      gave_tidy _ c.args.berth.process _ _ _ _ _ c.seat.inside.token.me c.exchange.new.self.me _ _ c.seat.invariant.0
+          c.exchange.ensures.is back,
+      latest_gave _ _ c.seat.inside.token.me.0.view _ c.seat.invariant.1
+          (ap (λ (m : Mind). m.view) back.mind ∙ ap (λ (y : Holder). gave y.0.view) c.exchange.ensures.is),
+    )
 
 pub returns-clause-gave : goal.returns-clause-gave
 returns-clause-gave c =
     gave_as c.args.self.now.about _ _ _ _ c.args.berth.process _ c.len.result _ _ _ _ c.seat.inside.token.me c.exchange.new.self.me _ _
     c.args.berth.strand c.args.berth.outbox _
-    c.requires.may c.seat.invariant c.exchange.ensures.is refl (λ (q : PlanParts). ap (left_of q) c.of.ensures) c.requires.ours.plan
+    c.requires.may c.seat.invariant.0 c.exchange.ensures.is refl (λ (q : PlanParts). ap (left_of q) c.of.ensures) c.requires.ours.plan
     (c.store.ensures.told c.args.berth.process c.given-tag.result c.clock-clock.result 0 c.index_of.ensures
     (omega arith) c.word_of-new.ensures)
     c.given-tag.ensures c.len.ensures.value (c.clock-clock.ensures c.args.self.now.about.plan c.requires.may.strand.course)

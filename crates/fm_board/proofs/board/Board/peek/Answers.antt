@@ -4,6 +4,7 @@ use Rattle.fm_board.specs.declared.view.Mind.{Mind}
 use Rattle.fm_board.specs.declared.view.View.{View}
 use Rattle.fm_board.specs.Minds.{recalled}
 use Rattle.fm_board.proofs.Findings.{marked_now, ours_seen, seen_found, there_seen}
+use Rattle.fm_board.proofs.FoundLast.{latest_now}
 use Rattle.fm_board.proofs.Steps.{found_as, recalls_at, stays_tidy, widths}
 use Rattle.fm_board.proofs.board.Board.peek.Goals as goal
 
@@ -20,9 +21,11 @@ pub invariant_of-seat : goal.invariant_of-seat
 invariant_of-seat c =
     let found = c.load-found.ensures.told c.args.process c.index_of.ensures in
     let s = c.seen_of.result in
-    let mind = found.mind s.tag s.clock s.seat c.seen_of.ensures.few c.seen_of.ensures.word in
-    stays_tidy _ _ _ _ c.seat.inside.token.me c.load-found.new.self.me c.seat.invariant (ap (λ (m : Mind). m.view.number) mind)
-    (ap (λ (m : Mind). m.view.holds) mind) (ap (λ (m : Mind). m.view.sweep) mind) (ap (λ (m : Mind). m.view.plan) mind) found.out
+    let mind = found.mind s.tag s.clock s.seat c.seen_of.ensures.few c.seen_of.ensures.word in (
+      stays_tidy _ _ _ _ c.seat.inside.token.me c.load-found.new.self.me c.seat.invariant.0 (ap (λ (m : Mind). m.view.number) mind)
+          (ap (λ (m : Mind). m.view.holds) mind) (ap (λ (m : Mind). m.view.sweep) mind) (ap (λ (m : Mind). m.view.plan) mind) found.out,
+      latest_now _ _ c.seat.inside.token.me.0.view _ c.seat.invariant.1 (ap (λ (m : Mind). m.view) mind),
+    )
 
 pub returns-clause-found : goal.returns-clause-found
 returns-clause-found c =

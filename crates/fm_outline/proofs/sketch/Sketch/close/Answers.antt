@@ -1,7 +1,8 @@
 use Rattle.std.proofs.Common.{◌∙◌, ap}
 use Rattle.fm_expansion.specs.Outline.{passage_in}
 use Rattle.fm_outline.proofs.SketchLemmas.{ends_walked}
-use Rattle.fm_outline.proofs.WalkLemmas.{ends_as_outline, ends_faultless, ends_marked, phrases_stand}
+use Rattle.fm_outline.proofs.WalkLemmas.{ends_as_outline, ends_asking, ends_faultless, ends_phrases, phrases_stand}
+use Rattle.fm_outline.proofs.ForkLemmas.{forks_marked}
 use Rattle.fm_outline.proofs.sketch.Sketch.close.Goals as goal
 
 pub returns-clause-outline : goal.returns-clause-outline
@@ -9,7 +10,11 @@ returns-clause-outline c = λ s o. record {
   view = ends_as_outline (ends_walked o);
   seed = o.seed;
   rules = o.rules;
-  marked = record { block = ends_marked (ends_walked o); phrases = (ends_walked o).phrases_marked };
+  marked = record {
+    block = forks_marked _ _ _ (ends_asking (ends_walked o));
+    phrases = λ n within. forks_marked _ _ _ (ends_phrases (ends_walked o) n within);
+  };
+  asking = record { block = ends_asking (ends_walked o); phrases = ends_phrases (ends_walked o) };
 }
 
 pub returns-clause-faultless : goal.returns-clause-faultless
