@@ -9,7 +9,7 @@ ghost use Rattle.fm_terms.specs.Follow.{FollowsStack, Spelt};
 
 use crate::fault::ParseFault;
 use crate::part::read_part;
-use crate::pushes::push;
+use crate::pushes::{append, push};
 use crate::reader::Reader;
 use crate::token::{expect, read_number};
 use crate::value::{read_length, read_pitch};
@@ -28,11 +28,11 @@ pub fn read_pitches(alloc: Global, r: &mut Reader) -> Result<Vec<Pitch>, ParseFa
 {
     let mut list = Vec::new(alloc);
     let first = read_pitch(alloc, r)?;
-    push(&mut list, first)?;
+    append(&mut list, first)?;
     while r.next_is(COMMA) {
         expect(r, COMMA)?;
         let next = read_pitch(alloc, r)?;
-        push(&mut list, next)?;
+        append(&mut list, next)?;
     }
     Ok(list)
 }

@@ -20,16 +20,25 @@ pub fn make_room<T: Drop>(items: &mut Vec<T>) -> Result<(), ParseFault>
     Ok(())
 }
 
-/// Puts an item at the end of a list.
+/// Puts an item at the end of a list, whose room doubles. So a list that is dropped soon takes it
+/// less often.
+pub fn append<T: Drop>(items: &mut Vec<T>, item: T) -> Result<(), ParseFault>
+    ensures ok { OnOk result (items.new.items ≡ items.old.items ++ item ∷ []) }
+    ensures memory { IfErr result (λ e. e ≡ ParseFault.Memory) }
+{
+    match items.push(item) {
+        Ok(()) => Ok(()),
+        Err(_) => Err(ParseFault::Memory),
+    }
+}
+
+/// Puts an item at the end of a list, which stays: it takes no room that it may not need.
 pub fn push<T: Drop>(items: &mut Vec<T>, item: T) -> Result<(), ParseFault>
     ensures ok { OnOk result (items.new.items ≡ items.old.items ++ item ∷ []) }
     ensures memory { IfErr result (λ e. e ≡ ParseFault.Memory) }
 {
     make_room(items)?;
-    match items.push(item) {
-        Ok(()) => Ok(()),
-        Err(_) => Err(ParseFault::Memory),
-    }
+    append(items, item)
 }
 
 /// Puts a node with its spot at the end of an expression.
