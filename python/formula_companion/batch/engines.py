@@ -50,20 +50,20 @@ class _Pool(ProcessPoolExecutor):
         return future
 
 
-def _source() -> tuple[str, bytes]:
+def source() -> tuple[str, bytes]:
     """The source of the task, and the name of its module wherever it is played: a worker keeps a module that it has, also
     one of another batch, and a process of the pool would import the whole library with ours."""
-    source = pathlib.Path(task.__file__).read_bytes()
-    return f"formula_task_{task.digest_of(source)[:16]}", source
+    text = pathlib.Path(task.__file__).read_bytes()
+    return f"formula_task_{task.digest_of(text)[:16]}", text
 
 
 @contextlib.contextmanager
 def here(jobs: int, program: str) -> Iterator[Engine]:
     """Processes of this machine, which have the program of this file. They take no open descriptor of this one, and are
     ended with what they run where this is left before it is through."""
-    name, source = _source()
-    module = child.module_of(name, source)
-    with _Pool(jobs, multiprocessing.get_context("spawn"), child.begin, (name, source, program)) as pool:
+    name, text = source()
+    module = child.module_of(name, text)
+    with _Pool(jobs, multiprocessing.get_context("spawn"), child.begin, (name, text, program)) as pool:
         try:
             yield Engine(pool, module.play_some, lambda: jobs)
         except BaseException:
@@ -94,11 +94,11 @@ def dask(address: str) -> Iterator[Engine]:
     except (OSError, ValueError, TypeError) as error:
         raise Failed(f"no scheduler answers at {address}: {' '.join(str(error).split())}") from error
     with client:
-        name, source = _source()
-        module = child.module_of(name, source)
+        name, text = source()
+        module = child.module_of(name, text)
         with tempfile.TemporaryDirectory() as folder:
             path = pathlib.Path(folder, f"{name}.py")
-            path.write_bytes(source)
+            path.write_bytes(text)
             plugin = distributed.diagnostics.plugin.UploadFile(str(path))
         getattr(client, "register_plugin", client.register_worker_plugin)(plugin, name=name)
         last = 0
