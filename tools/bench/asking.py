@@ -1,5 +1,5 @@
 #!/usr/bin/env python3
-"""Plays FOLDER to OUT by tasks that are no work, and prints what the asker took: asking.py FOLDER OUT JOBS [ADDRESS]."""
+"""Plays FOLDER by tasks that are no work, and prints what the asker took: asking.py FOLDER OUT JOBS [ADDRESS]."""
 
 from __future__ import annotations
 

@@ -20,8 +20,8 @@ def module_of(name: str, source: bytes) -> ModuleType:
 
 
 def begin(name: str, source: bytes, program: str) -> None:
-    """Lets a process have the module of the task and the program of a file. It is ended, with the run that it waits for,
-    where its parent is gone."""
+    """Lets a process have the module of the task and the program of a file. It is ended where its parent is gone, with
+    the run that it waits for."""
     os.setpgid(0, 0)
     threading.Thread(target=_watch, daemon=True).start()
     module = module_of(name, source)

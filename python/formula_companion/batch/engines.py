@@ -51,8 +51,8 @@ class _Pool(ProcessPoolExecutor):
 
 
 def source() -> tuple[str, bytes]:
-    """The source of the task, and the name of its module wherever it is played: a worker keeps a module that it has, also
-    one of another batch, and a process of the pool would import the whole library with ours."""
+    """The name under which the task's module is known wherever it plays, and its source. A worker keeps a module that it
+    has, also one of another batch; and with the library's own, a process of the pool would import the whole library."""
     text = pathlib.Path(task.__file__).read_bytes()
     return f"formula_task_{task.digest_of(text)[:16]}", text
 
