@@ -115,7 +115,7 @@ class Nothing(unittest.TestCase):
 
         executor = Holding(answer)
         with mock.patch.object(many, "CARRYING", 0.01):
-            player = play_all(enumerate(TEXTS), b"p", PLAIN, executor)
+            player: Any = play_all(enumerate(TEXTS), b"p", PLAIN, executor)
             self.assertEqual([answer.status for _, answer in itertools.islice(player, 5)], 5 * [0])
             assert executor.held is not None
             executor.held.set_result(("done", [(0, "", b"long")], 300.0, ("here", 1)))

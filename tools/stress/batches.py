@@ -18,8 +18,8 @@ import time
 from typing import Callable
 
 import harness
+from batch_trial import REST, Trial, trial_of
 from cluster import Cluster, Host, cluster_of, end, of_session, python, until
-from trial import REST, Trial, trial_of
 
 HERE = pathlib.Path(__file__).resolve().parent
 
