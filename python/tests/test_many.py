@@ -71,7 +71,7 @@ class Nothing(unittest.TestCase):
         def answer(asked: int, _: object, digest: str, program: object, options: object, texts: list[bytes], *__: object) -> Any:
             return ("done", [(0, "", text) for text in texts], 0.1, ("here", 2)) if asked % 7 == 1 else BROKEN
 
-        found = dict(play_all(enumerate(TEXTS), b"", PLAIN, Answering(answer)))
+        found: dict[int, Any] = dict(play_all(enumerate(TEXTS), b"", PLAIN, Answering(answer)))
         self.assertEqual([found[at].data for at in range(6)], TEXTS)
 
     def test_texts_are_taken_as_they_are_sent(self) -> None:
