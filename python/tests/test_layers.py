@@ -58,7 +58,7 @@ def layers() -> dict[str, int]:
 
 class Layers(unittest.TestCase):
     def test_each_package_is_in_the_picture(self) -> None:
-        packages = {package(name) for name, path in MODULES.items() if path.name == "__init__.py"}
+        packages = {package(name) for name, path in MODULES.items() if path.name in ("__init__.py", "__main__.py")}
         self.assertEqual({*layers()} | {"formula_companion"}, packages)
         # nothing but the names of the library stands outside a package
         self.assertEqual([name for name in MODULES if package(name) == name and name not in packages], [])

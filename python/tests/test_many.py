@@ -2,10 +2,11 @@
 
 from __future__ import annotations
 
+import itertools
 import os
 import unittest
 from concurrent.futures import Executor, Future, ProcessPoolExecutor, ThreadPoolExecutor
-from typing import Any, Callable
+from typing import Any, Callable, Optional
 from unittest import mock
 
 from formula_score import CommandError, Refused, render, render_all
@@ -36,6 +37,18 @@ class Answering(Executor):
         return future
 
 
+class Holding(Answering):
+    """One whose first task that has the program along is not through until it is given an answer."""
+
+    held: "Optional[Future[Any]]" = None
+
+    def submit(self, fn: Callable[..., Any], /, *words: Any, **named: Any) -> "Future[Any]":
+        if self.held is None and words[1] is not None:
+            self.held = Future()
+            return self.held
+        return super().submit(fn, *words, **named)
+
+
 def bytes_of_program() -> bytes:
     assert PROGRAM is not None
     with open(PROGRAM, "rb") as file:
@@ -58,7 +71,7 @@ class Nothing(unittest.TestCase):
         def answer(asked: int, _: object, digest: str, program: object, options: object, texts: list[bytes], *__: object) -> Any:
             return ("done", [(0, "", text) for text in texts], 0.1, ("here", 2)) if asked % 7 == 1 else BROKEN
 
-        found = dict(play_all(enumerate(TEXTS), b"", PLAIN, Answering(answer)))
+        found: dict[int, Any] = dict(play_all(enumerate(TEXTS), b"", PLAIN, Answering(answer)))
         self.assertEqual([found[at].data for at in range(6)], TEXTS)
 
     def test_texts_are_taken_as_they_are_sent(self) -> None:
@@ -90,6 +103,23 @@ class Nothing(unittest.TestCase):
 
         self.assertEqual(len(dict(play_all(enumerate(1000 * TEXTS), b"p", PLAIN, Answering(answer)))), 6000)
         self.assertEqual((sorted({*sent}), len(sent) <= 6), ([1, 2, 3], True), sent)
+
+    def test_a_place_gets_the_program_while_another_plays_long(self) -> None:
+        has_program = False
+
+        def answer(asked: int, _: object, digest: str, program: object, options: object, texts: list[bytes], *__: object) -> Any:
+            nonlocal has_program
+            has_program = has_program or program is not None
+            self.assertLess(asked, 100_000)
+            return ("done", [(0, "", text) for text in texts], 0.1, ("here", 2)) if has_program else ("missing", ("here", 2))
+
+        executor = Holding(answer)
+        with mock.patch.object(many, "CARRYING", 0.01):
+            player: Any = play_all(enumerate(TEXTS), b"p", PLAIN, executor)
+            self.assertEqual([answer.status for _, answer in itertools.islice(player, 5)], 5 * [0])
+            assert executor.held is not None
+            executor.held.set_result(("done", [(0, "", b"long")], 300.0, ("here", 1)))
+            self.assertEqual([answer.data for _, answer in player], [b"long"])
 
     def test_a_program_that_is_not_that_of_the_hash_is_not_run(self) -> None:
         self.assertEqual(play_some("00", b"\x7fELF", PLAIN, TEXTS)[0], "broken")

@@ -11,11 +11,12 @@ import subprocess
 import sys
 import tempfile
 import time
-from typing import Callable, Optional
+from typing import Callable, Optional, Sequence
 
 import harness
 from cluster import Cluster, cluster_of, python
 
+HERE = pathlib.Path(__file__).resolve().parent
 #: How many scores a shell of xargs plays, and how many are long.
 EACH, LONG = 50, 8
 #: Some 900,000 events, a file of 7 MB.
@@ -63,6 +64,29 @@ class Turns:
         for name, seconds in self.seconds.items():
             middle = statistics.median(seconds)
             print(f"  {name:<14} {middle:8.2f} s  {middle / floor:5.2f} times xargs")
+
+
+def ask(counts: Sequence[int], folder: Optional[str]) -> int:
+    """Measures what an asker takes for so many results that are no work, and how soon a second run has found out that
+    nothing is left: on processes of this machine, and on a cluster."""
+    jobs = str(len(os.sched_getaffinity(0)))
+    print(f"{os.cpu_count()} processors, load {os.getloadavg()[0]:.1f}")
+    with tempfile.TemporaryDirectory(dir=folder) as home, contextlib.ExitStack() as opened:
+        top = pathlib.Path(home)
+        cluster = opened.enter_context(cluster_of(top, max(1, int(jobs) // 2))) if python() else None
+        for count in counts:
+            place = top / f"{count}"
+            for number in range(count):
+                score = place / f"{number % 1000}" / f"{number}.score"
+                score.parent.mkdir(parents=True, exist_ok=True)
+                score.write_bytes(b"formula 1; note c4 1/4;\n")
+            for way, words in (("batch", [sys.executable]), ("batch --dask", [cluster.python] if cluster else [])):
+                for run in ("first", "second") if words else ():
+                    address = [cluster.address] if cluster and "dask" in way else []
+                    said = subprocess.run([*words, HERE / "asking.py", place, top / f"{count} by {way}", jobs, *address],
+                                          stdout=subprocess.PIPE, stderr=subprocess.DEVNULL, text=True, check=True).stdout
+                    print(f"  {way:<13} {run:<7} {said}", end="", flush=True)
+    return 0
 
 
 def measure(program: str, before: Optional[str], runs: int, scores: int, folder: Optional[str]) -> int:

@@ -1,5 +1,6 @@
 """A scheduler of Dask and hosts with two workers each, on this machine: network namespaces with names of their own where
-root can make them, else only processes. What was started is ended with the cluster."""
+root can make them, else only processes. What was started is ended with the cluster,
+or by itself where nobody asks."""
 
 from __future__ import annotations
 
@@ -89,7 +90,7 @@ class Host:
             before = ["ip", "netns", "exec", self.network, "unshare", "--uts", "sh", "-c", 'hostname "$0"; exec "$@"', self.name]
         words = [cluster.python, "-m", "distributed.cli.dask_worker", f"{cluster.protocol}://{address}:{cluster.port}",
                  "--nworkers", "2", "--nthreads", "1", "--no-dashboard", "--name", self.name,
-                 "--local-directory", str(cluster.folder / self.name), *cluster.certificates]
+                 "--death-timeout", f"{LONGEST:g}", "--local-directory", str(cluster.folder / self.name), *cluster.certificates]
         self.process = cluster.start([*before, *words, *(["--preload", str(preload)] if preload else [])], self.name)
 
     def _network(self, number: int) -> str:
@@ -147,7 +148,8 @@ class Cluster:
         self.hosts: list[Host] = []
         at = [] if self.has_networks else ["--host", "127.0.0.1"]
         self.scheduler = self.start([self.python, "-m", "distributed.cli.dask_scheduler", "--port", str(self.port), *at,
-                                     "--protocol", self.protocol, "--no-dashboard", *certificates], "scheduler")
+                                     "--protocol", self.protocol, "--no-dashboard",
+                                     "--idle-timeout", f"{3 * LONGEST:g}s", *certificates], "scheduler")
         until(self._listens)
 
     @property

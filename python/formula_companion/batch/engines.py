@@ -4,23 +4,20 @@ from __future__ import annotations
 
 import contextlib
 import importlib
-import importlib.util
 import logging
 import multiprocessing
 import os
 import pathlib
 import re
-import shutil
 import signal
 import sys
 import tempfile
-import threading
 import warnings
 from concurrent.futures import Executor, Future, ProcessPoolExecutor
-from types import ModuleType
 from typing import Any, Callable, Iterator, NamedTuple
 
 from formula_score.running import task
+from . import child
 from .folder import Failed
 
 #: The scheduler is waited for so many seconds, also where it is silent in the middle.
@@ -53,30 +50,27 @@ class _Pool(ProcessPoolExecutor):
         return future
 
 
-def _begin() -> None:
-    """What a process of the pool does first: it is ended, with the run that it waits for, where its parent is gone."""
-    def watch() -> None:
-        parent = multiprocessing.parent_process()
-        if parent is not None:
-            parent.join()
-        os.killpg(0, signal.SIGKILL)
-
-    os.setpgid(0, 0)
-    threading.Thread(target=watch, daemon=True).start()
+def source() -> tuple[str, bytes]:
+    """The name under which the task's module is known wherever it plays, and its source. A worker keeps a module that it
+    has, also one of another batch; and with the library's own, a process of the pool would import the whole library."""
+    text = pathlib.Path(task.__file__).read_bytes()
+    return f"formula_task_{task.digest_of(text)[:16]}", text
 
 
 @contextlib.contextmanager
-def here(jobs: int) -> Iterator[Engine]:
-    """Processes of this machine. They take no open descriptor of this one, and are ended with what they run where this
-    is left before it is through."""
-    with _Pool(jobs, multiprocessing.get_context("spawn"), _begin) as pool:
+def here(jobs: int, program: str) -> Iterator[Engine]:
+    """Processes of this machine, which have the program of this file. They take no open descriptor of this one, and are
+    ended with what they run where this is left before it is through."""
+    name, text = source()
+    module = child.module_of(name, text)
+    with _Pool(jobs, multiprocessing.get_context("spawn"), child.begin, (name, text, program)) as pool:
         try:
-            yield Engine(pool, task.play_some, lambda: jobs)
+            yield Engine(pool, module.play_some, lambda: jobs)
         except BaseException:
-            for child in multiprocessing.active_children():
+            for process in multiprocessing.active_children():
                 for end in (os.killpg, os.kill):
                     with contextlib.suppress(ProcessLookupError):
-                        end(child.pid or 0, signal.SIGKILL)
+                        end(process.pid or 0, signal.SIGKILL)
             raise
 
 
@@ -99,11 +93,14 @@ def dask(address: str) -> Iterator[Engine]:
         client = distributed.Client(address, timeout=PATIENCE, set_as_default=False)
     except (OSError, ValueError, TypeError) as error:
         raise Failed(f"no scheduler answers at {address}: {' '.join(str(error).split())}") from error
-    with client, tempfile.TemporaryDirectory() as folder:
-        module = _under_its_hash(folder)
-        register = getattr(client, "register_plugin", client.register_worker_plugin)
-        register(distributed.diagnostics.plugin.UploadFile(module.__file__), name=module.__name__)
-
+    with client:
+        name, text = source()
+        module = child.module_of(name, text)
+        with tempfile.TemporaryDirectory() as folder:
+            path = pathlib.Path(folder, f"{name}.py")
+            path.write_bytes(text)
+            plugin = distributed.diagnostics.plugin.UploadFile(str(path))
+        getattr(client, "register_plugin", client.register_worker_plugin)(plugin, name=name)
         last = 0
 
         def slots() -> int:
@@ -117,14 +114,3 @@ def dask(address: str) -> Iterator[Engine]:
             print(f"batch: {address} has no worker yet: they are waited for", file=sys.stderr)
         yield Engine(client.get_executor(pure=False), module.play_some, slots)
 
-
-def _under_its_hash(folder: str) -> ModuleType:
-    """The module of the task under a name of its own: a worker keeps a module that it has, also one of another batch."""
-    source = pathlib.Path(task.__file__)
-    name = f"formula_task_{task.digest_of(source.read_bytes())[:16]}"
-    path = shutil.copyfile(source, os.path.join(folder, f"{name}.py"))
-    spec = importlib.util.spec_from_file_location(name, path)
-    assert spec is not None and spec.loader is not None
-    module = sys.modules[name] = importlib.util.module_from_spec(spec)
-    spec.loader.exec_module(module)
-    return module

@@ -77,7 +77,7 @@ def run(batch: Batch, results: Results, engine: Optional[ContextManager[Engine]]
     anew = wanted(batch, results, program)
     progress, refused, why = Progress(len(anew)), dict[str, int](), ""
     try:
-        with interruptible(), here(jobs) as home, engine or contextlib.nullcontext(home) as player:
+        with interruptible(), here(jobs, batch.program) as home, engine or contextlib.nullcontext(home) as player:
             playing = Playing(batch, player, home, seconds)
             refused = playing.refused
             for number, (status, said, how) in playing.played(anew):

@@ -28,7 +28,7 @@ def restart(words: Sequence[str], verb: str = "") -> None:
     path = os.pathsep.join(filter(None, [_PACKAGE, os.environ.get("PYTHONPATH")]))
     for stream in (sys.stdout, sys.stderr):
         stream.flush()
-    os.execve(DEBIAN, [DEBIAN, "-B", "-m", "formula_companion.verbs.program", *words],
+    os.execve(DEBIAN, [DEBIAN, "-B", "-m", "formula_companion", *words],
               {**os.environ, "PYTHONPATH": path})
 
 

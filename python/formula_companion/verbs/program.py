@@ -118,7 +118,3 @@ def main(words: Optional[Sequence[str]] = None, name: str = "formula-score") -> 
     except KeyboardInterrupt:
         return 130
     return status
-
-
-if __name__ == "__main__":
-    sys.exit(main())

@@ -17,8 +17,9 @@ MOST_SENT, MOST_TEXT = 50, 1 << 20
 GOOD_SECONDS = 0.2
 #: So many handfuls are under way, or so many for each that plays, and no more once their texts have so many bytes.
 AHEAD, AHEAD_EACH, MOST_AHEAD = 64, 3, 256 << 20
-#: So many are, where nobody has played yet. So many carry the program, and so often for a place that lacks it.
-AT_FIRST, MOST_CARRYING, MOST_SENDS = 8, 8, 3
+#: So many are, where nobody has played yet. So many carry the program, and so often for a place that lacks it. One that
+#: was sent so many seconds ago does not count: it may be at play, and others wait for the program.
+AT_FIRST, MOST_CARRYING, MOST_SENDS, CARRYING = 8, 8, 3, 0.5
 #: A handful is tried so often. One with which a process died counts ten times, and is then tried text by text.
 TRIES, DEATH = 20, 10
 #: Nothing more is tried after so many answers for each place in a row that nothing can be played: `_Asked.is_hopeless`.
@@ -59,6 +60,7 @@ class _Handful(NamedTuple):
     size: int
     failed: int = 0
     has_program: bool = False
+    sent: float = 0.0
 
     def parts(self) -> "Iterator[_Handful]":
         """Each text alone."""
@@ -84,9 +86,8 @@ class _Asked(Generic[_Key]):
         self.most, self.bytes = 1, 0
         #: how many play, and when that was asked
         self.players, self.looked = 0, -LOOK
-        #: for each place that lacks the program how often it is still sent, and how many handfuls carry it now
+        #: for each place that lacks the program how often it is still sent
         self.lacking: dict[tuple[str, int], int] = {}
-        self.carrying = 0
         #: whether each place said last that it cannot play, and how many answers in a row did
         self.is_broken: dict[tuple[str, int], bool] = {}
         self.broken = 0
@@ -115,10 +116,9 @@ class _Asked(Generic[_Key]):
             handful = self.next_handful()
             if handful is None:
                 break
-            handful = handful._replace(has_program=self.has_to_carry())
+            handful = handful._replace(has_program=self.has_to_carry(), sent=time.monotonic())
             future = self.ask(handful)
             self.under_way[future] = handful
-            self.carrying += handful.has_program
             self.bytes += handful.size
             future.add_done_callback(self.done.put)
         return bool(self.under_way)
@@ -126,7 +126,9 @@ class _Asked(Generic[_Key]):
     def has_to_carry(self) -> bool:
         """Whether the next handful takes the program along, which no process has at first. It may come to another one
         than that which lacks it, and is then sent again."""
-        if self.carrying >= min(MOST_CARRYING, len(self.lacking)):
+        since = time.monotonic() - CARRYING
+        most = min(MOST_CARRYING, len(self.lacking))
+        if not most or sum(other.has_program and other.sent > since for other in self.under_way.values()) >= most:
             return False
         place = next(iter(self.lacking))
         times = self.lacking.pop(place) - 1
@@ -140,7 +142,6 @@ class _Asked(Generic[_Key]):
             future = self.done.get(timeout=self.patience)
             handful = self.under_way.pop(future)
             self.bytes -= handful.size
-            self.carrying -= handful.has_program
             kind, *answer = future.result()
         except queue.Empty:
             raise NoEngine(f"nothing was answered for {self.patience:g} seconds") from None

@@ -64,19 +64,25 @@ def _high(descriptor: int) -> int:
         os.close(descriptor)
 
 
-def _program(digest: str, program: Optional[bytes]) -> Optional[int]:
-    """The descriptor of a program; None where it is neither known nor given."""
+def keep(program: bytes) -> str:
+    """Lets this process have a program, and returns its hash."""
+    digest = digest_of(program)
     with _lock:
-        if digest not in _programs and program is not None:
-            if digest_of(program) != digest:
-                raise ValueError("the program is not that of the hash")
+        if digest not in _programs:
             descriptor = _high(os.memfd_create("formula"))
             with open(descriptor, "wb", closefd=False) as file:
                 file.write(program)
             # nothing writes to it any more, else it could not be run
             _programs[digest] = _high(os.open(f"/proc/self/fd/{descriptor}", os.O_RDONLY))
             os.close(descriptor)
-        return _programs.get(digest)
+    return digest
+
+
+def _program(digest: str, program: Optional[bytes]) -> Optional[int]:
+    """The descriptor of a program; None where it is neither known nor given."""
+    if program is not None and keep(program) != digest:
+        raise ValueError("the program is not that of the hash")
+    return _programs.get(digest)
 
 
 class _Files(NamedTuple):
