@@ -79,17 +79,17 @@ leaves "OUT is a pipe" "$scratch/begun_file"
 
 # Descriptors that nobody opened. Neither IN nor anything else of the program's own is there when OUT is created.
 none_open() { "$@" 3<&- 4<&- 5<&- 6<&-; }
-cp "$score" "$scratch/copy"
+cp "$score" "$scratch/unharmed"
 for place in 3 4 5 6; do
     refuses "IN is descriptor $place" 2 "$read" none_open "$program" "/dev/fd/$place" "$out"
-    ends "OUT is descriptor $place" 4 "$write" none_open "$program" "$scratch/copy" "/dev/fd/$place"
+    ends "OUT is descriptor $place" 4 "$write" none_open "$program" "$scratch/unharmed" "/dev/fd/$place"
     ends "OUT is descriptor $place, a large score" 4 "$write" none_open "$program" none "/dev/fd/$place" --generate 0
 done
 all_closed() { "$@" <&- >&- 2>&-; }
-ends "OUT is descriptor 3, all closed" 5 "" none_open all_closed "$program" "$scratch/copy" /dev/fd/3
-ends "OUT is standard error, all closed" 0 "" none_open all_closed "$program" "$scratch/copy" /dev/stderr
+ends "OUT is descriptor 3, all closed" 5 "" none_open all_closed "$program" "$scratch/unharmed" /dev/fd/3
+ends "OUT is standard error, all closed" 0 "" none_open all_closed "$program" "$scratch/unharmed" /dev/stderr
 leaves "OUT is a descriptor"
-if cmp -s "$score" "$scratch/copy"; then pass; else fail "OUT is a descriptor" "IN was written"; fi
+if cmp -s "$score" "$scratch/unharmed"; then pass; else fail "OUT is a descriptor" "IN was written"; fi
 
 # Words.
 refuses "IN is no text" 1 "$words" "$program" "$scratch/"$'\xFF' "$out"
