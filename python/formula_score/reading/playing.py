@@ -2,6 +2,7 @@
 
 from __future__ import annotations
 
+import contextlib
 import os
 import pathlib
 import subprocess
@@ -12,6 +13,7 @@ from ..explaining.explain import explanation
 from ..making.errors import CommandError
 from ..running import command
 from ..running.command import FileEvent as Event
+from ..running.outs import name_of, nameless
 from ..slips.kinds import BY_VERBS
 
 __all__ = ["Event", "Failed", "Listing", "Run", "judge", "listed", "listing_of", "listing_of_file", "located",
@@ -58,16 +60,25 @@ def program() -> str:
     return found
 
 
-def run(source: str, target: str, *options: str) -> Run:
-    """Runs the program on two files; nobody is told anything."""
-    words = [*options, "--", source, target]
-    try:
-        status, said = command.answer(program(), words)
-    except CommandError as error:
-        raise Failed(1, error.why) from error
-    why = explanation(status, said, words) if status else ""
+def run(source: str, target: str, *options: str, text: Optional[bytes] = None, keeps: bool = False) -> Run:
+    """Runs the program on two files; nobody is told anything. `text` is what IN has, where it was read already. With
+    `keeps` OUT is the old file until it is the whole new one."""
+    words = [*options, "--"]
+    with contextlib.ExitStack() as open_files:
+        copies = [] if text is None else [open_files.enter_context(nameless(text))]
+        there, files = (name_of(copies[0]) if copies else source), [copy.fileno() for copy in copies]
+        try:
+            if keeps:
+                status, said, unwritten = command.answer_into(program(), [*words, there], target, files)
+            else:
+                (status, said), unwritten = command.answer(program(), [*words, there, target], files), ""
+        except CommandError as error:
+            raise Failed(1, error.why) from error
+        if unwritten:
+            return Run(status, said, f"{target!r} cannot be written: {unwritten}")
+        why = explanation(status, said, [*words, source, target], there) if status else ""
     before, line = why.rpartition("\n")[::2]
-    return Run(status, said, f"{before}\n{BY_VERBS[line]}" if line in BY_VERBS else why)
+    return Run(128 - status if status < 0 else status, said, f"{before}\n{BY_VERBS[line]}" if line in BY_VERBS else why)
 
 
 def needs(run: Run, refused: Optional[int] = None) -> Run:
@@ -132,5 +143,5 @@ def must_differ(source: str, target: str) -> None:
 def judge(path: str, refused: Optional[int] = 1) -> bytes:
     """The text of a score that the program accepts; nothing is played."""
     text = text_of(path)
-    needs(run(path, os.devnull, "--locate", "0"), refused)
+    needs(run(path, os.devnull, "--locate", "0", text=text), refused)
     return text

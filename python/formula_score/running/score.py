@@ -17,6 +17,7 @@ from ..making.nodes import Held, Message, Music, Note, Par, Repeat, Rest, body_o
 from ..making.shapes import Part
 from ..making.values import shown, whole
 from . import command
+from .outs import put
 
 MAX_BYTES = 1_048_576
 MAX_END = 2**40
@@ -80,9 +81,8 @@ class Score:
         return events_of(self.body)
 
     def save(self, path: command.Path) -> None:
-        """Writes the text into a file."""
-        with open(path, "w", encoding="ascii", newline="\n") as file:
-            file.write(self.text)
+        """Writes the text into a file, which is the old one until it is the whole new one."""
+        put(command.file_name(path), self.text.encode("ascii"))
 
     def play(self, path: command.Path, program: Optional[str] = None, *, workers: Optional[int] = None,
              lead: Optional[int] = None, room: Optional[int] = None, rounds: bool = False, parts: bool = False,
