@@ -13,7 +13,7 @@ from ..making.errors import ScoreError
 from ..making.expected import Event, events_of
 from ..making.lengths import DIVISION, MAX_DIVISION, MIN_DIVISION, written
 from ..making.nesting import first_fine
-from ..making.nodes import Held, Message, Music, Note, Par, Repeat, Rest, body_of
+from ..making.nodes import MAX_OPERATIONS, Held, Message, Music, Note, Par, Repeat, Rest, body_of
 from ..making.shapes import Part
 from ..making.values import shown, whole
 from . import command
@@ -24,7 +24,6 @@ MAX_END = 2**40
 MAX_EVENTS = 4_000_000
 #: by the version
 MAX_PROCESSES = {1: 4_096, 2: 16_384}
-MAX_OPERATIONS = 262_144
 MAX_STEPS = 16_777_216
 _WIDTH = 100
 
