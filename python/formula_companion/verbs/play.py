@@ -14,7 +14,7 @@ from typing import Iterator, NamedTuple, Optional, Sequence
 from formula_score.explaining.explain import by_signal, explanation
 from formula_score.explaining.words import USAGE, Words, read
 from formula_score.making.values import escaped
-from formula_score.reading.playing import Failed, program
+from formula_score.reading.playing import NO_PROGRAM, Failed, program
 from formula_score.running.command import ends_with_this, environment
 from formula_score.running.outs import SIGNALS, WRITE, WRITE_LINE, Descriptor, Out, Straight, descriptor_of, out_of, settled
 from .ins import Source, source_of
@@ -23,8 +23,6 @@ from .origin import origin
 #: The statuses of the program that this verb gives by itself, and the program's lines.
 WORDS, READ, UNSAID = 1, 2, 5
 LINES = {WORDS: "formula: words refused", READ: "formula: read fault", WRITE: WRITE_LINE}
-#: The status where there is no program, as `bin/formula` has it.
-NO_PROGRAM = 70
 
 ABOUT = """\
 Runs formula on the same words, and is safe in the hand:

@@ -26,7 +26,8 @@ OK, FOUND, MISUSED = 0, 1, 2
 ABOUT = """\
 A companion of formula, the music performance compiler. It is outside the proof: what it counts, cuts, filters and
 draws is tested only. What it tells of ticks are answers of the proved program. FORMULA names it; else it is the one
-that is installed beside this companion, else `formula` in PATH, else the one that bin/formula builds."""
+that is installed beside this companion, else `formula` in PATH. In a checkout it is the proved one, else the one that
+bin/formula --unproved --keep has built, and it says so; no verb builds one."""
 
 STATUSES = """\
 status: 0 all is well; 1 something was found, or refused; 2 the words are no use of the verb, or a file cannot be

@@ -6,7 +6,9 @@ import contextlib
 import os
 import pathlib
 import subprocess
+import sys
 import tempfile
+from functools import lru_cache
 from typing import Iterable, NamedTuple, Optional, Sequence
 
 from ..explaining.explain import explanation
@@ -18,6 +20,9 @@ from ..slips.kinds import BY_VERBS
 
 __all__ = ["Event", "Failed", "Listing", "Run", "judge", "listed", "listing_of", "listing_of_file", "located",
            "counted", "must_differ", "needs", "program", "run", "text_of"]
+
+#: The status where there is no program, as `bin/formula` has it.
+NO_PROGRAM = 70
 
 _TOP = pathlib.Path(__file__).resolve().parents[3]
 
@@ -50,14 +55,25 @@ class Listing(command.Listing):
 
 
 def program() -> str:
-    """The proved program; built on first use, where this package stands in the repository, whose scripts are none."""
+    """The proved program; where this package stands in the repository, else one that was built without proofs, which is
+    told. None is built."""
     found, script = command.find_program(), _TOP / "bin" / "formula"
     if script.exists() and (found is None or pathlib.Path(found).resolve().parent in (script.parent, _TOP / "scripts")):
-        built = subprocess.run([script, "--program"], stdout=subprocess.PIPE, check=False)
-        found = built.stdout.decode().strip() if built.returncode == 0 else None
+        found = _of_checkout(script)
     if not found:
         raise Failed(1, "there is no program: let FORMULA name it, or put formula into PATH")
     return found
+
+
+@lru_cache(maxsize=None)
+def _of_checkout(script: pathlib.Path) -> str:
+    """The program that bin/formula finds, which says what there is to say of it."""
+    done = subprocess.run([script, "--found"], stdout=subprocess.PIPE, stderr=subprocess.PIPE, env=command.environment(),
+                          text=True, errors="replace", check=False)
+    if done.returncode:
+        raise Failed(NO_PROGRAM, done.stderr.strip())
+    print(done.stderr, end="", file=sys.stderr)
+    return done.stdout.strip()
 
 
 def run(source: str, target: str, *options: str, text: Optional[bytes] = None, keeps: bool = False) -> Run:
