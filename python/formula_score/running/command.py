@@ -230,8 +230,12 @@ def environment() -> dict[str, str]:
 
 
 def ends_with_this(words: Sequence[str]) -> list[str]:
-    """The words of a run that ends where this process, or the thread that began it, is gone, as util-linux can do."""
-    return [*_SETPRIV, *words] if os.access(_SETPRIV[0], os.X_OK) and shutil.which(words[0]) else list(words)
+    """The words of a run that ends where this process, or the thread that began it, is gone, as util-linux can do. What is
+    no program is left to the host, which says so: else a shell would try it."""
+    with contextlib.suppress(OSError, ValueError), open(shutil.which(words[0]) or words[0], "rb") as file:
+        if os.access(_SETPRIV[0], os.X_OK) and file.read(4).startswith((b"\x7fELF", b"#!")):
+            return [*_SETPRIV, *words]
+    return list(words)
 
 
 def _run(program: Optional[str], options: Sequence[str], source: str, target: str, text: Optional[bytes] = None,
