@@ -24,7 +24,8 @@ from .making.pitch import CHORDS, MODES, Pitch, PitchLike, Scale, chord
 from .running.command import (
     FileEvent, Large, Listing, Located, audit, find_program, large, listing, locate, play, render,
 )
-from .running.score import Score, render_all
+from .running.rendering import render_all
+from .running.score import Score
 
 __version__ = "0.1.0"
 

@@ -13,7 +13,7 @@ from concurrent.futures import ThreadPoolExecutor
 
 HOME = pathlib.Path(__file__).resolve().parent
 #: Those that take longest begin first.
-LONG = ("test_packaging", "test_batch")
+LONG = ("test_cluster", "test_packaging", "test_batch")
 #: How many seconds a module may take.
 LONGEST = 900
 NOT_TRIED = re.compile(r"""skipped ['"](NOT TRIED: .*)['"]$""", re.M)

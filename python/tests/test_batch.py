@@ -1,42 +1,26 @@
-"""Folders of scores: what formula-score batch plays, tells and leaves behind, here and over ssh."""
+"""Folders of scores: what formula-score batch plays, tells and leaves behind on this machine."""
 
 from __future__ import annotations
 
 import csv
-import getpass
+import json
 import os
 import pathlib
-import re
 import shutil
 import signal
-import socket
 import subprocess
 import tempfile
 import time
 import unittest
 from typing import Callable, Optional
 
-from formula_score import Score, note, repeat, ticks
+from formula_score import Score, note, render, repeat, ticks
 
 from .program import PROGRAM, TOP, foretold, needs_program
 from .test_scripts import written
 
 BATCH = [str(TOP / "bin" / "formula-score"), "batch"]
-SSHD = shutil.which("sshd", path="/usr/sbin:/usr/local/sbin:/usr/bin")
 LONGEST = 60
-
-#: A host that runs what it is told to, and sends of each score the record of the first, and calls the last refused.
-LIAR = """#!/bin/bash
-set -e
-dir=$(mktemp -d)
-trap 'rm -rf "$dir"' EXIT
-bash -c "$SSH_ORIGINAL_COMMAND" | tar -xf - -C "$dir"
-cd "$dir"
-cp 1.mid 0.mid
-rm 2.mid
-echo '3 formula: score refused: 1:1 fault 3' >2.status
-tar -cf - .
-"""
 
 
 def scores(folder: pathlib.Path, count: int) -> list[Score]:
@@ -108,8 +92,13 @@ class Batch(Folder):
         self.assertFalse((self.out / "bad.mid").exists())
         with open(self.top / "table.csv", newline="", encoding="utf-8") as file:
             self.assertEqual(list(csv.reader(file)), [
-                ["score", "status", "line", "column", "fault", "said"], ["a/0.score", "0", "", "", "", ""],
-                ["bad.score", "3", "2", "9", "8", "formula: score refused: 2:9 fault 8"]])
+                ["score", "status", "line", "column", "fault", "said", "how"], ["a/0.score", "0", "", "", "", "", "played"],
+                ["bad.score", "3", "2", "9", "8", "formula: score refused: 2:9 fault 8", "played"]])
+        lines = [json.loads(line) for line in self.run_it("--json").stdout.splitlines()]
+        self.assertEqual(lines[1], {
+            "name": "bad", "score": "bad.score", "status": "3", "line": 2, "column": 9, "fault": 8,
+            "said": "formula: score refused: 2:9 fault 8", "how": "played"})
+        self.assertEqual((lines[0]["name"], lines[0]["status"], lines[0]["line"]), ("a/0", "0", None))
 
     @needs_program
     def test_a_later_run_plays_what_changed_and_tells_what_is_gone(self) -> None:
@@ -131,10 +120,32 @@ class Batch(Folder):
         self.assertIn("1 of 3 scores were played anew", self.run_it().stdout)
         self.assertEqual((self.out / "0.mid").read_bytes(), foretold(pieces[2]))
 
+    @needs_program
+    def test_each_score_is_played_under_each_seed(self) -> None:
+        text = "formula 1; # seed 5;\nseed 9;\nrepeat 8 { note key (60 + pick(12)) 1/8; }"
+        for name, written_text in (("own", text), ("none", text.replace("seed 9;", "")), ("no-1", "note"),
+                                   ("two", "formula 2;division 96;rest 1/4;")):
+            (self.folder / f"{name}.score").write_text(written_text)
+        done = self.run_it("--seeds", "1-20")
+        self.assertEqual((done.returncode, done.stdout.splitlines()[:4]),
+                         (1, ["80 of 80 scores were played anew", "status  scores", "0       60", "3       20"]), done)
+        files = [render(text.replace("seed 9", f"seed {seed}"), PROGRAM) for seed in range(1, 21)]
+        self.assertEqual(len({*files}), 20)
+        for name in ("own", "none"):
+            self.assertEqual([(self.out / f"{name}-{seed}.mid").read_bytes() for seed in range(1, 21)], files, name)
+        self.assertIn("no-1.score under the seed 1:1:1: ", done.stdout)
+        (self.out / "own-7.mid").unlink()
+        self.assertIn("1 of 80 scores were played anew", self.run_it("--seeds", "1-20").stdout)
+        (self.folder / "no.score").write_text(text)
+        self.assertIn("rename the one or the other", self.run_it("--seeds", "1-20").stderr)
+
     def test_what_it_cannot_begin_with(self) -> None:
         rows: tuple[tuple[tuple[str, ...], str], ...] = (
-            ((), "there is no score in"), (("-j", "0"), "-j takes a number"), (("-j", "x"), "invalid int value"),
-            (("--hosts", "/none"), "--hosts names no file that can be read"), (("more",), "unrecognized arguments"),
+            ((), "there is no score in"), (("-j", "0"), "-j: it takes a number from 1 to 1,000"), (("-j", "x"), "-j: it takes a number"),
+            (("--seeds", "3-1"), "it takes seeds as in 1-20"), (("more",), "unrecognized arguments"),
+            (("--hosts", "/none"), "batch: --hosts is gone: --dask ADDRESS plays on other machines, as docs/BATCH.md says\n"),
+            (("--dask", "10.0.0.1:8786"), "10.0.0.1:8786 is no address that is safe"),
+            (("--dask", "tcp://127.0.0.1.example:8786"), "is no address that is safe"),
         )
         for words, why in rows:
             done = self.run_it(*words, program="/bin/true")
@@ -145,14 +156,13 @@ class Batch(Folder):
         scores(self.folder, 12)
         (self.top / "now").mkdir()
         program = written(self.top / "program", f"""#!/bin/sh
-for last; do :; done
 : >"{self.top}/now/$$"
 waited=0
 while [ "$(ls "{self.top}/now" | wc -l)" -lt 3 ] && [ "$waited" -lt 40 ]; do sleep 0.05; waited=$((waited + 1)); done
 sleep 0.1
 ls "{self.top}/now" | wc -l >>"{self.top}/counts"
 rm "{self.top}/now/$$"
-: >"$last"
+echo file >"$5"
 """)
         self.assertEqual(self.run_it("-j", "3", program=program).returncode, 0)
         counts = [int(line) for line in (self.top / "counts").read_text().split()]
@@ -161,8 +171,7 @@ rm "{self.top}/now/$$"
     def test_an_interruption_leaves_nobody_at_work(self) -> None:
         scores(self.folder, 9)
         program = written(self.top / "program", """#!/bin/sh
-for last; do :; done
-case $last in */0.part) : >"$last" ;; *) sleep 300.25 ;; esac
+if grep -q 'repeat 1 ' "$4"; then echo file >"$5"; else sleep 300.25; fi
 """)
         for number in (signal.SIGINT, signal.SIGTERM):
             shutil.rmtree(self.out, ignore_errors=True)
@@ -171,111 +180,6 @@ case $last in */0.part) : >"$last" ;; *) sleep 300.25 ;; esac
             self.assertEqual(ended, (130, "", line))
             self.assertEqual(self.at_work() + self.at_work("sleep 300.25"), [])
             self.assertEqual(sorted(path.name for path in self.out.iterdir()), ["0.mid", "batch.results"])
-
-
-def own_lines(text: str) -> str:
-    """The lines that formula-score batch says itself."""
-    return "".join(line for line in text.splitlines(keepends=True) if line.startswith("batch:"))
-
-
-@needs_program
-@unittest.skipIf(SSHD is None, "NOT TRIED: there is no sshd (Debian's openssh-server)")
-class Hosts(Folder):
-    """This machine under other names, by an sshd of the test's own with keys of its own."""
-
-    def setUp(self) -> None:
-        super().setUp()
-        assert SSHD is not None
-        home = self.top / "ssh"
-        home.mkdir(mode=0o700)
-        for name in ("host", "honest", "liar"):
-            subprocess.run(["ssh-keygen", "-q", "-t", "ed25519", "-N", "", "-f", str(home / name)], check=True)
-        liar = written(home / "lies", LIAR)
-        keys = [(home / f"{name}.pub").read_text() for name in ("honest", "liar")]
-        (home / "authorized_keys").write_text(f'{keys[0]}command="{liar}" {keys[1]}')
-        with socket.socket() as free:
-            free.bind(("127.0.0.1", 0))
-            port = free.getsockname()[1]
-        (home / "sshd").write_text(f"""Port {port}
-ListenAddress 127.0.0.1
-HostKey {home}/host
-PidFile {home}/pid
-AuthorizedKeysFile {home}/authorized_keys
-StrictModes no
-UsePAM no
-PasswordAuthentication no
-PermitRootLogin prohibit-password
-""")
-        (home / "known").write_text(f"studio {(home / 'host.pub').read_text()}")
-        (home / "config").write_text("".join(f"""Host {name}
-  HostName 127.0.0.1
-  HostKeyAlias studio
-  Port {port}
-  User {getpass.getuser()}
-  IdentityFile {home}/{name}
-  IdentitiesOnly yes
-  UserKnownHostsFile {home}/known
-""" for name in ("honest", "liar")))
-        if os.geteuid() == 0:
-            pathlib.Path("/run/sshd").mkdir(exist_ok=True)
-        server = subprocess.Popen([SSHD, "-D", "-f", str(home / "sshd")], stderr=subprocess.DEVNULL)
-        self.addCleanup(server.wait)
-        self.addCleanup(server.terminate)
-
-        def is_there() -> bool:
-            with socket.socket() as client:
-                return client.connect_ex(("127.0.0.1", port)) == 0
-
-        self.until(is_there)
-
-    def hosts(self, *lines: str) -> tuple[str, str]:
-        (self.top / "hosts").write_text("".join(f"{line} -F {self.top}/ssh/config {name}\n" if name != ":" else
-                                                f"{line} :\n" for line, name in (row.split() for row in lines)))
-        return "--hosts", str(self.top / "hosts")
-
-    def test_other_machines_play_what_is_asked(self) -> None:
-        pieces = scores(self.folder, 20)
-        (self.folder / "bad.score").write_text("formula 1;\nnote c4 1/7;\n")
-        for words in ((), ("--audit",)):
-            shutil.rmtree(self.out, ignore_errors=True)
-            done = self.run_it(*words, *self.hosts("2 honest", "1 :"))
-            # what the shell of the other machine says when it starts is not ours
-            self.assertEqual((done.returncode, own_lines(done.stderr)), (1, ""), done.stdout)
-            self.assertEqual(done.stdout.splitlines()[:4], ["21 of 21 scores were played anew", "status  scores",
-                                                            "0       20", "3       1"])
-            for number, score in enumerate(pieces):
-                self.assertEqual((self.out / f"{number}.mid").read_bytes(), foretold(score), number)
-
-    def test_a_machine_that_lies_is_found_out(self) -> None:
-        pieces = scores(self.folder, 6)
-        done = self.run_it("--audit", *self.hosts("1 liar"))
-        self.assertEqual(done.returncode, 1, done.stderr)
-        lied = re.findall(r"^([0-9])\.score: a record of another score$", done.stdout, re.M)
-        self.assertEqual(lied, ["0", "3"], done.stdout)
-        for number, score in enumerate(pieces):
-            path = self.out / f"{number}.mid"
-            self.assertEqual(path.exists(), str(number) not in lied, number)
-            self.assertTrue(not path.exists() or path.read_bytes() == foretold(score), number)
-        self.assertIn("2 of 6 scores were played anew", self.run_it("--audit", *self.hosts("1 honest")).stdout)
-
-    def test_an_interruption_ends_what_another_machine_does(self) -> None:
-        scores(self.folder, 3)
-        program = written(self.top / "program", "#!/bin/sh\nsleep 300.75\n")
-        ended = self.interrupted([*self.hosts("1 honest")], program, signal.SIGINT,
-                                 lambda: len(self.at_work("sleep 300.75")) == 1)
-        self.assertEqual((*ended[:2], own_lines(ended[2])),
-                         (130, "", "batch: interrupted: 0 of 3 scores are done; run it again for the rest\n"))
-        self.until(lambda: not self.at_work("sleep 300.75"))
-        # nor is anything left there
-        folder = pathlib.Path(tempfile.gettempdir())
-        self.until(lambda: not any("300.75" in path.read_text("latin-1") for path in folder.glob("tmp.*/.program")))
-
-    def test_a_machine_that_is_not_there_is_told(self) -> None:
-        scores(self.folder, 2)
-        done = self.run_it("--hosts", self.hosts("1 nobody")[1])
-        self.assertEqual(done.returncode, 1)
-        self.assertIn("nobody", done.stderr)
-        self.assertIn("0.score: it has no result: run this again", done.stdout)
 
 
 if __name__ == "__main__":

@@ -20,7 +20,7 @@ from .program import TOP
 sys.path.insert(0, str(TOP / "tools" / "package"))
 debian: Any = importlib.import_module("debian")
 
-USERS = "fluidsynth fluid-soundfont-gm python3-aiohttp libjs-codemirror python3-pylsp-jsonrpc vim"
+USERS = "fluidsynth fluid-soundfont-gm python3-aiohttp libjs-codemirror python3-pylsp-jsonrpc python3-distributed vim"
 
 
 class Needs(unittest.TestCase):

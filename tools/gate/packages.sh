@@ -4,7 +4,7 @@
 top=$(cd "$(dirname "${BASH_SOURCE[0]}")/../.." && pwd) || exit
 export DEBIAN_FRONTEND=noninteractive
 install() { timeout 300 apt-get -qq -y --no-install-recommends install "$@"; }
-read -ra names < <("$top/bin/formula-score" needs --names sound studio lsp vim tests)
+read -ra names < <("$top/bin/formula-score" needs --names sound studio lsp dask vim tests)
 [ ${#names[@]} -gt 0 ] || exit 0
 timeout 300 apt-get -qq update
 # a name that is not known keeps all others out

@@ -1,1 +1,1 @@
-"""Folders of scores, played over all processors and over other machines: the verb `batch`."""
+"""Folders of scores, played over all processors or by a cluster: the verb `batch`."""

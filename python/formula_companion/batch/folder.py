@@ -1,82 +1,101 @@
-"""A folder of scores, what became of each, and the files that say so."""
+"""A folder of scores, what each is played as, and where its file goes."""
 
 from __future__ import annotations
 
+import bisect
 import contextlib
-import json
+import errno
 import os
-from typing import Iterator, Mapping, NamedTuple, Optional
+import re
+from typing import Iterator, Optional
 
 #: Bytes as the program prints them, where they are no text.
 RAW = "surrogateescape"
+#: What stands before the seed of a text: blanks and comments, the version and the division.
+_BLANK = rb"(?:[ \t\r\n]|#[^\n]*(?:\n|$))*"
+_HEAD = re.compile(_BLANK.join((rb"", rb"formula", rb"[0-9]+", rb";(?:" + _BLANK.join(
+    (rb"", rb"division", rb"[0-9]+", rb";")) + rb")?")))
+_SEED = re.compile(_BLANK.join((rb"", rb"seed", rb"[0-9]+", rb";")))
+#: Why nothing more can be written, whatever its name is.
+FULL = errno.ENOSPC, errno.EDQUOT, errno.EROFS, errno.EIO
 
 
 class Failed(Exception):
-    """This cannot begin."""
-
-
-class Result(NamedTuple):
-    """How a run on a score ended, and of which times of change the score and the program were."""
-
-    status: str
-    said: str
-    score: int
-    program: int
+    """This cannot begin, or cannot go on."""
 
 
 class Batch:
-    """A folder of scores, and where their files and results go."""
+    """A folder of scores, the seeds that each is played under, and where the files go.
 
-    def __init__(self, folder: str, out: str, program: str, is_audited: bool):
-        self.program, self.is_audited = program, is_audited
+    A piece is a score, under one of the seeds where there are some, and has a number. `name` is that of its file.
+    """
+
+    def __init__(self, folder: str, out: str, program: str, is_audited: bool, seeds: Optional[range] = None):
+        self.program, self.is_audited, self.seeds = program, is_audited, seeds
         self.folder, self.out = os.path.realpath(folder), os.path.realpath(out)
-        self.options = ["--record", "--workers", "1"] if is_audited else ["--workers", "0"]
         self.names = sorted(found(self.folder, ".score"))
         if not self.names:
             raise Failed(f"there is no score in {folder}")
+        for name in self.names if seeds else ():
+            other = self.number(name)
+            if other is not None:
+                raise Failed(f"{self.score(other)} under one of the seeds has the name of {name}.score: rename the one or the "
+                             "other")
 
-    def score(self, name: str) -> str:
-        """The file of a score."""
-        return f"{self.folder}/{name}.score"
+    def __len__(self) -> int:
+        return len(self.names) * len(self.seeds or [0])
 
-    def result(self, name: str, kind: str) -> str:
-        """The file with this ending that a score becomes."""
-        return f"{self.out}/{name}.{kind}"
+    def name(self, number: int) -> str:
+        """The name of a piece."""
+        if self.seeds is None:
+            return self.names[number]
+        place, seed = divmod(number, len(self.seeds))
+        return f"{self.names[place]}-{self.seeds[seed]}"
 
-    def is_current(self, name: str, result: Optional[Result], score: int, program: int) -> bool:
-        """Whether this result is that of the score and the program of these times of change."""
-        if result is None or (result.score, result.program) != (score, program) or result.status not in ("0", "3"):
-            return False
-        try:
-            return result.status == "3" or os.stat(self.result(name, "mid")).st_size > 0
-        except OSError:
-            return False
+    def number(self, name: str) -> Optional[int]:
+        """The piece of a name, if there is one."""
+        seed: Optional[int] = 0
+        if self.seeds is not None:
+            name, _, word = name.rpartition("-")
+            seed = self.seeds.index(int(word)) if re.fullmatch("0|[1-9][0-9]{0,8}", word) and int(word) in self.seeds else None
+        place = bisect.bisect_left(self.names, name)
+        if seed is None or place == len(self.names) or self.names[place] != name:
+            return None
+        return place * len(self.seeds or [0]) + seed
+
+    def score(self, number: int) -> str:
+        """The name of the score of a piece."""
+        return f"{self.names[number // len(self.seeds or [0])]}.score"
+
+    def path(self, number: int) -> str:
+        """The file of the score of a piece."""
+        return f"{self.folder}/{self.score(number)}"
+
+    def text(self, number: int) -> tuple[bytes, int]:
+        """The text of a piece, and when its score was changed."""
+        with open(self.path(number), "rb") as file:
+            text, time = file.read(), os.fstat(file.fileno()).st_mtime_ns
+        return text if self.seeds is None else seeded(text, self.seeds[number % len(self.seeds)]), time
+
+    def make_folders(self) -> None:
+        """Makes the folders for the files. Where one cannot be made, each of its files says so."""
+        os.makedirs(self.out, exist_ok=True)
+        for home in {os.path.dirname(name) for name in self.names}:
+            with contextlib.suppress(OSError):
+                os.makedirs(os.path.join(self.out, home), exist_ok=True)
+
+    def target(self, name: str) -> str:
+        """The file that a piece of this name becomes."""
+        return f"{self.out}/{name}.mid"
 
 
-class Results:
-    """The file of the results: a line of JSON for each; the last line of a score counts."""
-
-    def __init__(self, out: str):
-        self.path = os.path.join(out, "batch.results")
-        self.of: dict[str, Result] = {}
-        with contextlib.suppress(FileNotFoundError), open(self.path, encoding="ascii", errors="replace") as file:
-            for line in file:
-                with contextlib.suppress(ValueError, TypeError):  # a line that an end of the machine cut
-                    name, *rest = json.loads(line)
-                    self.of[name] = Result(*rest)
-
-    def add(self, results: Mapping[str, Result]) -> None:
-        """Writes results behind the others."""
-        self.of.update(results)
-        with open(self.path, "a", encoding="ascii") as file:
-            file.writelines(json.dumps([name, *result]) + "\n" for name, result in results.items())
-
-    def keep(self, results: dict[str, Result]) -> None:
-        """Lets these be the results, each once."""
-        self.of = results
-        with open(self.path + ".part", "w", encoding="ascii") as file:
-            file.writelines(json.dumps([name, *result]) + "\n" for name, result in sorted(results.items()))
-        os.replace(self.path + ".part", self.path)
+def seeded(text: bytes, seed: int) -> bytes:
+    """A text under a seed. One that does not begin as a score stays as it is, and is refused."""
+    head = _HEAD.match(text)
+    if head is None:
+        return text
+    old = _SEED.match(text, head.end())
+    return text[:head.end()] + b" seed %d;" % seed + text[old.end() if old else head.end():]
 
 
 def found(folder: str, ending: str) -> Iterator[str]:
@@ -92,12 +111,42 @@ def found(folder: str, ending: str) -> Iterator[str]:
                     yield home + entry.name[:-len(ending)]
 
 
-def changed_at(path: str) -> int:
-    """When a file was changed."""
-    return os.stat(path).st_mtime_ns
-
-
 def remove(path: str) -> None:
     """Removes a file, if it is there."""
     with contextlib.suppress(FileNotFoundError):
         os.unlink(path)
+
+
+def write(path: str, data: bytes) -> None:
+    """Writes a file, which has a name only when it is whole, where the file system can."""
+    file = _without_a_name(os.path.dirname(path))
+    if file is None:
+        file = os.open(path, os.O_CREAT | os.O_TRUNC | os.O_WRONLY | os.O_CLOEXEC, 0o666)
+        path = ""
+    try:
+        rest = memoryview(data)
+        while rest:
+            rest = rest[os.write(file, rest):]
+        if path:
+            _link(file, path)
+    finally:
+        os.close(file)
+
+
+def _without_a_name(folder: str) -> Optional[int]:
+    try:
+        return os.open(folder, os.O_TMPFILE | os.O_WRONLY | os.O_CLOEXEC, 0o666)
+    except OSError as error:
+        if error.errno not in (errno.EOPNOTSUPP, errno.EISDIR, errno.EINVAL):
+            raise
+        return None
+
+
+def _link(file: int, path: str) -> None:
+    source = f"/proc/self/fd/{file}"
+    try:
+        # with a folder's descriptor, which is not used, the link is one to what this name means
+        os.link(source, path, src_dir_fd=file)
+    except FileExistsError:
+        os.unlink(path)
+        os.link(source, path, src_dir_fd=file)

@@ -1,72 +1,94 @@
-"""Where the scores of a batch are played, and what becomes of them."""
+"""A run of a batch: what is played, and how it ends."""
 
 from __future__ import annotations
 
+import array
+import contextlib
 import os
-import re
-import sys
-from typing import Sequence
+import signal
+from typing import ContextManager, Iterator, NamedTuple, Optional
 
-from .folder import RAW, Batch, Failed, Result, Results, changed_at, remove
-from .sharing import Interrupted, share
-from .slots import HERE
+from formula_score.running.many import NoEngine
+from .engines import SIGNALS, Engine, here
+from .folder import Batch, Failed
+from .playing import Playing
+from .results import BELIEVED, Result, Results
+from .telling import Progress
+
+#: The statuses that stand: the file, and the refusal.
+STANDING = ("0", "3")
+INTERRUPTED = "interrupted"
 
 
-def places(hosts_file: str | None, jobs: int | None) -> list[str]:
-    """For each score that may be played at a time the machine, as words for ssh, ':' for this one."""
-    if hosts_file is None:
-        return [HERE] * (jobs or len(os.sched_getaffinity(0)))
-    if jobs is not None:
-        raise Failed("-j is for this machine alone: the lines of --hosts say how many scores each plays")
+class Interrupted(BaseException):
+    """Somebody wants it to end."""
+
+
+class Ended(NamedTuple):
+    """How many pieces had no result that is current, how many of them have one now, why it ended before it was through,
+    if it did, and how often each machine sent a record that was refused."""
+
+    wanted: int
+    done: int
+    why: str
+    refused: dict[str, int]
+
+
+@contextlib.contextmanager
+def interruptible() -> Iterator[None]:
+    """Lets signals end what is inside."""
+    def interrupt(*_: object) -> None:
+        for number in SIGNALS:
+            signal.signal(number, signal.SIG_IGN)
+        raise Interrupted
+
+    before = {number: signal.signal(number, interrupt) for number in SIGNALS}
     try:
-        with open(hosts_file, encoding="utf-8") as file:
-            lines = [line.strip() for line in file]
-    except OSError as error:
-        raise Failed(f"--hosts names no file that can be read: {error.strerror}") from error
-    hosts = []
-    for line in lines:
-        if line and not line.startswith("#"):
-            match = re.fullmatch(r"([1-9][0-9]{0,3})\s+(\S.*)", line)
-            if not match:
-                raise Failed(f"a line of {hosts_file} is not 'JOBS WORDS FOR SSH': {line}")
-            hosts += [match[2]] * int(match[1])
-    if not hosts:
-        raise Failed(f"there is no machine in {hosts_file}")
-    return hosts
+        yield
+    finally:
+        for number, handler in before.items():
+            signal.signal(number, handler)
 
 
-def play_all(batch: Batch, hosts: Sequence[str], results: Results) -> tuple[int, int, bool]:
-    """Plays what has no result that is current. Returns how many that are, how many have one now, and whether it is done."""
-    program = changed_at(batch.program)
-    changed = {name: changed_at(batch.score(name)) for name in batch.names}
-    anew = [number for number, name in enumerate(batch.names)
-            if not batch.is_current(name, results.of.get(name), changed[name], program)]
-    for number in anew:
-        results.of.pop(batch.names[number], None)
-    count, rest = 0, b""
+def wanted(batch: Batch, results: Results, program: int) -> "array.array[int]":
+    """The pieces that have no result that is current."""
+    found = array.array("q")
+    for number, result in results.all():
+        if result is None or not _is_current(batch, number, result, program):
+            found.append(number)
+            results.forget(number)
+    return found
 
-    def take(chunk: bytes) -> None:
-        nonlocal count, rest
-        *lines, rest = (rest + chunk).split(b"\n")
-        taken = {}
-        for line in lines:
-            number, status, said = line.decode("utf-8", RAW).split(" ", 2)
-            name = batch.names[int(number)]
-            taken[name] = Result(status, said, changed[name], program)
-        results.add(taken)
-        count += len(taken)
-        if sys.stderr.isatty():
-            print(f"\r{count} of {len(anew)}", end="", file=sys.stderr, flush=True)
 
-    is_through = True
+def _is_current(batch: Batch, number: int, result: Result, program: int) -> bool:
+    """Whether a result is that of this score and of the program of this time of change."""
+    if result.program != program or result.status not in STANDING or batch.is_audited and result.how == BELIEVED:
+        return False
     try:
-        if anew:
-            share(batch, hosts, anew, take)
+        return (os.stat(batch.path(number)).st_mtime_ns == result.score
+                and (result.status == "3" or os.stat(batch.target(batch.name(number))).st_size > 0))
+    except OSError:
+        return False
+
+
+def run(batch: Batch, results: Results, engine: Optional[ContextManager[Engine]], jobs: int, seconds: float) -> Ended:
+    """Plays what has no result that is current."""
+    program = os.stat(batch.program).st_mtime_ns
+    anew = wanted(batch, results, program)
+    progress, refused, why = Progress(len(anew)), dict[str, int](), ""
+    try:
+        with interruptible(), here(jobs) as home, engine or contextlib.nullcontext(home) as player:
+            playing = Playing(batch, player, home, seconds)
+            refused = playing.refused
+            for number, (status, said, how) in playing.played(anew):
+                results.add(number, Result(status, said, playing.times.pop(number, 0), program, how))
+                progress.add()
     except Interrupted:
-        is_through = False
-        for number in anew:
-            for kind in ("part", "record"):
-                remove(batch.result(batch.names[number], kind))
-    if sys.stderr.isatty() and anew:
-        print(file=sys.stderr)
-    return len(anew), count, is_through
+        why = INTERRUPTED
+    except (NoEngine, Failed) as failed:
+        if isinstance(failed, Failed) and not progress.done:
+            raise
+        why = f"nothing more is played: {failed}" if isinstance(failed, NoEngine) else str(failed)
+    finally:
+        progress.end()
+    return Ended(len(anew), progress.done, why, refused)

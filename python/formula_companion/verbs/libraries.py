@@ -19,10 +19,10 @@ def of_verb(verb: str) -> list[Package]:
             for package in feature.packages if package.library]
 
 
-def restart(words: Sequence[str]) -> None:
+def restart(words: Sequence[str], verb: str = "") -> None:
     """Goes on where this Python has the libraries of the verb. Else Debian's Python does the whole once more, where that
-    has them. `words` are those of the companion."""
-    libraries = [package.library for package in of_verb(words[0])]
+    has them. `words` are those of the companion, and `verb` is the first of them, if it is not given."""
+    libraries = [package.library for package in of_verb(verb or words[0])]
     if all(map(has, libraries)) or not is_other_python() or not debian_has(libraries):
         return
     path = os.pathsep.join(filter(None, [_PACKAGE, os.environ.get("PYTHONPATH")]))

@@ -59,7 +59,7 @@ VERBS: dict[str, Verb] = {
     "listen": Verb("listen", "play a score, or some bars of it, through fluidsynth or timidity"),
     "studio": Verb("studio", "show and play a score in the browser while it is written"),
     "lsp": Verb("lsp", "serve an editor that speaks LSP: what is refused, completion, names, an outline"),
-    "batch": Verb("batch", "play every score of a folder, over all processors and other machines", True),
+    "batch": Verb("batch", "play every score of a folder, over all processors, or by a cluster of machines", True),
     "needs": Verb("needs", "say which of Debian's packages are missing, for sound, the studio, editors and tests"),
     "lint": Verb("lint", "say what is accepted in a score, and hardly meant"),
     "export": Verb("exporting", "write a score for notation programs, with a tempo map, a meter and names"),

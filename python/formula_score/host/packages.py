@@ -51,12 +51,14 @@ FEATURES: dict[str, Feature] = {
         Package("libjs-codemirror", file="/usr/share/javascript/codemirror/lib/codemirror.js")), verbs=("studio",)),
     "lsp": Feature("`lsp`, for editors", (
         Package("python3-pylsp-jsonrpc", library="pylsp_jsonrpc", pip="python-lsp-jsonrpc"),), verbs=("lsp",)),
+    "dask": Feature("`batch --dask`, scores that other machines play too", (
+        Package("python3-distributed", library="distributed"),), verbs=("batch --dask",)),
     "vim": Feature("colours, and the place of a refusal, in an editor", (Package("vim", command="vim"),)),
     "tests": Feature("what the tests of a checkout try besides", (
         Package("mypy", command="mypy"), Package("shellcheck", command="shellcheck"),
         Package("python3-numpy", library="numpy"), Package("python3-setuptools", library="setuptools"),
-        Package("python3-wheel", library="wheel"), Package("openssh-server", file="/usr/sbin/sshd"),
-        Package("neovim", command="nvim")), is_for_users=False),
+        Package("python3-wheel", library="wheel"), Package("neovim", command="nvim"),
+        Package("python3-mpi4py", library="mpi4py")), is_for_users=False),
     "browser": Feature("the tests of the studio in a real browser", (
         Package("chromium", command="chromium"), Package("chromium-driver", command="chromedriver"),
         Package("python3-selenium", library="selenium"), Package("node-typescript", command="tsc")), is_for_users=False),

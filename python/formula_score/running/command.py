@@ -243,7 +243,7 @@ def _run(program: Optional[str], options: Sequence[str], source: str, target: st
     """Runs the command, and gives its line; raises what its status says."""
     status, said = answer(program, [*options, "--", source, target], [file.fileno() for file in files])
     if status:
-        _complain(status, said, [*options, "--", source, target], text)
+        complain(status, said, [*options, "--", source, target], text)
     return said
 
 
@@ -254,11 +254,12 @@ def _run_into(program: Optional[str], options: Sequence[str], source: str, targe
     if why:
         raise CommandError(WRITE, WRITE_LINE, f"{target!r} cannot be written: {why}")
     if status:
-        _complain(status, said, [*options, "--", source, target], text)
+        complain(status, said, [*options, "--", source, target], text)
     return said
 
 
-def _complain(status: int, said: str, words: Sequence[str], text: Optional[bytes]) -> None:
+def complain(status: int, said: str, words: Sequence[str], text: Optional[bytes] = None) -> None:
+    """Raises what a status above 0 and its line say of a run with these words, of which the last two are IN and OUT."""
     if status == 3:
         _refuse(said, words[-2], text, "--audit" in words)
     raise CommandError(status, said, explanation(status, said, words))
@@ -279,9 +280,7 @@ def answer_into(program: Optional[str], words: Sequence[str], target: str,
 
 def answer(program: Optional[str], words: Sequence[str], files: Sequence[int] = ()) -> tuple[int, str]:
     """Runs the command on these words, to which these open files are handed, and gives its status and its line."""
-    command = find_program(program)
-    if command is None:
-        raise CommandError(127, "", "there is no program: name it, or let FORMULA name it, or put formula into PATH")
+    command = needed_program(program)
     try:
         for call in (ends_with_this([command, *words]), [command, *words]):
             run = subprocess.run(call, stdin=subprocess.DEVNULL, stdout=subprocess.PIPE, stderr=subprocess.DEVNULL,
@@ -289,9 +288,31 @@ def answer(program: Optional[str], words: Sequence[str], files: Sequence[int] = 
             if run.returncode not in (126, 127):  # else it could not be run, and the second call says why
                 break
     except (OSError, ValueError) as error:  # a name that no file has is the one or the other
-        reason = error.strerror if isinstance(error, OSError) else str(error)
-        raise CommandError(127, "", f"{command} cannot be run: {reason}") from error
+        raise _unusable(command, "run", error) from error
     return run.returncode, run.stdout.decode("utf-8", "replace").strip()
+
+
+def content_of(program: Optional[str] = None) -> bytes:
+    """The bytes of the program, as an executor is sent them."""
+    command = needed_program(program)
+    try:
+        with open(command, "rb") as file:
+            return file.read()
+    except (OSError, ValueError) as error:
+        raise _unusable(command, "read", error) from error
+
+
+def needed_program(program: Optional[str] = None) -> str:
+    """The program; a `CommandError` where there is none."""
+    found = find_program(program)
+    if found is None:
+        raise CommandError(127, "", "there is no program: name it, or let FORMULA name it, or put formula into PATH")
+    return found
+
+
+def _unusable(command: str, what: str, error: Exception) -> CommandError:
+    reason = error.strerror if isinstance(error, OSError) else str(error)
+    return CommandError(127, "", f"{command} cannot be {what}: {reason}")
 
 
 def _refuse(said: str, source: str, text: Optional[bytes], is_record: bool) -> None:

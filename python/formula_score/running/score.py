@@ -2,8 +2,6 @@
 
 from __future__ import annotations
 
-import os
-from concurrent.futures import ThreadPoolExecutor
 from fractions import Fraction
 from functools import lru_cache
 from typing import Iterable, NamedTuple, Optional, SupportsIndex, Union
@@ -104,31 +102,6 @@ class Score:
     def locate(self, tick: int, process: int = 0, program: Optional[str] = None) -> command.Located:
         """Where a tick of the file lies in the deformations that are open where a process starts."""
         return command.locate(self.text, tick, process, program)
-
-
-def render_all(scores: Iterable[Union[Score, str, bytes]], jobs: Optional[int] = None,
-               program: Optional[str] = None) -> list[Union[bytes, Exception]]:
-    """The files of many scores or texts, in their order; in place of one that is not played stands its exception.
-
-    So many run at a time as `jobs` says, else as many as there are processors, each on one thread.
-    """
-    count = whole("a number of jobs", processors() if jobs is None else jobs, 1, 10_000)
-    found = command.find_program(program)
-
-    def rendered(score: Union[Score, str, bytes]) -> Union[bytes, Exception]:
-        try:
-            text = score.text if isinstance(score, Score) else score
-            return command.render(text, found, workers=0)
-        except Exception as error:  # it is a value here
-            return error
-
-    with ThreadPoolExecutor(count) as pool:
-        return list(pool.map(rendered, scores))
-
-
-def processors() -> int:
-    """How many processors this process may use."""
-    return len(os.sched_getaffinity(0)) if hasattr(os, "sched_getaffinity") else os.cpu_count() or 1
 
 
 def _resolved(items: tuple[Music, ...], division: int) -> tuple[Music, ...]:

@@ -1,0 +1,214 @@
+"""Many texts, played by any executor of `concurrent.futures`: threads, processes, or a cluster."""
+
+from __future__ import annotations
+
+import collections
+import itertools
+import queue
+import time
+from concurrent.futures import BrokenExecutor, CancelledError, Executor, Future
+from typing import Any, Callable, Generic, Iterable, Iterator, NamedTuple, Optional, Sequence, TypeVar, Union
+
+from .task import BROKEN, DONE, MISSING, SECONDS, Answer, Run, digest_of, play_some
+
+#: So many texts are sent at a time, and fewer where they have this many bytes together.
+MOST_SENT, MOST_TEXT = 50, 1 << 20
+#: A handful is to take so many seconds: the first ones are a text each, and they grow while they take less.
+GOOD_SECONDS = 0.2
+#: So many handfuls are under way, or so many for each that plays, and no more once their texts have so many bytes.
+AHEAD, AHEAD_EACH, MOST_AHEAD = 64, 3, 256 << 20
+#: So many are, where nobody has played yet. So many carry the program, and so often for a place that lacks it.
+AT_FIRST, MOST_CARRYING, MOST_SENDS = 8, 8, 3
+#: A handful is tried so often. One with which a process died counts ten times, and is then tried text by text.
+TRIES, DEATH = 20, 10
+#: Nothing more is tried after so many answers for each place in a row that nothing can be played: `_Asked.is_hopeless`.
+MOST_BROKEN, LAST_BROKEN = 4, 20
+#: Nor is it after so many seconds without an answer, beyond those that a run may take.
+PATIENCE = 300.0
+#: How many play is asked again after so many seconds.
+LOOK = 2.0
+
+_Key = TypeVar("_Key")
+
+
+class NoEngine(Exception):
+    """The executor plays nothing any more."""
+
+
+class Played(NamedTuple):
+    """How a run ended: its status, its line, the bytes of the file where the status is 0, and on which machine.
+
+    Where it was ended by a signal the status is that of a shell, and 124 where it took too long.
+    """
+
+    status: int
+    said: str
+    data: Optional[bytes]
+    host: str
+
+
+class Unplayed(NamedTuple):
+    """What could not be tried, and why."""
+
+    why: str
+
+
+class _Handful(NamedTuple):
+    keys: Sequence[Any]
+    texts: Sequence[bytes]
+    size: int
+    failed: int = 0
+    has_program: bool = False
+
+    def parts(self) -> "Iterator[_Handful]":
+        """Each text alone."""
+        for key, text in zip(self.keys, self.texts):
+            yield _Handful([key], [text], len(text))
+
+    def without(self, count: int) -> "_Handful":
+        """What is left behind the first texts."""
+        texts = self.texts[count:]
+        return self._replace(keys=self.keys[count:], texts=texts, size=sum(map(len, texts)))
+
+
+class _Asked(Generic[_Key]):
+    """What an executor was asked, and what it said."""
+
+    def __init__(self, texts: Iterable[tuple[_Key, bytes]], ask: Callable[[_Handful], "Future[Any]"],
+                 size: Callable[[], int], patience: float):
+        self.fresh, self.ask, self.size, self.patience = iter(texts), ask, size, patience
+        self.again: collections.deque[_Handful] = collections.deque()
+        self.under_way: dict["Future[Any]", _Handful] = {}
+        self.done: "queue.SimpleQueue[Future[Any]]" = queue.SimpleQueue()
+        #: how many texts the next handful has, and how many bytes are under way
+        self.most, self.bytes = 1, 0
+        #: how many play, and when that was asked
+        self.players, self.looked = 0, -LOOK
+        #: for each place that lacks the program how often it is still sent, and how many handfuls carry it now
+        self.lacking: dict[tuple[str, int], int] = {}
+        self.carrying = 0
+        #: whether each place said last that it cannot play, and how many answers in a row did
+        self.is_broken: dict[tuple[str, int], bool] = {}
+        self.broken = 0
+
+    def next_handful(self) -> Optional[_Handful]:
+        """The next texts; None where there is none."""
+        if self.again:
+            return self.again.popleft()
+        keys: list[_Key] = []
+        texts: list[bytes] = []
+        size = 0
+        for key, text in itertools.islice(self.fresh, self.most):
+            keys.append(key)
+            texts.append(text)
+            size += len(text)
+            if size > MOST_TEXT:
+                break
+        return _Handful(keys, texts, size) if texts else None
+
+    def fill(self) -> bool:
+        """Sends what may be under way. Returns whether anything is."""
+        if time.monotonic() > self.looked + LOOK:
+            self.players, self.looked = self.size(), time.monotonic()
+        ahead = max(AHEAD if False in self.is_broken.values() else AT_FIRST, AHEAD_EACH * self.players)
+        while len(self.under_way) < ahead and self.bytes < MOST_AHEAD:
+            handful = self.next_handful()
+            if handful is None:
+                break
+            handful = handful._replace(has_program=self.has_to_carry())
+            future = self.ask(handful)
+            self.under_way[future] = handful
+            self.carrying += handful.has_program
+            self.bytes += handful.size
+            future.add_done_callback(self.done.put)
+        return bool(self.under_way)
+
+    def has_to_carry(self) -> bool:
+        """Whether the next handful takes the program along, which no process has at first. It may come to another one
+        than that which lacks it, and is then sent again."""
+        if self.carrying >= min(MOST_CARRYING, len(self.lacking)):
+            return False
+        place = next(iter(self.lacking))
+        times = self.lacking.pop(place) - 1
+        if times:
+            self.lacking[place] = times
+        return True
+
+    def take(self) -> "Iterator[tuple[_Key, Union[Played, Unplayed]]]":
+        """Waits for an answer, and yields what became of its texts. What is left of them is sent again."""
+        try:
+            future = self.done.get(timeout=self.patience)
+            handful = self.under_way.pop(future)
+            self.bytes -= handful.size
+            self.carrying -= handful.has_program
+            kind, *answer = future.result()
+        except queue.Empty:
+            raise NoEngine(f"nothing was answered for {self.patience:g} seconds") from None
+        except (BrokenExecutor, CancelledError) as error:
+            raise NoEngine(f"what was under way was given up ({type(error).__name__})") from error
+        except Exception as error:  # a process died with it, again and again
+            yield from self.failed(handful, f"{type(error).__name__}: {error}", DEATH)
+            return
+        if kind == MISSING:
+            host, thread = answer[0]
+            self.lacking[host, thread] = MOST_SENDS
+            self.again.append(handful)
+        elif kind == BROKEN:
+            why, (host, thread) = answer
+            self.broken += 1
+            self.is_broken[host, thread] = True
+            if self.is_hopeless():
+                raise NoEngine(f"{host}: {why}")
+            yield from self.failed(handful, f"{host}: {why}", 1)
+        else:
+            assert kind == DONE
+            yield from self.played(handful, *answer)
+
+    def played(self, handful: _Handful, runs: Sequence[Run], seconds: float, where: Sequence[Any]) -> Iterator[tuple[_Key, Played]]:
+        """What a task played."""
+        host, thread = where
+        self.broken, self.is_broken[host, thread] = 0, False
+        self.lacking.pop((host, thread), None)
+        self.most = min(MOST_SENT, self.most + 1) if seconds < GOOD_SECONDS else max(1, self.most // 2)
+        for key, (status, said, data) in zip(handful.keys, runs):
+            yield key, Played(status, said, data, host)
+        if len(runs) < len(handful.texts):
+            self.again.append(handful.without(len(runs)))
+
+    def failed(self, handful: _Handful, why: str, times: int) -> Iterator[tuple[_Key, Unplayed]]:
+        """What becomes of a handful that was not played: it is tried again, or its texts alone are, or it is given up."""
+        if handful.failed + times < TRIES:
+            self.again.append(handful._replace(failed=handful.failed + times))
+        elif len(handful.texts) > 1:
+            self.again.extend(handful.parts())
+        else:
+            yield handful.keys[0], Unplayed(why)
+
+    def is_hopeless(self) -> bool:
+        """Whether nothing is to be expected of the places that answer. One that played and is silent may be at work."""
+        places = self.is_broken.values()
+        is_all = all(places) and len(places) >= self.players
+        return self.broken >= (MOST_BROKEN if is_all else LAST_BROKEN) * max(MOST_BROKEN, len(places))
+
+
+def play_all(texts: Iterable[tuple[_Key, bytes]], program: bytes, options: Sequence[str], executor: Executor,
+             seconds: float = SECONDS, play: Callable[..., Answer] = play_some,
+             size: Callable[[], int] = lambda: 0) -> Iterator[tuple[_Key, Union[Played, Unplayed]]]:
+    """What becomes of each text, as it is known, in whatever order, with the key that was given with it.
+
+    The program goes with a handful only where a process has answered that it does not have it. Texts are taken from the
+    iterable when they are to be sent, so not all of them have to be in memory. `play` is `play_some` as the executor has
+    it, and `size` how many play at a time, if that is known. Closed, it cancels what is not begun.
+    """
+    digest = digest_of(program)
+
+    def ask(handful: _Handful) -> "Future[Any]":
+        return executor.submit(play, digest, program if handful.has_program else None, options, handful.texts, seconds)
+
+    asked = _Asked(texts, ask, size, PATIENCE + seconds)
+    try:
+        while asked.fill():
+            yield from asked.take()
+    finally:
+        for future in asked.under_way:
+            future.cancel()
