@@ -253,6 +253,7 @@ async def serve(settings: Settings, tell: Callable[[str, str], None]) -> None:
         assert answering is not None
         listening = await asyncio.get_running_loop().create_server(
             lambda: Watched(studio.door, answering()), sock=settings.listener)
+        settings.listener.listen(4096)  # else a packet of the owner is lost while many others come
         try:
             tell(studio.guard.address, home)
             await studio.workers.warm()
