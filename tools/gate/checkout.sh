@@ -98,7 +98,7 @@ whole() { case $1 in /*) echo "$1" ;; *) echo "$PWD/$1" ;; esac }
 # keep_unproved: builds a program without proofs, beside the proved one. rt try runs what it builds and then removes it:
 # here it reads a pipe, and is copied meanwhile.
 keep_unproved() {
-    local scratch process
+    local scratch process made
     echo "formula: building a program without proofs; it takes a minute or two .." >&2
     scratch=$(mktemp -d) && log=$scratch/log && mkfifo "$scratch/in" || exit 70
     # shellcheck disable=SC2064 # this folder
@@ -111,14 +111,16 @@ keep_unproved() {
     while kill -0 "$build" 2>/dev/null; do
         # shellcheck disable=SC2013 # names without blanks
         for process in $(grep -l -a -F "$scratch/in" /proc/[0-9]*/cmdline 2>/dev/null); do
-            process=${process%/cmdline}
-            case $(readlink "$process/exe") in
+            # the word before IN is the program
+            made=$(tr '\0' '\n' <"$process" 2>/dev/null | grep -a -x -B 1 -F "$scratch/in" | head -n 1)
+            case $made in
             */program)
-                cp "$process/exe" "$without_proofs.new" && mv "$without_proofs.new" "$without_proofs"
-                echo 'formula 1; note c4 1/4;' >"$scratch/in"
+                cp "$made" "$without_proofs.new" && mv "$without_proofs.new" "$without_proofs" || continue
+                # it goes on, or has gone
+                timeout 60 sh -c 'echo "formula 1; note c4 1/4;" >"$1"' sh "$scratch/in"
                 wait "$build"
                 echo "formula: nothing is proved of this program: $without_proofs" >&2
-                exit
+                exit 0
                 ;;
             esac
         done
