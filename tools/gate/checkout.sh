@@ -112,7 +112,7 @@ keep_unproved() {
         # shellcheck disable=SC2013 # names without blanks
         for process in $(grep -l -a -F "$scratch/in" /proc/[0-9]*/cmdline 2>/dev/null); do
             # the word before IN is the program
-            made=$(tr '\0' '\n' <"$process" 2>/dev/null | grep -a -x -B 1 -F "$scratch/in" | head -n 1)
+            made=$({ tr '\0' '\n' <"$process"; } 2>/dev/null | grep -a -x -B 1 -F "$scratch/in" | head -n 1)
             case $made in
             */program)
                 cp "$made" "$without_proofs.new" && mv "$without_proofs.new" "$without_proofs" || continue
