@@ -94,11 +94,11 @@ class Batch(Folder):
             self.assertEqual(list(csv.reader(file)), [
                 ["score", "status", "line", "column", "fault", "said", "how"], ["a/0.score", "0", "", "", "", "", "played"],
                 ["bad.score", "3", "2", "9", "8", "formula: score refused: 2:9 fault 8", "played"]])
-        lines = [json.loads(line) for line in self.run_it("--json").stdout.splitlines()]
-        self.assertEqual(lines[1], {
+        told = [json.loads(line) for line in self.run_it("--json").stdout.splitlines()]
+        self.assertEqual(told[1], {
             "name": "bad", "score": "bad.score", "status": "3", "line": 2, "column": 9, "fault": 8,
             "said": "formula: score refused: 2:9 fault 8", "how": "played"})
-        self.assertEqual((lines[0]["name"], lines[0]["status"], lines[0]["line"]), ("a/0", "0", None))
+        self.assertEqual((told[0]["name"], told[0]["status"], told[0]["line"]), ("a/0", "0", None))
 
     @needs_program
     def test_a_later_run_plays_what_changed_and_tells_what_is_gone(self) -> None:

@@ -11,7 +11,7 @@ import sys
 import tempfile
 import time
 import unittest
-from typing import Iterator
+from typing import Any, Callable, Iterator
 
 from formula_score import CommandError, Score, ScoreError, note, repeat
 from formula_score.running import command
@@ -24,10 +24,9 @@ SCORE = Score(repeat(20, note("c4", "1/16")))
 #: Each verb that writes a file, with what it reads.
 VERBS = {"play": "score", "roll": "score", "excerpt": "score", "export": "score", "import": "midi"}
 #: Each call that writes one.
-CALLS = {"play": lambda path: SCORE.play(path),
-         "save": lambda path: SCORE.save(path),
-         "large": lambda path: command.large(0, path),
-         "audit": lambda path: command.audit(SCORE.render(record=True), path)}
+CALLS: dict[str, Callable[[Any], object]] = {
+    "play": SCORE.play, "save": SCORE.save, "large": lambda path: command.large(0, path),
+    "audit": lambda path: command.audit(SCORE.render(record=True), path)}
 #: A file system where each file has a name.
 NAMED = "import formula_score.running.outs as o; o._file_without_a_name = lambda *_: None; "
 START = "import sys; sys.argv[0] = 'formula-score'; from formula_companion.verbs.program import main; sys.exit(main())"
@@ -72,7 +71,7 @@ class Keeping(unittest.TestCase):
     @contextlib.contextmanager
     def full(self) -> Iterator[None]:
         """The folder of OUT as a file system of 64 KB that is full."""
-        mount = ["mount", "-t", "tmpfs", "-o", "size=64k", "none", self.home]
+        mount = ["mount", "-t", "tmpfs", "-o", "size=64k", "none", str(self.home)]
         if os.geteuid() or subprocess.run(mount, stderr=subprocess.DEVNULL, check=False).returncode:
             self.skipTest("NOT TRIED: no file system may be mounted")
         try:

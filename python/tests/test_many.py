@@ -59,7 +59,7 @@ class Nothing(unittest.TestCase):
             return ("done", [(0, "", text) for text in texts], 0.1, ("here", 2)) if asked % 7 == 1 else BROKEN
 
         found = dict(play_all(enumerate(TEXTS), b"", PLAIN, Answering(answer)))
-        self.assertEqual([found[at].data for at in range(6)], TEXTS)
+        self.assertEqual([getattr(found[at], "data", None) for at in range(6)], TEXTS)
 
     def test_texts_are_taken_as_they_are_sent(self) -> None:
         taken = 0

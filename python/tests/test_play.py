@@ -263,7 +263,7 @@ class Play(unittest.TestCase):
         with mine, other:
             other.sendall(REFUSED)
             other.shutdown(socket.SHUT_WR)
-            self.ends(Answer(subprocess.run(self.words("-", self.out), env=self.environment(), cwd=self.top, stdin=mine,
+            self.ends(Answer(subprocess.run(self.words("-", self.out), env=self.environment(), cwd=self.top, stdin=mine.fileno(),
                                             capture_output=True, check=False, timeout=120)), 3, FAULT, "^-:1:20: ")
         folder = subprocess.run([TOP / "bin" / "formula-score", "play", "-", self.out], stdin=os.open(self.top, os.O_RDONLY),
                                 capture_output=True, check=False)

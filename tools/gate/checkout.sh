@@ -10,9 +10,9 @@
 #
 # Where FORMULA names a program, that one is run and none is built; a script of bin or scripts is no program.
 # --program alone prints which program it is, and builds it where it has to. --found alone prints the proved program, or
-# else the one that is kept without proofs, and builds none; where neither is current the status is 70. Words that every program refuses, as
-# --help, build none. A checkout is built once at a time: a second run waits for the first, and then uses its program.
-# Where the program could not be built the status is 70. Needs the GNU tools and flock.
+# else the one that is kept without proofs, and builds none; where neither is current the status is 70. Words that every
+# program refuses, as --help, build none. A checkout is built once at a time: a second run waits for the first, and then
+# uses its program. Where the program could not be built the status is 70. Needs the GNU tools and flock.
 # shellcheck shell=dash disable=SC2154
 set -u
 top=$(cd "$top" && pwd) || exit 70
@@ -95,35 +95,38 @@ build_program() {
 # whole NAME: the name from the root, since rt runs the program in a folder of its own.
 whole() { case $1 in /*) echo "$1" ;; *) echo "$PWD/$1" ;; esac }
 
+# reads_from IN: prints the program that rt runs on IN, where it does: the word before IN.
+reads_from() {
+    local process made
+    # shellcheck disable=SC2013 # names without blanks
+    for process in $(grep -l -a -F "$1" /proc/[0-9]*/cmdline 2>/dev/null); do
+        made=$({ tr '\0' '\n' <"$process"; } 2>/dev/null | grep -a -x -B 1 -F "$1" | head -n 1)
+        case $made in */program) echo "$made" && break ;; esac
+    done
+}
+
 # keep_unproved: builds a program without proofs, beside the proved one. rt try runs what it builds and then removes it:
 # here it reads a pipe, and is copied meanwhile.
 keep_unproved() {
-    local scratch process made
+    local scratch made
     echo "formula: building a program without proofs; it takes a minute or two .." >&2
-    scratch=$(mktemp -d) && log=$scratch/log && mkfifo "$scratch/in" || exit 70
+    scratch=$(mktemp -d) && log=$scratch/log && mkfifo "$scratch/in" && mkdir -p "${without_proofs%/*}" || exit 70
     # shellcheck disable=SC2064 # this folder
     trap "rm -rf '$scratch'" EXIT
     trap 'ends_build 130' INT
     trap 'ends_build 143' TERM HUP
     (cd "$top/crates/fm_main" && exec rt try -- "$scratch/in" "$scratch/out") >"$log" 2>&1 &
     build=$!
-    mkdir -p "${without_proofs%/*}"
     while kill -0 "$build" 2>/dev/null; do
-        # shellcheck disable=SC2013 # names without blanks
-        for process in $(grep -l -a -F "$scratch/in" /proc/[0-9]*/cmdline 2>/dev/null); do
-            # the word before IN is the program
-            made=$({ tr '\0' '\n' <"$process"; } 2>/dev/null | grep -a -x -B 1 -F "$scratch/in" | head -n 1)
-            case $made in
-            */program)
-                cp "$made" "$without_proofs.new" && mv "$without_proofs.new" "$without_proofs" || continue
-                # it goes on, or has gone
-                timeout 60 sh -c 'echo "formula 1; note c4 1/4;" >"$1"' sh "$scratch/in"
-                wait "$build"
-                echo "formula: nothing is proved of this program: $without_proofs" >&2
-                exit 0
-                ;;
-            esac
-        done
+        made=$(reads_from "$scratch/in")
+        if [ -n "$made" ] && cp "$made" "$without_proofs.new"; then
+            mv "$without_proofs.new" "$without_proofs"
+            # it ends, or has ended
+            echo 'formula 1; note c4 1/4;' | timeout 60 tee "$scratch/in" >/dev/null
+            wait "$build"
+            echo "formula: nothing is proved of this program: $without_proofs" >&2
+            exit 0
+        fi
         sleep 0.2
     done
     wait "$build" || ended=$?

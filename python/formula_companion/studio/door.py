@@ -6,7 +6,7 @@ import asyncio
 import logging
 import sys
 import time
-from typing import Callable, Optional
+from typing import Optional
 
 #: So many connections may be open that have not shown the token, and so long, in seconds.
 MOST, LONGEST = 64, 10
@@ -44,10 +44,6 @@ class Watched(asyncio.Protocol):
     def __init__(self, door: Door, inner: asyncio.Protocol):
         self.door, self.inner = door, inner
         self.transport: Optional[asyncio.BaseTransport] = None
-        self.data_received: Callable[[bytes], None] = inner.data_received  # type: ignore[method-assign]
-        self.eof_received: Callable[[], Optional[bool]] = inner.eof_received  # type: ignore[method-assign]
-        self.pause_writing: Callable[[], None] = inner.pause_writing  # type: ignore[method-assign]
-        self.resume_writing: Callable[[], None] = inner.resume_writing  # type: ignore[method-assign]
 
     def connection_made(self, transport: asyncio.BaseTransport) -> None:
         self.transport = transport
@@ -57,6 +53,18 @@ class Watched(asyncio.Protocol):
     def connection_lost(self, exc: Optional[Exception]) -> None:
         self.door.known(self.transport)
         self.inner.connection_lost(exc)
+
+    def data_received(self, data: bytes) -> None:
+        self.inner.data_received(data)
+
+    def eof_received(self) -> Optional[bool]:
+        return self.inner.eof_received()
+
+    def pause_writing(self) -> None:
+        self.inner.pause_writing()
+
+    def resume_writing(self) -> None:
+        self.inner.resume_writing()
 
 
 class Rare(logging.Handler):

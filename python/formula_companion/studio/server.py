@@ -249,8 +249,7 @@ async def serve(settings: Settings, tell: Callable[[str, str], None]) -> None:
         studio = Studio(settings, home)
         runner = web.AppRunner(studio.application(), access_log=None, handle_signals=False)
         await runner.setup()
-        answering = runner.server
-        assert answering is not None
+        answering: Any = runner.server
         listening = await asyncio.get_running_loop().create_server(
             lambda: Watched(studio.door, answering()), sock=settings.listener)
         settings.listener.listen(4096)  # else a packet of the owner is lost while many others come
