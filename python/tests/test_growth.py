@@ -51,7 +51,7 @@ class Growth(unittest.TestCase):
             doubled = seq(doubled, doubled)
         self.assertEqual((len(doubled.body), doubled), (262_144, pickle.loads(pickle.dumps(doubled))))
         self.assertRaisesRegex(ScoreError, "at most 262,144 operations", seq, doubled, quarter)
-        self.assertRaisesRegex(ScoreError, "at most 262,144 operations", Seq, [quarter] * 262_145)
+        self.assertRaisesRegex(ScoreError, "more than 262,144", Seq, [quarter] * 262_145)
 
 
 if __name__ == "__main__":
