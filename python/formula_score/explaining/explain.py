@@ -35,7 +35,8 @@ BYTES_SHOWN = 12
 #: The greatest part of a long line that is shown before the place, and from it on, in characters.
 SHOWN = 60
 
-_WRITE_FAILED = "a write failed, perhaps at a limit of size or a full disk; what is there may be a beginning of the file"
+_WRITE_FAILED = "a write failed, perhaps at a limit of size or a full disk"
+_LEFT = "; what is there may be a beginning of the file"
 
 
 class Place(NamedTuple):
@@ -258,9 +259,9 @@ def _why_unwritten(name: str, piped: bool) -> str:
     if stat.S_ISDIR(mode):
         return os.strerror(errno.EISDIR)
     if stat.S_ISREG(mode):
-        return _why_full(folder) if os.access(name, os.W_OK) else os.strerror(errno.EACCES)
+        return why_full(folder, _LEFT) if os.access(name, os.W_OK) else os.strerror(errno.EACCES)
     if piped:
-        return _WRITE_FAILED
+        return _WRITE_FAILED + _LEFT
     return ("it is no plain file: the length of the track is written last, so OUT must be a file that can be sought in, on "
             "a device with room")
 
@@ -275,14 +276,15 @@ def _why_unmade(folder: str) -> str:
         return error.strerror or "the host does not say why"
     if not os.access(folder, os.W_OK | os.X_OK):
         return f"{os.strerror(errno.EACCES)}: the folder {folder!r} may not be written to"
-    return _why_full(folder)
+    return why_full(folder, _LEFT)
 
 
-def _why_full(folder: str) -> str:
+def why_full(folder: str, left: str = "") -> str:
+    """Why a write into a folder failed, and what is left behind."""
     with contextlib.suppress(OSError):
         if os.statvfs(folder).f_bavail == 0:
             return os.strerror(errno.ENOSPC)
-    return _WRITE_FAILED
+    return _WRITE_FAILED + left
 
 
 def main(words: Sequence[str]) -> int:

@@ -16,7 +16,9 @@ import shutil
 import signal
 import stat
 import tempfile
-from typing import IO, Optional, Union
+from typing import IO, Iterator, Optional, Union
+
+from ..explaining.explain import why_full
 
 #: The status of the program where OUT could not be written, and its line.
 WRITE, WRITE_LINE = 4, "formula: write fault"
@@ -80,7 +82,7 @@ class Descriptor:
     """An open descriptor, as standard output: the program writes a file without a name, which is then copied."""
 
     def __init__(self, number: int):
-        self.number, self.file = number, tempfile.TemporaryFile()
+        self.number, self.file, self.folder = number, tempfile.TemporaryFile(), tempfile.gettempdir()
         self.files = (self.file.fileno(),)
         self.name = name_of(self.file)
 
@@ -100,10 +102,6 @@ class Descriptor:
         """Closes the file, and so takes it away."""
         self.file.close()
 
-    def why_full(self) -> str:
-        """Why the program could not write."""
-        return _why_full(tempfile.gettempdir())
-
 
 class Beside:
     """A regular file: the new one is written in its folder, and renamed over the old one when all of it is synced.
@@ -121,7 +119,7 @@ class Beside:
             raise PermissionError(errno.EACCES, f"the new file is made in the folder {self.folder!r}, which may not be "
                                   "written to")
         self.mode = 0o600 if old else 0o666
-        file = _file_without_a_name(self.folder, self.mode)
+        file = file_without_a_name(self.folder, self.mode)
         self.files: tuple[int, ...] = ()
         if file is None:
             self.file = self._named()
@@ -203,19 +201,8 @@ class Beside:
             if beside:
                 os.unlink(beside)
 
-    def why_full(self) -> str:
-        """Why the program could not write."""
-        return _why_full(self.folder)
 
-
-def _why_full(folder: str) -> str:
-    with contextlib.suppress(OSError):
-        if os.statvfs(folder).f_bavail == 0:
-            return os.strerror(errno.ENOSPC)
-    return "a write failed, perhaps at a limit of size or a full disk"
-
-
-def _file_without_a_name(folder: str, mode: int) -> Optional[int]:
+def file_without_a_name(folder: str, mode: int) -> Optional[int]:
     """A descriptor of a new file in a folder; None where the file system, or the host, has no such files."""
     if not os.path.exists("/proc/self/fd"):
         return None
@@ -278,7 +265,7 @@ def out_of(name: str) -> Out:
 def settled(out: Out, status: int) -> str:
     """Lets OUT be what a run wrote that ended with this status; why it could not be written, where that is known."""
     if status == WRITE and isinstance(out, (Descriptor, Beside)):
-        return out.why_full()
+        return why_full(out.folder)
     try:
         if status in (0, WRITE):
             out.keep()
@@ -287,15 +274,22 @@ def settled(out: Out, status: int) -> str:
     return ""
 
 
-def put(name: str, data: bytes) -> None:
-    """Writes a file, or what a name means; an `OSError` where it is not written."""
+@contextlib.contextmanager
+def writing(name: str) -> Iterator[str]:
+    """The name of what is written in place of a file, or of what a name means; an `OSError` where it is not."""
     out = out_of(name)
     try:
-        if out.name or isinstance(out, Straight):
-            with open(out.name, "wb") as file:
-                file.write(data)
+        if isinstance(out, Refusal):
+            out.keep()
+        yield out.name
         out.keep()
     except OSError as error:
         raise OSError(error.errno, error.strerror, name) from error
     finally:
         out.drop()
+
+
+def put(name: str, data: bytes) -> None:
+    """Writes a file, or what a name means; an `OSError` where it is not written."""
+    with writing(name) as beside, open(beside, "wb") as file:
+        file.write(data)
