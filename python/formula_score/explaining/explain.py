@@ -253,7 +253,7 @@ def _why_unwritten(name: str, piped: bool) -> str:
     try:
         mode = os.stat(name).st_mode
     except FileNotFoundError:
-        return _why_unmade(folder)
+        return os.strerror(errno.EISDIR) if name.endswith("/") and os.path.isdir(folder) else _why_unmade(folder)
     except (OSError, ValueError) as error:
         return getattr(error, "strerror", None) or "the host does not say why"
     if stat.S_ISDIR(mode):
