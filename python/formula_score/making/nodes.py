@@ -7,7 +7,7 @@ by the value in which a limit is passed.
 
 from __future__ import annotations
 
-from dataclasses import dataclass, field, replace
+from dataclasses import dataclass, replace
 from fractions import Fraction
 from typing import TYPE_CHECKING, Iterable, Iterator, NoReturn, Optional, SupportsIndex, cast
 
@@ -39,6 +39,8 @@ class Music:
     bar_ticks: Exact = 0
     #: the first length in it that is no whole number of ticks at 480 a quarter note
     fine: Optional[Exact] = None
+    #: at least so many operations a seq is: each of its items is one, but a tied note
+    fewest = 0
 
     @property
     def ticks(self) -> int:
@@ -239,8 +241,6 @@ class Seq(Held):
     """One after another, as `seq` and `+` make it; `body` is what follows. It is no block of a score's text."""
 
     body: tuple[Music, ...]
-    #: at least so many operations: each of its items is one, but a tied note
-    fewest: int = field(init=False, repr=False, compare=False)
 
     def __post_init__(self) -> None:
         body = tuple(flattened(listed("a seq", self.body, 0)))
