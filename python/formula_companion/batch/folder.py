@@ -120,7 +120,7 @@ def remove(path: str) -> None:
 
 
 def write(path: str, data: bytes) -> None:
-    """Writes a file, which is the old one until it is the whole new one. To sync each would take longer than to play it."""
+    """Writes a file, which is the old one until it is the whole new one. To sync it would take longer than to play it."""
     beside = f"{path}.part"
     file = file_without_a_name(os.path.dirname(path), 0o666)
     has_name = file is None

@@ -1,4 +1,4 @@
-"""The door of the studio: connections that have not shown the token are few and short, and the log says little of them."""
+"""The door of the studio: connections without the token are few and short, and the log says little of them."""
 
 from __future__ import annotations
 

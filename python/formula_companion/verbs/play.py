@@ -16,7 +16,9 @@ from formula_score.explaining.words import USAGE, Words, read
 from formula_score.making.values import escaped
 from formula_score.reading.playing import NO_PROGRAM, Failed, program
 from formula_score.running.command import ends_with_this, environment
-from formula_score.running.outs import SIGNALS, WRITE, WRITE_LINE, Descriptor, Out, Straight, descriptor_of, out_of, settled
+from formula_score.running.outs import (
+    SIGNALS, WRITE, WRITE_LINE, Descriptor, Out, Straight, descriptor_of, out_of, settled,
+)
 from .ins import Source, source_of
 from .origin import origin
 
@@ -124,8 +126,9 @@ class _Run:
     def answer(self, words: Sequence[str]) -> End:
         """Runs the program with the descriptors that are open here, and gives its status and its line."""
         try:
-            self.process = subprocess.Popen(ends_with_this(words), stdout=subprocess.PIPE, stderr=subprocess.DEVNULL, close_fds=False,
-                                            restore_signals=False, env=environment())
+            self.process = subprocess.Popen(
+                ends_with_this(words), stdout=subprocess.PIPE, stderr=subprocess.DEVNULL, close_fds=False,
+                restore_signals=False, env=environment())
         except (OSError, ValueError) as error:
             raise Failed(NO_PROGRAM, f"{words[0]} cannot be run: {error}") from error
         with self.process as process:

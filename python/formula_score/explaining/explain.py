@@ -262,8 +262,8 @@ def _why_unwritten(name: str, piped: bool) -> str:
         return why_full(folder, _LEFT) if os.access(name, os.W_OK) else os.strerror(errno.EACCES)
     if piped:
         return _WRITE_FAILED + _LEFT
-    return ("it is no plain file: the length of the track is written last, so OUT must be a file that can be sought in, on "
-            "a device with room")
+    return ("it is no plain file: the length of the track is written last, so OUT must be a file that can be sought in, "
+            "on a device with room")
 
 
 def _why_unmade(folder: str) -> str:
