@@ -19,6 +19,12 @@ from .program import TOP
 RT = """\
 #!/bin/sh
 trap '' PIPE
+if [ "$1" = try ]; then
+    if [ -e "$TRIED/status" ]; then echo "error: it does not fit" && kill -9 $$; fi
+    mkdir "$TRIED/rt-try" && cp /bin/cat "$TRIED/rt-try/program" && "$TRIED/rt-try/program" "$3"
+    rm -r "$TRIED/rt-try"
+    exit
+fi
 echo $$ >>"$TRIED/numbers"
 echo "$@" >"$TRIED/words"
 find . -type f | sort >"$TRIED/copy"
@@ -190,6 +196,32 @@ class Build(unittest.TestCase):
         done = subprocess.run([self.top / "tools" / "gate" / "build.py"], stderr=subprocess.PIPE, text=True, check=False,
                               env={"PATH": "/usr/bin:/bin"})
         self.assertEqual((done.returncode, done.stderr), (127, "formula: the toolchain is not there: no rt on the PATH\n"))
+
+    def test_a_program_without_proofs_is_kept_and_says_so(self) -> None:
+        shutil.copy(TOP / "bin" / "formula", self.top / "bin")
+        environment = {**os.environ, "TRIED": str(self.top), "PATH": f"{self.top / 'bin'}:{os.environ['PATH']}"}
+        environment.pop("FORMULA", None)
+
+        def formula(*words: str) -> "subprocess.CompletedProcess[str]":
+            return subprocess.run([self.top / "bin" / "formula", *words], env=environment, capture_output=True, text=True,
+                                  check=False)
+
+        none = formula("--found")
+        self.assertEqual(none.returncode, 70)
+        self.assertRegex(none.stderr, r"bin/formula --unproved --keep .*\n.*bin/formula --program ")
+        (self.top / "status").touch()
+        failed = formula("--unproved", "--keep")
+        self.assertEqual(failed.returncode, 70)
+        self.assertIn("could not be built: rt try ended with signal KILL\nerror: it does not fit\n", failed.stderr)
+        (self.top / "status").unlink()
+        self.assertEqual(formula("--unproved", "--keep").returncode, 0)
+        without_proofs = self.program.with_suffix(".unproved")
+        self.assertEqual(without_proofs.read_bytes(), pathlib.Path("/bin/cat").read_bytes())
+        found = formula("--found")
+        self.assertEqual((found.returncode, found.stdout), (0, f"{without_proofs}\n"))
+        self.assertIn("nothing is proved of this program", found.stderr)
+        self.assertIn("nothing is proved of this program", formula("--unproved", "none", "out").stderr)
+        self.assertFalse((self.top / "rt-try").exists())
 
 
 if __name__ == "__main__":

@@ -11,6 +11,7 @@ import sys
 import tempfile
 import unittest
 from typing import Any, Optional
+from unittest import mock
 
 from .program import PROGRAM, TOP, needs_program
 
@@ -55,6 +56,7 @@ class Spoken(unittest.TestCase):
         self.addCleanup(self.stop)
         self.number = 0
         self.published: list[Any] = []
+        self.passed: list[Any] = []
         try:
             self.able = self.ask("initialize", {"processId": None, "rootUri": None, "capabilities": {}})["capabilities"]
         except (EOFError, BrokenPipeError):
@@ -107,6 +109,7 @@ class Spoken(unittest.TestCase):
             if said.get("method") == "textDocument/publishDiagnostics" and said["params"].get("version") == version:
                 found: list[Any] = said["params"]["diagnostics"]
                 return found
+            self.passed.append(said)
 
     @needs_program
     def test_each_change_is_judged(self) -> None:
@@ -160,10 +163,55 @@ class Spoken(unittest.TestCase):
         self.assertEqual(self.at("rename", 3, 4, newName="other"), "another phrase or shape is called `other`")
         self.assertIsNone(self.at("prepareRename", 0, 2))
 
+    def test_a_change_with_a_range_is_applied(self) -> None:
+        self.open(TEXT)
+        place = {"start": {"line": 1, "character": 7}, "end": {"line": 1, "character": 11}}
+        self.tell("textDocument/didChange", {"textDocument": {"uri": URI, "version": 2}, "contentChanges": [
+            {"range": place, "text": "melody"}, {"range": place, "text": "song"}]})
+        symbols = self.ask("textDocument/documentSymbol", {"textDocument": {"uri": URI}})
+        self.assertEqual([symbol["name"] for symbol in symbols], ["songdy", "other"])
+
+    def test_other_heads_and_odd_messages(self) -> None:
+        assert self.server.stdin is not None
+        for data, answer in ((b"null", None), (b"[" * 100_000, None), (b"{", None), (b"{}", None)):
+            head = b"Content-Type: application/vscode-jsonrpc; charset=utf-8\r\ncontent-length: %d\r\n\r\n" % len(data)
+            self.server.stdin.write(head + data)
+        self.assertEqual(self.ask("textDocument/documentSymbol", {"textDocument": {"uri": URI}}), "this document is not open")
+        self.server.stdin.write(b"Content-Length: 1000000000000\r\n\r\n")
+        self.server.stdin.flush()
+        assert self.server.stderr is not None
+        self.assertEqual((self.server.wait(60), self.server.stderr.read()),
+                         (1, b"formula-score lsp: a message has 0 to 67,108,864 bytes, and here are 1,000,000,000,000\n"))
+
     def test_it_ends_as_the_editor_wants(self) -> None:
         self.assertIsNone(self.ask("shutdown", None))
         self.tell("exit", None)
         self.assertEqual(self.server.wait(20), 0)
+
+
+class Failing(unittest.TestCase):
+    @needs_program
+    def test_a_program_that_fails_is_told_once_and_nothing_is_left(self) -> None:
+        with tempfile.TemporaryDirectory() as name:
+            program, rest = pathlib.Path(name, "program"), pathlib.Path(name, "tmp")
+            rest.mkdir()
+            for text, why in (("", "cannot be run"), ("#!/bin/sh\nkill -9 $$\n", "the signal SIGKILL ended the program")):
+                program.write_text(text)
+                program.chmod(0o755)
+                with mock.patch(f"{__name__}.PROGRAM", str(program)), mock.patch.dict(os.environ, {"TMPDIR": str(rest)}):
+                    spoken = Spoken("open")
+                    self.addCleanup(spoken.doCleanups)
+                    spoken.setUp()
+                for version in (1, 2):
+                    spoken.open(TEXT, version)
+                    self.assertEqual(spoken.diagnostics(version), [])
+                spoken.ask("textDocument/documentSymbol", {"textDocument": {"uri": URI}})
+                said = [each["params"]["message"] for each in spoken.published + spoken.passed
+                        if each.get("method") == "window/showMessage"]
+                self.assertEqual(len(said), 1)
+                self.assertIn(why, said[0])
+                spoken.server.terminate()
+                self.assertEqual((spoken.server.wait(20), os.listdir(rest)), (-15, []))
 
 
 class Neovim(unittest.TestCase):

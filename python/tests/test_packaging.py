@@ -110,7 +110,9 @@ class Package(unittest.TestCase):
         if shellcheck is None:
             self.skipTest("NOT TRIED: there is no shellcheck")
         names = subprocess.run(["git", "ls-files", "-z"], cwd=TOP, stdout=subprocess.PIPE, text=True, check=True).stdout
-        shell = [name for name in names.split("\0")[:-1] if (TOP / name).is_file() and SHELL.search((TOP / name).read_bytes())]
+        # a script of Python that a shell begins is none
+        shell = [name for name in names.split("\0")[:-1] if (TOP / name).is_file()
+                 and SHELL.search(text := (TOP / name).read_bytes()) and b"exec python3 \"$0\"" not in text]
         self.assertIn("bin/formula", shell)
         done = subprocess.run([shellcheck, "-x", "--", *shell], cwd=TOP, stdout=subprocess.PIPE, stderr=subprocess.STDOUT,
                               text=True, check=False)

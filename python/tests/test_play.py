@@ -7,6 +7,7 @@ import pathlib
 import shlex
 import shutil
 import signal
+import socket
 import stat
 import subprocess
 import sys
@@ -23,7 +24,7 @@ WORDS, WRITE = b"formula: words refused\n", b"formula: write fault\n"
 #: How the verb is run, by a module that is changed before.
 START = "import sys; sys.argv[0] = 'formula-score'; from formula_companion.verbs.program import main; sys.exit(main())"
 #: A file system where each file has a name.
-NAMED = "import formula_companion.verbs.outs as o; o._file_without_a_name = lambda *_: None; "
+NAMED = "import formula_score.running.outs as o; o._file_without_a_name = lambda *_: None; "
 #: A call of the host that fails for the new file.
 FAILS = "import os\ndef {0}(*_, was=os.{0}, **__):\n if {1}: raise OSError(122, 'Disk quota exceeded')\n return was(*_, **__)\nos.{0} = {0}; "
 NOBODY = 65534
@@ -222,12 +223,13 @@ class Play(unittest.TestCase):
         os.symlink("note", self.top / "link")
         os.link(self.note, self.top / "hard")
         for source, out in (("note", "note"), ("note", "link"), ("hard", "./note"), ("pipe", "pipe"), ("note", self.note)):
-            for more in ((), ("--parts",), ("--locate", "0"))[:3 if source == "pipe" else 1]:
+            for more in ((), ("--parts",))[:2 if source == "pipe" else 1]:
                 self.ends(self.play(source, out, *more), 1, WORDS, "IN and OUT are one file")
         self.ends(self.shell("PLAY /dev/stdin note <note"), 1, WORDS, "one file")
         self.ends(self.shell("PLAY - note <note"), 1, WORDS, "one file")
         self.ends(self.shell("PLAY note - >>note"), 1, b"", "^formula: words refused\nIN and OUT are one file")
         self.assertEqual(pathlib.Path(self.note).read_bytes(), NOTE)
+        self.ends(self.play(self.note, self.note, "--locate", "0"), 0, b"process 0 levels 0 start 0 positions\n", "^$")
         self.ends(self.play("/dev/null", "/dev/null"), 3, b"formula: score refused: 1:1 fault 3\n")
 
     # ---- descriptors, pipes and devices
@@ -246,6 +248,43 @@ class Play(unittest.TestCase):
                 answer = self.shell(f"PLAY {words[0]} {name} {' '.join(words[1:])} {way} {self.out}; exit ${{PIPESTATUS[0]}}")
                 self.ends(answer, 0, b"", "^processes .*\n$" if "--generate" in words else "^$")
                 self.holds(before + wanted, f"{words} {name} {way}")
+
+    def test_standard_input_is_read_once_and_explained_under_its_name(self) -> None:
+        os.mkfifo(self.top / "pipe")
+        self.put("-", NOTE)
+        for way in ("cat refused | PLAY {} out/out.mid", "PLAY {} out/out.mid <refused",
+                    "exec 7<>pipe; cat refused >&7; exec 8<pipe 7<&-; PLAY {} out/out.mid <&8"):
+            for name in ("-", "/dev/stdin", "/proc/self/fd/0"):
+                self.ends(self.shell(way.format(name)), 3, FAULT, f"^{name}:1:20: `1/7` is")
+        self.ends(self.shell("cat refused >pipe & PLAY pipe out/out.mid"), 3, FAULT, "^pipe:1:20: `1/7` is")
+        self.ends(self.shell("PLAY ./- out/out.mid <refused"), 0, b"", "^$")
+        self.holds(self.file)
+        mine, other = socket.socketpair()
+        with mine, other:
+            other.sendall(REFUSED)
+            other.shutdown(socket.SHUT_WR)
+            self.ends(Answer(subprocess.run(self.words("-", self.out), env=self.environment(), cwd=self.top, stdin=mine.fileno(),
+                                            capture_output=True, check=False, timeout=120)), 3, FAULT, "^-:1:20: ")
+        folder = subprocess.run([TOP / "bin" / "formula-score", "play", "-", self.out], stdin=os.open(self.top, os.O_RDONLY),
+                                capture_output=True, check=False)
+        self.assertEqual((folder.returncode, folder.stdout, folder.stderr),
+                         (2, b"", b"formula-score: standard input is a folder\n"))
+
+    def test_reasons_are_true(self) -> None:
+        os.symlink("ring", self.top / "ring")
+        for out, why in (("/dev/fd/66", "Bad file descriptor"), ("note/out.mid", "Not a directory"),
+                         ("ring", "Too many levels of symbolic links")):
+            self.ends(self.play(self.note, out), 4, WRITE, f"^'{out}' cannot be written: {why}$")
+            command = subprocess.run([TOP / "bin" / "formula", self.note, out], env=self.environment(), cwd=self.top,
+                                     capture_output=True, text=True, check=False)
+            self.assertEqual((command.returncode, command.stderr), (4, f"'{out}' cannot be written: {why}\n"))
+        self.ends(self.play("/dev/fd/66", self.out), 2, b"formula: read fault\n", "Bad file descriptor")
+
+    def test_names_are_escaped(self) -> None:
+        name = "a\x1b[31mb\nc"
+        self.put(name, REFUSED)
+        self.ends(self.play(name, self.out), 3, FAULT, r"^a\\x1b\[31mb\\nc:1:20: ")
+        self.ends(self.play("none\x1b", self.out), 2, b"formula: read fault\n", r"^'none\\x1b' cannot be read")
 
     def test_what_is_said_does_not_stand_in_standard_output(self) -> None:
         self.ends(self.shell("PLAY refused - | cat; exit ${PIPESTATUS[0]}"), 3, b"",

@@ -70,7 +70,9 @@ class Scripts(unittest.TestCase):
         for found in (None, str(TOP / "bin" / "formula"), str(TOP / "scripts" / "formula"), self.built):
             with unittest.mock.patch("formula_score.running.command.find_program", lambda: found), \
                     unittest.mock.patch("subprocess.run") as asked:
-                asked.return_value.returncode, asked.return_value.stdout = 0, b"built\n"
+                asked.return_value.returncode, asked.return_value.stdout, asked.return_value.stderr = 0, "built\n", ""
+                playing._of_checkout.cache_clear()
+                self.addCleanup(playing._of_checkout.cache_clear)
                 self.assertEqual(playing.program(), self.built if found == self.built else "built")
 
     def test_a_program_that_runs_the_script_ends(self) -> None:

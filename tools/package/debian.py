@@ -146,7 +146,7 @@ def files_of(top: pathlib.Path, files: dict[str, File], facts: Facts) -> dict[st
         elif name.startswith("share/man/"):
             name, content = f"{name}.gz", _zipped(content)
         elif name == "bin/formula-score":
-            content = content.replace(b"#!/usr/bin/env python3\n", b"#!/usr/bin/python3\n", 1)
+            content = content.replace(b"exec python3 ", b"exec /usr/bin/python3 ", 1)
         placed[name] = File(content, file.mode)
     folder = f"share/doc/{NAME}"
     placed[f"{folder}/copyright"] = File(copyright_of(top), 0o644)

@@ -1,10 +1,10 @@
 """Limits of the host and signals, for scripts/faults.
 
 A file that may not grow past each of its first 200 bytes, full disks, a reader that goes away, a text that shrinks while it
-is read, no file descriptors, no threads, little address space, each allocation refused in turn, signals in mid-run, ten
-runs at a time. In each the exit status, the line on standard output and what OUT holds are compared, for one thread, for
-rounds and for free threads. It needs Linux; the threads and the full disks need root, the allocations a C compiler and the
-GNU C library."""
+is read, no file descriptors, no threads, little address space, little stack, each allocation refused in turn, signals in
+mid-run, ten runs at a time. In each the exit status, the line on standard output and what OUT holds are compared, for one
+thread, for rounds and for free threads. It needs Linux; the threads and the full disks need root, the allocations a C
+compiler and the GNU C library."""
 
 from __future__ import annotations
 
@@ -29,6 +29,8 @@ from harness import held  # noqa: E402
 from room import LONGEST, READ, WAYS, WRITE, Before, Room, described, is_out_of_memory  # noqa: E402
 
 NOBODY = 65534
+#: The stack of a task in KB, as formula(1) has it.
+STACKS = {"": 128, "--parts": 184, "--from": 184, "--list": 48, "--generate": 48}
 
 
 def of_size(limit: int, is_ignored: bool) -> Before:
@@ -185,6 +187,26 @@ def try_address_space(room: Room) -> None:
             room.judge(f"little address space, {what}, {way}", seen == {0, 6}, f"only the statuses {seen} were seen")
 
 
+def try_stack(room: Room) -> None:
+    """The stack that the man page asks for is enough for 64 blocks; without one the program ends before it writes."""
+    blocks = room.put("blocks", b"formula 1;" + b"if 1 {" * 64 + b"note c4 1/4;" + b"}" * 64)
+    large, record = room.put("file", room.file_of([blocks])), room.put("record", room.file_of([blocks], ["--record"]))
+    cases: dict[str, tuple[str, list[str]]] = {
+        **{what: (blocks, words) for what, words in WAYS.items()}, "--parts": (blocks, ["--parts"]),
+        "--from": (blocks, ["--from", "0", "--to", "100"]), "--record": (blocks, ["--record"]),
+        "--audit": (record, ["--audit"]), "--list": (large, ["--list"]), "--generate": ("none", ["--generate", "0"])}
+    for what, (source, words) in cases.items():
+        size = STACKS.get(what, STACKS[""]) << 10
+        ample = room.play(words, source=source)
+        ran = room.play(words, with_limit(resource.RLIMIT_STACK, size), source=source)
+        # a record depends on the run
+        is_well = ran.status == 0 and (what == "--record" or ran == ample)
+        room.judge(f"a stack of {size} bytes, {what}", is_well, described(ran))
+        room.clear()
+    ran = room.play([], with_limit(resource.RLIMIT_STACK, 16 << 10), source=blocks)
+    room.judge("a stack of 16 KB", ran.status == -signal.SIGSEGV and ran.out is None, described(ran))
+
+
 def try_signals(room: Room) -> None:
     """A signal in mid-run."""
     large = room.file_of(["none"], ["--generate", "24"])
@@ -222,7 +244,7 @@ def try_many_at_a_time(room: Room) -> None:
 
 TRIES: tuple[Callable[[Room], None], ...] = (
     try_sizes, try_full_disks, try_reader_that_goes, try_text_that_shrinks, try_descriptors, try_threads, try_address_space,
-    *allocations.TRIES, try_signals, try_many_at_a_time)
+    *allocations.TRIES, try_stack, try_signals, try_many_at_a_time)
 
 
 def main() -> int:

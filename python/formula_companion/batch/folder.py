@@ -9,6 +9,8 @@ import os
 import re
 from typing import Iterator, Optional
 
+from formula_score.running.outs import file_without_a_name
+
 #: Bytes as the program prints them, where they are no text.
 RAW = "surrogateescape"
 #: What stands before the seed of a text: blanks and comments, the version and the division.
@@ -118,35 +120,33 @@ def remove(path: str) -> None:
 
 
 def write(path: str, data: bytes) -> None:
-    """Writes a file, which has a name only when it is whole, where the file system can."""
-    file = _without_a_name(os.path.dirname(path))
+    """Writes a file, which is the old one until it is the whole new one. To sync it would take longer than to play it."""
+    beside = f"{path}.part"
+    file = file_without_a_name(os.path.dirname(path), 0o666)
+    has_name = file is None
     if file is None:
-        file = os.open(path, os.O_CREAT | os.O_TRUNC | os.O_WRONLY | os.O_CLOEXEC, 0o666)
-        path = ""
+        file = os.open(beside, os.O_CREAT | os.O_TRUNC | os.O_WRONLY | os.O_CLOEXEC, 0o666)
     try:
         rest = memoryview(data)
         while rest:
             rest = rest[os.write(file, rest):]
-        if path:
-            _link(file, path)
+        if has_name:
+            os.replace(beside, path)
+        else:
+            _link(file, path, beside)
+    except BaseException:
+        remove(beside)
+        raise
     finally:
         os.close(file)
 
 
-def _without_a_name(folder: str) -> Optional[int]:
-    try:
-        return os.open(folder, os.O_TMPFILE | os.O_WRONLY | os.O_CLOEXEC, 0o666)
-    except OSError as error:
-        if error.errno not in (errno.EOPNOTSUPP, errno.EISDIR, errno.EINVAL):
-            raise
-        return None
-
-
-def _link(file: int, path: str) -> None:
+def _link(file: int, path: str, beside: str) -> None:
     source = f"/proc/self/fd/{file}"
     try:
         # with a folder's descriptor, which is not used, the link is one to what this name means
         os.link(source, path, src_dir_fd=file)
     except FileExistsError:
-        os.unlink(path)
-        os.link(source, path, src_dir_fd=file)
+        remove(beside)
+        os.link(source, beside, src_dir_fd=file)
+        os.replace(beside, path)

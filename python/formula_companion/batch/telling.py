@@ -11,6 +11,7 @@ import time
 from typing import Iterator, Mapping, Optional
 
 from formula_score.explaining.explain import explanation, place_of, refusal
+from formula_score.running.outs import writing
 from .folder import RAW, Batch
 from .playing import NONE, PLAIN
 from .results import BELIEVED, Result, Results
@@ -118,7 +119,7 @@ def write_json(results: Results) -> int:
 
 def write_csv(path: str, results: Results) -> None:
     """Writes a line for each piece."""
-    with open(path, "w", encoding="utf-8", errors=RAW, newline="") as file:
+    with writing(path) as beside, open(beside, "w", encoding="utf-8", errors=RAW, newline="") as file:
         lines = csv.writer(file, lineterminator="\n")
         lines.writerow(("score", "status", "line", "column", "fault", "said", "how"))
         for number, result in rows(results):

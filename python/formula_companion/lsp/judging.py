@@ -4,12 +4,13 @@ from __future__ import annotations
 
 import os
 import subprocess
-import tempfile
 import threading
-from typing import Callable, Optional
+from typing import Callable, Optional, Union
 
-from formula_score.explaining.explain import place_of
-from formula_score.running.command import find_program
+from formula_score.explaining.explain import explanation, place_of
+from formula_score.reading.playing import Failed, program
+from formula_score.running.command import ends_with_this, environment
+from formula_score.running.outs import name_of, nameless
 from ..editing.refusal import Refusal, refused
 
 #: What is told of a text: its refusal, None where it has none.
@@ -17,10 +18,10 @@ Told = Callable[[Optional[Refusal]], None]
 
 
 class Judge:
-    """Judges the texts of one document, one after another."""
+    """Judges the texts of one document, one after another. What goes wrong with the program is told by `fails`."""
 
-    def __init__(self, program: str):
-        self.program = program
+    def __init__(self, program: str, fails: Callable[[str], None]):
+        self.program, self.fails = program, fails
         self._lock = threading.Lock()
         self._number = 0
         self._run: Optional["subprocess.Popen[bytes]"] = None
@@ -42,30 +43,35 @@ class Judge:
                 self._run.kill()
 
     def _judge(self, text: bytes, number: int, answer: Told) -> None:
-        with tempfile.TemporaryDirectory() as folder:
-            source = os.path.join(folder, "in.score")
-            with open(source, "wb") as file:
-                file.write(text)
+        with nameless(text) as source:
             with self._lock:
                 if number != self._number:
                     return
-                # nothing is played: where a tick lies is asked, which needs the text to be accepted
-                run = self._run = subprocess.Popen(
-                    [self.program, "--locate", "0", "--", source, os.devnull], stdin=subprocess.DEVNULL,
-                    stdout=subprocess.PIPE, stderr=subprocess.DEVNULL,
-                    env={name: value for name, value in os.environ.items() if name != "FORMULA"})
-            said, _ = run.communicate()
-        place = place_of(said.decode("utf-8", "replace").strip())
-        if run.returncode not in (0, 3):
-            return
+                try:
+                    # nothing is played: where a tick lies is asked, which needs the text to be accepted
+                    run = self._run = subprocess.Popen(
+                        ends_with_this([self.program, "--locate", "0", "--", name_of(source), os.devnull]),
+                        stdin=subprocess.DEVNULL, stdout=subprocess.PIPE, stderr=subprocess.DEVNULL, env=environment(),
+                        pass_fds=[source.fileno()])
+                except (OSError, ValueError) as error:
+                    self.fails(f"{self.program} cannot be run, so nothing is judged: {error}")
+                    answer(None)
+                    return
+            said = run.communicate()[0].decode("utf-8", "replace").strip()
+        place = place_of(said)
         refusal = refused(text, place) if place else None
         with self._lock:
-            if number == self._number:
-                answer(refusal)
+            if number != self._number:
+                return
+            if run.returncode != 0 and refusal is None:
+                why = explanation(run.returncode, said, ["--", "score", os.devnull]) or said
+                self.fails(f"the program has not judged the text: {why or f'status {run.returncode}'}")
+            answer(refusal)
 
 
-def program_for_judging() -> Optional[str]:
-    """The program, where it is there: an editor waits for no build."""
-    found = find_program()
-    built = os.path.join(os.path.dirname(__file__), *[os.pardir] * 3, "crates", "fm_main", "out", "fm_main")
-    return found or (os.path.abspath(built) if os.access(built, os.X_OK) else None)
+def program_for_judging() -> Union[str, Failed]:
+    """The program, or why there is none."""
+    try:
+        return program()
+    except Failed as failed:
+        return failed

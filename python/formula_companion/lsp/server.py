@@ -2,13 +2,17 @@
 
 from __future__ import annotations
 
-from typing import Any, BinaryIO, Callable, Optional
+import json
+import logging
+import sys
+from typing import Any, BinaryIO, Callable, Iterator, Optional, Union
 
 from pylsp_jsonrpc.endpoint import Endpoint
 from pylsp_jsonrpc.exceptions import JsonRpcInvalidParams
-from pylsp_jsonrpc.streams import JsonRpcStreamReader, JsonRpcStreamWriter
+from pylsp_jsonrpc.streams import JsonRpcStreamWriter
 
 from formula_score import __version__
+from formula_score.reading.playing import Failed
 from ..editing.refusal import Refusal
 from .answers import Text, Value
 from .judging import Judge
@@ -16,19 +20,45 @@ from .judging import Judge
 #: Whole texts are sent with each change.
 _FULL = 1
 _WARNING = 2
-NO_PROGRAM = "there is no program, so nothing is judged: let FORMULA name it, or put formula into PATH"
+#: The longest message that is read, in bytes, and the longest head of one.
+MOST_BYTES, MOST_HEAD = 64 * 1_048_576, 4096
+
+
+def messages(incoming: BinaryIO) -> Iterator[Any]:
+    """The messages of an editor, to the end; a `ValueError` for what is none: then nobody knows where the next begins."""
+    while line := incoming.readline(MOST_HEAD):
+        length = -1
+        while line.strip():
+            name, _, value = line.partition(b":")
+            if name.strip().lower() == b"content-length":
+                length = int(value)
+            if len(line) == MOST_HEAD:
+                raise ValueError("a head is too long")
+            line = incoming.readline(MOST_HEAD)
+        if not 0 <= length <= MOST_BYTES:
+            raise ValueError(f"a message has 0 to {MOST_BYTES:,} bytes, and here are {length:,}")
+        data = incoming.read(length)
+        if len(data) < length:
+            return
+        try:
+            yield json.loads(data.decode("utf-8", "replace"))
+        except (ValueError, RecursionError):
+            yield None
 
 
 class Server:
     """The documents that are open, and what is answered about them."""
 
-    def __init__(self, incoming: BinaryIO, outgoing: BinaryIO, program: Optional[str]):
-        self.program = program
+    def __init__(self, incoming: BinaryIO, outgoing: BinaryIO, program: Union[str, Failed]):
+        self.program = program if isinstance(program, str) else None
+        self.why = "" if isinstance(program, str) else f"nothing is judged: {program.why}"
+        self.told: set[str] = set()
         self.texts: dict[str, Text] = {}
         self.judges: dict[str, Judge] = {}
         self.refusals: dict[str, Optional[Refusal]] = {}    # what was published last of each text
         self.is_shut_down = False
-        self.reader = JsonRpcStreamReader(incoming)
+        self.incoming, self.write = incoming, JsonRpcStreamWriter(outgoing).write
+        self.is_over = False
         handlers: dict[str, Callable[[Value], Any]] = {
             "initialize": self.initialize, "initialized": self.initialized, "shutdown": self.shut_down,
             "exit": self.exit, "textDocument/didOpen": self.did_open, "textDocument/didChange": self.did_change,
@@ -42,13 +72,24 @@ class Server:
             "textDocument/prepareRename": lambda asked: self._text(asked).may_rename(asked["position"]),
             "textDocument/rename": self.rename, "textDocument/codeAction": self.actions,
         }
-        self.endpoint = Endpoint(handlers, JsonRpcStreamWriter(outgoing).write)
+        self.endpoint = Endpoint(handlers, self.write)
 
     def serve(self) -> int:
         """Answers until the editor ends it, and gives the status."""
-        self.reader.listen(self.endpoint.consume)
-        for judge in self.judges.values():
-            judge.stop()
+        logging.getLogger("pylsp_jsonrpc").setLevel(logging.CRITICAL + 1)  # the editor is answered, and that is all
+        try:
+            for message in messages(self.incoming):
+                if not isinstance(message, dict):
+                    self.write({"jsonrpc": "2.0", "id": None, "error": {"code": -32700, "message": "this is no message"}})
+                else:
+                    self.endpoint.consume(message)
+                if self.is_over:
+                    break
+        except ValueError as error:
+            print(f"formula-score lsp: {error}", file=sys.stderr)
+        finally:
+            for judge in self.judges.values():
+                judge.stop()
         return 0 if self.is_shut_down else 1
 
     # ---- the beginning and the end
@@ -63,8 +104,14 @@ class Server:
 
     def initialized(self, _: Value) -> None:
         """Says where there is no program."""
-        if self.program is None:
-            self.endpoint.notify("window/showMessage", {"type": _WARNING, "message": NO_PROGRAM})
+        if self.why:
+            self._warn(self.why)
+
+    def _warn(self, why: str) -> None:
+        """Says something once."""
+        if why not in self.told:
+            self.told.add(why)
+            self.endpoint.notify("window/showMessage", {"type": _WARNING, "message": why})
 
     def shut_down(self, _: Optional[Value]) -> None:
         """The editor will end it."""
@@ -73,7 +120,7 @@ class Server:
     def exit(self, _: Optional[Value]) -> None:
         """Ends."""
         self.endpoint.shutdown()
-        self.reader.close()
+        self.is_over = True
 
     # ---- documents
 
@@ -84,8 +131,14 @@ class Server:
 
     def did_change(self, notice: Value) -> None:
         """A document has another text."""
-        document = notice["textDocument"]
-        self._take(Text(document["uri"], document.get("version"), notice["contentChanges"][-1]["text"]))
+        document, text = notice["textDocument"], self._text(notice)
+        for change in notice["contentChanges"]:
+            words = change["text"]
+            if change.get("range"):
+                data, (begin, end) = text.data, (text.byte(change["range"][name]) for name in ("start", "end"))
+                words = (data[:begin] + words.encode("utf-8", "replace") + data[end:]).decode("utf-8", "replace")
+            text = Text(document["uri"], document.get("version"), words)
+        self._take(text)
 
     def did_close(self, notice: Value) -> None:
         """A document is closed; nothing is said of it any more."""
@@ -100,7 +153,7 @@ class Server:
         self.texts[text.uri] = text
         self.refusals.pop(text.uri, None)
         if self.program is not None:
-            judge = self.judges.setdefault(text.uri, Judge(self.program))
+            judge = self.judges.setdefault(text.uri, Judge(self.program, self._warn))
             judge.judge(text.data, lambda refusal: self._publish(text, refusal))
 
     def _publish(self, text: Text, refusal: Optional[Refusal]) -> None:

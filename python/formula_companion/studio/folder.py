@@ -6,6 +6,7 @@ folder, whatever is renamed meanwhile.
 
 from __future__ import annotations
 
+import errno
 import hashlib
 import os
 import secrets
@@ -174,9 +175,7 @@ def _replace(entry: _Entry, data: bytes, version: Optional[str]) -> None:
             file.flush()
             os.fsync(descriptor)
         if version is None:
-            # a link is made only where no file of that name has come meanwhile
-            os.link(beside, entry.name, src_dir_fd=entry.folder, dst_dir_fd=entry.folder, follow_symlinks=False)
-            os.unlink(beside, dir_fd=entry.folder)
+            _take_name(entry, beside)
         else:
             _check(entry, version)
             os.rename(beside, entry.name, src_dir_fd=entry.folder, dst_dir_fd=entry.folder)
@@ -186,6 +185,19 @@ def _replace(entry: _Entry, data: bytes, version: Optional[str]) -> None:
             raise Conflict(_bytes_of(entry)) from error
         raise
     os.fsync(entry.folder)
+
+
+def _take_name(entry: _Entry, beside: str) -> None:
+    """Gives a new file its name, where no file of that name has come meanwhile."""
+    try:
+        os.link(beside, entry.name, src_dir_fd=entry.folder, dst_dir_fd=entry.folder, follow_symlinks=False)
+        os.unlink(beside, dir_fd=entry.folder)
+    except OSError as error:
+        if error.errno not in (errno.EPERM, errno.EOPNOTSUPP):
+            raise
+        # there are no hard links here: an empty file takes the name
+        os.close(os.open(entry.name, os.O_WRONLY | os.O_CREAT | os.O_EXCL | _FILE, 0o666, dir_fd=entry.folder))
+        os.rename(beside, entry.name, src_dir_fd=entry.folder, dst_dir_fd=entry.folder)
 
 
 def _check(entry: _Entry, version: Optional[str]) -> Optional[int]:

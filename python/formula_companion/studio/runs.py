@@ -50,6 +50,11 @@ async def ended(words: Sequence[str], environment: Optional[dict[str, str]] = No
     return process.returncode or 0, said
 
 
+def how(status: int) -> str:
+    """How a process ended, in words."""
+    return f"status {status}" if status >= 0 else f"the signal {signal.Signals(-status).name}"
+
+
 class Program:
     """The proved program, with a folder for its files."""
 

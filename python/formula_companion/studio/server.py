@@ -19,6 +19,7 @@ from aiohttp import WSMsgType, web
 from formula_score.explaining.explain import explanation
 from formula_score.pictures.drawing import COLOURS, DARKER
 from . import examples
+from .door import Door, Watched, quiet
 from .folder import Conflict, Denied, Folder, version_of
 from .guard import Asked, Guard
 from .runs import Program, Workers, remove
@@ -37,6 +38,11 @@ EDITOR_PARTS = (
 _KINDS = {".html": "text/html", ".js": "text/javascript", ".css": "text/css", ".json": "application/json"}
 #: The longest message of a page, in bytes: a text twice as long as the longest file, as JSON writes it.
 MOST_MESSAGE = 40 * 1_048_576
+
+#: What reading a body may raise that no page has sent.
+_ODD = (LookupError, TypeError, AttributeError, ValueError, ArithmeticError, RecursionError)
+#: How often it is looked whether a client is still there, in seconds.
+_LOOK = 0.25
 
 Handler = Callable[[web.Request], Awaitable[web.StreamResponse]]
 
@@ -58,6 +64,7 @@ class Studio:
         self.program = Program(settings.program, home)
         self.workers = Workers(home, settings.program)
         self.sound = Sound(home)
+        self.door = Door()
         self.guard = Guard(settings.listener.getsockname()[1])
 
     # ---- the page
@@ -124,7 +131,7 @@ class Studio:
             async for message in opened:
                 if message.type == WSMsgType.TEXT:
                     session.take(json.loads(message.data))
-        except (KeyError, TypeError, ValueError):  # no message of the page
+        except _ODD:  # no message of the page
             await opened.close()
         finally:
             session.close()
@@ -195,13 +202,27 @@ class Studio:
             request.method, request.path, headers.getall("Host", []), headers.getall("Origin", []),
             headers.getall("Sec-Fetch-Site", []), headers.getall("Sec-Fetch-Mode", []), "Upgrade" in headers))
         if why is not None:
-            return web.Response(status=403, text=f"studio: {why}\n")
+            return web.Response(status=403, text=f"studio: {why}\n", headers={"Connection": "close"})
+        self.door.known(request.transport)
         try:
-            return await handler(request)
+            return await _while_waited_for(request, handler(request))
         except Denied as denied:
             return web.Response(status=denied.status, text=denied.why)
-        except (KeyError, TypeError, AttributeError, ValueError):
+        except _ODD:
             return web.Response(status=400, text="this is no request of the page")
+
+
+async def _while_waited_for(request: web.Request, work: Awaitable[web.StreamResponse]) -> web.StreamResponse:
+    """The answer of a handler, which is ended with all that it runs where the client has left."""
+    task = asyncio.ensure_future(work)
+    try:
+        while not (await asyncio.wait({task}, timeout=_LOOK))[0]:
+            if request.transport is None or request.transport.is_closing():
+                break
+    finally:
+        if not task.done():
+            task.cancel()
+    return await task
 
 
 def _text_of(data: bytes) -> web.Response:
@@ -221,18 +242,24 @@ async def _aside(work: Callable[..., Any], *words: Any) -> Any:
 async def serve(settings: Settings, tell: Callable[[str, str], None]) -> None:
     """Serves until it is ended; `tell` is called with the address, and with a folder that nobody else may look into."""
     stop = asyncio.Event()
+    quiet()
     for number in (signal.SIGTERM, signal.SIGHUP):
         asyncio.get_running_loop().add_signal_handler(number, stop.set)
     with tempfile.TemporaryDirectory(prefix="formula-studio-") as home:
         studio = Studio(settings, home)
         runner = web.AppRunner(studio.application(), access_log=None, handle_signals=False)
         await runner.setup()
+        answering: Any = runner.server
+        listening = await asyncio.get_running_loop().create_server(
+            lambda: Watched(studio.door, answering()), sock=settings.listener)
+        settings.listener.listen(4096)  # else a packet of the owner is lost while many others come
         try:
-            await web.SockSite(runner, settings.listener).start()
             tell(studio.guard.address, home)
             await studio.workers.warm()
             await stop.wait()
         finally:
             studio.workers.close()
+            listening.close()
             with contextlib.suppress(Exception):
+                await asyncio.wait_for(answering.shutdown(5), 5)
                 await asyncio.wait_for(runner.cleanup(), 5)

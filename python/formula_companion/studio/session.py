@@ -1,7 +1,8 @@
 """One page that is open: its text comes with each change, and answers go back as they are known.
 
-Each text has a number. A newer one ends what is still running for an older one. The first answer is the program's: its
-file, or its refusal. The companion's follow: processes and places of the events, and bars.
+Each text has a number, and so has all that is told of it. A newer one ends what is still running for an older one. The
+first answer is the program's: its file, or its refusal. The companion's follow: processes and places of the events, and
+bars. A question about the file waits for that of its own text; of a refused text it is answered `refused`.
 """
 
 from __future__ import annotations
@@ -21,6 +22,8 @@ from .runs import Program, Ran, Workers, remove
 Send = Callable[[bytes], Awaitable[None]]
 #: What the page asks beside its text, and which of it a newer one of the same kind ends.
 ASKED = ("bars", "facts", "curves", "complete", "hover", "outline", "names")
+#: What is looked up in the file.
+OF_FILE = ("picture", "bars", "facts", "curves")
 
 
 class Session:
@@ -31,6 +34,8 @@ class Session:
         self.text = b""
         self.number = -1
         self.file: Optional[str] = None
+        #: the file of the text of this number, None where it has none
+        self._played: asyncio.Future[Optional[str]] = asyncio.get_running_loop().create_future()
         self._running: dict[str, asyncio.Task[None]] = {}
 
     def take(self, message: dict[str, Any]) -> None:
@@ -40,6 +45,7 @@ class Session:
             for task in self._running.values():
                 task.cancel()
             self.text, self.number = str(message["text"]).encode("utf-8", "replace"), int(message["number"])
+            self._played = asyncio.get_running_loop().create_future()
             self._begin("text", self._play(self.text, self.number, message))
         elif kind in ASKED:
             self._begin(str(kind), self._ask(str(kind), message))
@@ -59,10 +65,17 @@ class Session:
 
     async def _play(self, text: bytes, number: int, message: dict[str, Any]) -> None:
         begun = time.monotonic()
-        ran = await self.program.play(text)
+        try:
+            ran = await self.program.play(text)
+        except OSError as error:
+            why = f"{self.program.path} cannot be run: {error.strerror}"
+            await self.send(packed({"kind": "failed", "number": number, "failed": why}))
+            self._played.set_result(None)
+            return
         if ran.status != 0:
             remove(ran.file)
             await self._refuse(ran, text, number)
+            self._played.set_result(None)
             return
         old, self.file = self.file, ran.file
         if old:
@@ -70,6 +83,7 @@ class Session:
         with open(ran.file, "rb") as file:
             data = file.read()
         await self.send(packed({"kind": "file", "number": number, "seconds": time.monotonic() - begun}, data))
+        self._played.set_result(ran.file)
         await self._answer("picture", {}, text, number)
         await self._answer("bars", message, text, number)
 
@@ -88,9 +102,13 @@ class Session:
         """Lets a worker answer, and hands it on with the number of the text and of the question."""
         head = {name: message[name] for name in ("meter", "upbeat", "event", "process", "position", "place")
                 if name in message}
-        answer = await self.workers.ask({**head, "do": kind, "file": self.file or os.devnull}, text)
-        await self.send(packed({**answer.head, "kind": kind, "number": number, "question": message.get("question")},
-                               answer.body))
+        told = {"kind": kind, "number": number, "question": message.get("question")}
+        file = await asyncio.shield(self._played) if kind in OF_FILE else None
+        if kind in OF_FILE and file is None:
+            await self.send(packed({**told, "refused": True}))
+            return
+        answer = await self.workers.ask({**head, "do": kind, "file": file or os.devnull}, text)
+        await self.send(packed({**answer.head, **told}, answer.body))
 
 
 async def _told(work: Awaitable[None]) -> None:

@@ -8,11 +8,12 @@ import hashlib
 import os
 import resource
 import shutil
+import signal
 from typing import Optional
 
 from formula_score.host.packages import install_line, names
 from formula_score.sound.player import FONTS
-from .runs import ended, remove
+from .runs import ended, how, remove
 
 RATE = 44_100
 #: The greatest file of sound, in bytes: 30 minutes.
@@ -64,8 +65,8 @@ class Sound:
                     [self.program, "-n", "-i", "-q", "-F", target, "-T", "wav", "-O", "s16", "-r", str(RATE), self.font,
                      source], limit=lambda: resource.setrlimit(resource.RLIMIT_FSIZE, (MOST_BYTES, MOST_BYTES)))
                 if status != 0 or not os.path.exists(target):
-                    raise Unheard("it is longer than 30 minutes" if status < 0
-                                  else f"fluidsynth ended with status {status}")
+                    raise Unheard("it is longer than 30 minutes" if status == -signal.SIGXFSZ
+                                  else f"fluidsynth ended with {how(status)}")
                 os.rename(target, wave)
             finally:
                 remove(source)

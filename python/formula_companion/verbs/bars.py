@@ -6,6 +6,7 @@ import argparse
 from typing import Optional
 
 from formula_score.checks.bars import bars_between, counted, process_name, ring, ticks_by_process
+from formula_score.making.values import plain
 from formula_score.reading.meter import Meter
 from formula_score.reading.playing import judge
 from formula_score.reading.reader import read
@@ -48,7 +49,7 @@ def run(options: argparse.Namespace) -> int:
     for line in lines:
         print(line)
     for finding in found:
-        print(f"{options.score}:{finding.line}:{finding.column}: {finding.what}")
+        print(f"{plain(options.score)}:{finding.line}:{finding.column}: {finding.what}")
     return 1 if found else 0
 
 

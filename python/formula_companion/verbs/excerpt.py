@@ -9,6 +9,7 @@ import tempfile
 from typing import NamedTuple, Optional
 
 from formula_score.checks.bars import process_name, ticks_by_process
+from formula_score.making.values import plain
 from formula_score.reading.meter import Meter
 from formula_score.reading.midi_file import TEMPO, Timed, file_of, save
 from formula_score.reading.playing import Failed, judge, listing_of_file, must_differ, needs, run as play
@@ -62,19 +63,20 @@ the file says so in its first text."""
 def run(options: argparse.Namespace) -> int:
     """Writes OUT, and tells its ticks."""
     must_differ(options.score, options.out)
-    window = window_of(options, judge(options.score, None))
+    text = judge(options.score, None)
+    window = window_of(options, text)
     if options.channel is None and not (options.parts and window):
-        needs(play(options.score, options.out, *window, *(["--parts"] if options.parts else [])))
+        needs(play(options.score, options.out, *window, *(["--parts"] if options.parts else []), text=text, keeps=True))
         return 0
     with tempfile.TemporaryDirectory() as folder:
         whole = os.path.join(folder, "whole.mid")
-        needs(play(options.score, whole, *window))
+        needs(play(options.score, whole, *window, text=text))
         listing = listing_of_file(whole)
     events = [(event.tick, event.message) for event in listing.events if event.message[0] < 0xF0]
     if options.channel is not None:
         events = [event for event in events if event[1][0] & 15 == options.channel]
     save(options.out, file_of(listing.division, _tracks(events, options.parts), listing.end))
-    print(f"{options.out}: {OUTSIDE}")
+    print(f"{plain(options.out)}: {OUTSIDE}")
     if not events:
         print(f"there is nothing on channel {options.channel}" if options.channel is not None else "it has no events")
         return 1

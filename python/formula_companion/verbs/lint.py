@@ -5,6 +5,7 @@ from __future__ import annotations
 import argparse
 
 from formula_score.checks.lint import BEATS, findings
+from formula_score.making.values import plain
 from formula_score.reading.playing import judge
 from formula_score.reading.reader import read
 
@@ -29,5 +30,5 @@ def run(options: argparse.Namespace) -> int:
     """Prints what it finds."""
     found = findings(read(judge(options.score)))
     for finding in found:
-        print(f"{options.score}:{finding.line}:{finding.column}: {finding.what}")
+        print(f"{plain(options.score)}:{finding.line}:{finding.column}: {finding.what}")
     return 1 if found else 0

@@ -8,6 +8,7 @@ import shutil
 import subprocess
 import tempfile
 
+from formula_score.making.values import plain
 from formula_score.reading.playing import Failed, judge, needs, run as play
 from formula_score.sound.player import PACKAGES, player
 from .excerpt import bars_of, window_of
@@ -29,15 +30,16 @@ the status is 1. The file that they play is the program's, and is not kept."""
 
 def run(options: argparse.Namespace) -> int:
     """Plays it."""
-    window = window_of(options, judge(options.score, None))
+    text = judge(options.score, None)
+    window = window_of(options, text)
     words = player(options.font)
     if words is None:
         only_font = "" if shutil.which("fluidsynth") is None else "fluidsynth is there, and no sound font for it.\n"
         raise Failed(1, only_font + PACKAGES)
     with tempfile.TemporaryDirectory() as folder:
         target = os.path.join(folder, os.path.basename(options.score) + ".mid")
-        needs(play(options.score, target, *window))
-        print(f"{words[0]} plays {options.score}; end it with Ctrl-C", flush=True)
+        needs(play(options.score, target, *window, text=text))
+        print(f"{words[0]} plays {plain(options.score)}; end it with Ctrl-C", flush=True)
         try:
             status = subprocess.run([*words, target], check=False).returncode
         except OSError as error:

@@ -6,6 +6,7 @@ import os
 import pathlib
 import subprocess
 
+from formula_score.reading import playing
 from formula_score.running import command
 
 #: The page beside the installed program that tells it, in lines of a word and what it is.
@@ -22,6 +23,11 @@ def origin() -> str:
         lines = page.read_text(encoding="utf-8").splitlines()
         return "\n".join(line for name in _TELLS for line in lines if line.startswith(f"{name} "))
     if program is None and (_TOP / "crates.txt").is_file():
+        try:
+            if playing.program().endswith(".unproved"):
+                return f"the program is {playing.program()}, of which nothing is proved"
+        except playing.Failed as failed:
+            return failed.why
         return "\n".join((f"commit   {_said('git', 'rev-parse', 'HEAD')}, of this checkout",
                           f"kit      {_said('rt', 'version')}",
                           f"licence  {(_TOP / 'COPYING').read_text(encoding='utf-8').strip()}"))

@@ -11,28 +11,32 @@ import sys
 from types import FrameType
 from typing import Iterator, NamedTuple, Optional, Sequence
 
-from formula_score.explaining.explain import explanation
+from formula_score.explaining.explain import by_signal, explanation
 from formula_score.explaining.words import USAGE, Words, read
-from formula_score.reading.playing import Failed, program
-from formula_score.running.command import environment
+from formula_score.making.values import escaped
+from formula_score.reading.playing import NO_PROGRAM, Failed, program
+from formula_score.running.command import ends_with_this, environment
+from formula_score.running.outs import (
+    SIGNALS, WRITE, WRITE_LINE, Descriptor, Out, Straight, descriptor_of, out_of, settled,
+)
+from .ins import Source, source_of
 from .origin import origin
-from .outs import SIGNALS, Beside, Descriptor, Out, Straight, descriptor_of, out_of
 
 #: The statuses of the program that this verb gives by itself, and the program's lines.
-WORDS, WRITE, UNSAID = 1, 4, 5
-LINES = {WORDS: "formula: words refused", WRITE: "formula: write fault"}
-#: The status where there is no program, as `bin/formula` has it.
-NO_PROGRAM = 70
+WORDS, READ, UNSAID = 1, 2, 5
+LINES = {WORDS: "formula: words refused", READ: "formula: read fault", WRITE: WRITE_LINE}
 
 ABOUT = """\
 Runs formula on the same words, and is safe in the hand:
 
-- IN and OUT that are one file are refused, before anything is read.
+- IN and OUT that are one file are refused, before anything is read; not with --locate, which writes nothing.
 - OUT is the old file or the whole new one. The new one is written beside it, synced, closed and renamed at status 0,
   and each answer of the host is looked at. Mode, owner and attributes stay; where OUT is a link, its target is
   replaced. Another hard link to the old file keeps the old one. A FIFO or a device is written straight.
 - `-`, /dev/stdout and other open descriptors may be OUT, with `>`, `>>` and pipes, whatever is asked for: the file is
-  made first, and then copied there. What the program says then goes to standard error. `-` as IN is standard input.
+  made first, and then copied there. What the program says then goes to standard error.
+- `-`, /dev/stdin, other open descriptors and FIFOs may be IN, whoever owns them: they are read once, from where they
+  are to their end, before anything is played. A file whose name is `-` is `./-`.
 
 The options are those of formula(1). --help prints this, --version from what the program was proved.
 
@@ -54,12 +58,18 @@ def main(words: Sequence[str], name: str, version: str) -> int:
     asked = read(words)
     if asked.wrong:
         return _end(End(WORDS, LINES[WORDS], f"{asked.wrong}\n{USAGE.replace('formula', name, 1)}"))
-    target = asked.files[1]
-    if _is_in(target, asked.files[0]):
+    source, target = asked.files
+    if asked.task != "--locate" and _is_in(target, source):
         end = End(WORDS, LINES[WORDS], f"IN and OUT are one file, {target!r}: give OUT another name")
         return _end(end, _means_output(descriptor_of(target)))
     try:
-        return _play(asked)
+        read_from = source_of(asked)
+    except OSError as error:
+        what = "standard input" if source == "-" else repr(source)
+        end = End(READ, LINES[READ], f"{what} cannot be read: {error.strerror}")
+        return _end(end, _means_output(descriptor_of(target)))
+    try:
+        return _play(asked, read_from)
     except Failed as failed:
         return _end(End(NO_PROGRAM, "", failed.why))
 
@@ -72,38 +82,27 @@ class End(NamedTuple):
     why: str
 
 
-def _play(asked: Words) -> int:
-    source, target = asked.files
+def _play(asked: Words, source: Source) -> int:
+    target = asked.files[1]
     options = [f"{option}={asked.numbers[option]}" if option in asked.numbers else option for option in asked.options]
-    command = [program(), *options, "--", "/dev/stdin" if source == "-" else source]
     # with --locate OUT is not opened
     out: Out = Straight(target) if asked.task == "--locate" else out_of(target)
+    for number in (*out.files, *([source.copy.fileno()] if source.copy else [])):
+        os.set_inheritable(number, True)
     try:
         with _signals() as run:
-            end = run.answer([*command, out.name])
-            if not run.number:
-                end = _kept(out, target, end)
+            end = run.answer([program(), *options, "--", source.name, out.name])
+            why = "" if run.number else settled(out, end.status)
+            if why:
+                end = End(WRITE, LINES[WRITE], _unwritten(target, why))
     finally:
         out.drop()
     if run.number:
         signal.signal(run.number, signal.SIG_DFL)
         os.kill(os.getpid(), run.number)
     if end.status and not end.why:
-        end = end._replace(why=explanation(end.status, end.said, [*options, "--", source, target]))
+        end = end._replace(why=explanation(end.status, end.said, [*options, "--", asked.files[0], target], source.name))
     return _end(end, isinstance(out, Descriptor) and _means_output(out.number))
-
-
-def _kept(out: Out, target: str, end: End) -> End:
-    """How the run ends once OUT is what it is to be."""
-    if end.status == WRITE and isinstance(out, (Descriptor, Beside)):
-        return end._replace(why=_unwritten(target, out.why_full()))
-    if end.status not in (0, WRITE):
-        return end
-    try:
-        out.keep()
-    except OSError as error:
-        return End(WRITE, LINES[WRITE], _unwritten(target, error.strerror or "the host does not say why"))
-    return end
 
 
 def _unwritten(target: str, why: str) -> str:
@@ -127,8 +126,9 @@ class _Run:
     def answer(self, words: Sequence[str]) -> End:
         """Runs the program with the descriptors that are open here, and gives its status and its line."""
         try:
-            self.process = subprocess.Popen(words, stdout=subprocess.PIPE, stderr=subprocess.DEVNULL, close_fds=False,
-                                            restore_signals=False, env=environment())
+            self.process = subprocess.Popen(
+                ends_with_this(words), stdout=subprocess.PIPE, stderr=subprocess.DEVNULL, close_fds=False,
+                restore_signals=False, env=environment())
         except (OSError, ValueError) as error:
             raise Failed(NO_PROGRAM, f"{words[0]} cannot be run: {error}") from error
         with self.process as process:
@@ -136,15 +136,7 @@ class _Run:
                 process.send_signal(self.number)
             said = process.communicate()[0].decode("utf-8", "replace").strip()
         status = process.returncode
-        return End(status, said, "") if status >= 0 else End(128 - status, said, _by_signal(-status))
-
-
-def _by_signal(number: int) -> str:
-    try:
-        name = signal.Signals(number).name
-    except ValueError:
-        name = str(number)
-    return f"the signal {name} ended the program"
+        return End(status, said, "") if status >= 0 else End(128 - status, said, by_signal(-status))
 
 
 @contextlib.contextmanager
@@ -194,7 +186,7 @@ def _means_output(number: Optional[int]) -> bool:
 def _put(number: int, text: str) -> bool:
     """Writes a line to a descriptor, and tells whether all of it was taken."""
     stream = sys.stdout if number == 1 else sys.stderr
-    line = memoryview(f"{text}\n".encode(getattr(stream, "encoding", None) or "utf-8", "replace"))
+    line = memoryview(f"{escaped(text)}\n".encode(getattr(stream, "encoding", None) or "utf-8", "replace"))
     try:
         while line:
             line = line[os.write(number, line):]

@@ -3,15 +3,20 @@
 from __future__ import annotations
 
 import argparse
+import contextlib
 import importlib
 import io
 import os
+import signal
 import sys
-from types import ModuleType
-from typing import NamedTuple, NoReturn, Optional, Sequence
+import threading
+from types import FrameType, ModuleType
+from typing import Iterator, NamedTuple, NoReturn, Optional, Sequence
 
 from formula_score import __version__
+from formula_score.making.values import escaped
 from formula_score.reading.playing import Failed
+from formula_score.running.outs import descriptor_of
 from .libraries import restart
 
 VERSION = f"formula-score {__version__}"
@@ -21,11 +26,15 @@ OK, FOUND, MISUSED = 0, 1, 2
 ABOUT = """\
 A companion of formula, the music performance compiler. It is outside the proof: what it counts, cuts, filters and
 draws is tested only. What it tells of ticks are answers of the proved program. FORMULA names it; else it is the one
-that is installed beside this companion, else `formula` in PATH, else the one that bin/formula builds."""
+that is installed beside this companion, else `formula` in PATH. In a checkout it is the proved one, else the one that
+bin/formula --unproved --keep has built, and it says so; no verb builds one."""
 
 STATUSES = """\
 status: 0 all is well; 1 something was found, or refused; 2 the words are no use of the verb, or a file cannot be
-read; where a verb plays (play, excerpt, listen, roll), the status of formula."""
+read; where a verb plays (play, excerpt, listen, roll), the status of formula.
+OUT is the old file until the whole new one takes its place, with the old one's mode and owner. Another hard link to the
+old file keeps the old one. `-` is standard output for play, excerpt and roll: what is said then goes to standard error.
+At a write fault the status is 4."""
 
 
 class Verb(NamedTuple):
@@ -81,12 +90,54 @@ def _options(module: ModuleType, verb: Verb, name: str, words: Sequence[str]) ->
     return parser.parse_args(words)
 
 
+def _escape(stream: io.TextIOWrapper) -> None:
+    """Lets a stream escape what a terminal would obey, in names and texts from elsewhere."""
+    write = stream.write
+    setattr(stream, "write", lambda text: write(escaped(text)))
+
+
+def _said_beside(options: Optional[argparse.Namespace]) -> "contextlib.AbstractContextManager[object]":
+    """Where OUT is standard output, what the verb says goes to standard error."""
+    out = getattr(options, "out", None)
+    return contextlib.redirect_stdout(sys.stderr) if out and descriptor_of(out) == 1 else contextlib.nullcontext()
+
+
+class _Ended(BaseException):
+    """A signal that ends the companion."""
+
+    def __init__(self, number: int):
+        super().__init__(number)
+        self.number = number
+
+
+def _raise(number: int, _: Optional[FrameType]) -> None:
+    raise _Ended(number)
+
+
+@contextlib.contextmanager
+def _ends_in_order() -> Iterator[None]:
+    """At a signal what was begun is taken away, and then the signal ends this process."""
+    numbers = [number for number in (signal.SIGTERM, signal.SIGHUP) if signal.getsignal(number) == signal.SIG_DFL
+               and threading.current_thread() is threading.main_thread()]
+    for number in numbers:
+        signal.signal(number, _raise)
+    try:
+        yield
+    except _Ended as ended:
+        signal.signal(ended.number, signal.SIG_DFL)
+        os.kill(os.getpid(), ended.number)
+    finally:
+        for number in numbers:
+            signal.signal(number, signal.SIG_DFL)
+
+
 def main(words: Optional[Sequence[str]] = None, name: str = "formula-score") -> int:
     """Runs a verb on the words behind the program's name, and gives its status."""
     given = list(sys.argv[1:] if words is None else words)
     for stream in (sys.stdout, sys.stderr):
         if isinstance(stream, io.TextIOWrapper):
             stream.reconfigure(errors="backslashreplace")
+            _escape(stream)
     if given[:1] in (["--help"], ["-h"]):
         print(_usage(name), end="")
         return OK
@@ -102,7 +153,8 @@ def main(words: Optional[Sequence[str]] = None, name: str = "formula-score") -> 
     try:
         options = None if verb.takes_words else _options(module, verb, f"{name} {given[0]}", given[1:])
         restart(given)
-        status: int = module.run(options) if options else module.main(given[1:], f"{name} {given[0]}", VERSION)
+        with _ends_in_order(), _said_beside(options):
+            status: int = module.run(options) if options else module.main(given[1:], f"{name} {given[0]}", VERSION)
         if sys.stdout:
             sys.stdout.flush()
     except SystemExit as ended:

@@ -93,7 +93,7 @@ def follow(options: argparse.Namespace, is_over: Callable[[], bool]) -> None:
             print(f"{now} {failed.said or 'not played'}", flush=True)
             print(failed.why, file=sys.stderr, flush=True)
         title = html.escape(os.path.basename(options.file))
-        _replace(options.out, _PAGE.format(title=title, state=state, picture=drawing, words=words).encode())
+        save(options.out, _PAGE.format(title=title, state=state, picture=drawing, words=words).encode())
 
 
 def _paragraphs(why: str) -> str:
@@ -114,9 +114,3 @@ def _texts(path: str, is_over: Callable[[], bool]) -> Iterator[bytes]:
         except OSError:
             pass
         time.sleep(_LOOK)
-
-
-def _replace(path: str, data: bytes) -> None:
-    """Writes a file at one go, so that nobody reads half of it."""
-    save(path + ".new", data)
-    os.replace(path + ".new", path)

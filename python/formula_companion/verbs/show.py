@@ -8,6 +8,7 @@ from fractions import Fraction
 from typing import Iterator, Optional
 
 from formula_score.explaining import records
+from formula_score.making.values import plain
 from formula_score.reading import names
 from formula_score.reading.meter import Group, Meter, Signature
 from formula_score.reading.notes import Sounding, is_off, is_on, paired
@@ -64,7 +65,7 @@ def record_in(path: str) -> Optional[records.Record]:
         file.seek(0)
         record = records.parts(file.read())
     if record is None:
-        raise Failed(1, f"{path}: this is a record without a whole text")
+        raise Failed(1, f"{plain(path)}: this is a record without a whole text")
     return record
 
 

@@ -7,14 +7,17 @@ prints them for a run on these words that ended with STATUS and said LINE. It ne
 
 from __future__ import annotations
 
+import contextlib
 import errno
 import os
 import re
+import signal
 import stat
 import sys
 import unicodedata
 from typing import NamedTuple, Optional, Sequence
 
+from ..making.values import escaped, plain
 from ..repair import told
 from .kinds import MIDI, RECORD, SCORE, not_a
 from . import records
@@ -31,6 +34,9 @@ BEGINNING = 4096
 BYTES_SHOWN = 12
 #: The greatest part of a long line that is shown before the place, and from it on, in characters.
 SHOWN = 60
+
+_WRITE_FAILED = "a write failed, perhaps at a limit of size or a full disk"
+_LEFT = "; what is there may be a beginning of the file"
 
 
 class Place(NamedTuple):
@@ -68,12 +74,13 @@ def bytes_round(data: bytes, place: int) -> str:
     return f"{gutter}{digits}".rstrip() + f"\n{' ' * (len(gutter) - 2)}| {' ' * 3 * (place - first)}^^"
 
 
-def file_refusal(name: str, place: FilePlace) -> str:
-    """What a refused file is told: the byte, those round it with a caret, what it means, what to do."""
-    fault = FILE_FAULTS.get(place.number)
+def file_refusal(name: str, place: FilePlace, there: str = "") -> str:
+    """What a refused file is told: the byte, those round it with a caret, what it means, what to do. Its bytes are
+    `there`, or else where its name says."""
+    fault, name, there = FILE_FAULTS.get(place.number), plain(name), there or name
     if fault is None:
         return f"{name}: byte {place.byte}: fault {place.number}"
-    data = _bytes_of(name, max(place.byte + BYTES_SHOWN, BEGINNING))
+    data = _bytes_of(there, max(place.byte + BYTES_SHOWN, BEGINNING))
     other = not_a(MIDI.what, data) if data and fault.number in (22, 35) else None
     means, do = other or (fault.means, "")
     parts = [f"{name}: byte {place.byte}: {means} (fault {fault.number})"]
@@ -97,7 +104,7 @@ def record_place_of(said: str) -> Optional[RecordPlace]:
 
 def record_refusal(name: str, data: Optional[bytes], place: RecordPlace) -> str:
     """What a refused record is told: where, the bytes or the step there, what it means, what to do."""
-    fault = RECORD_FAULTS.get(place.number)
+    fault, name = RECORD_FAULTS.get(place.number), plain(name)
     if fault is None:
         return f"{name}: {place.place}: fault {place.number}"
     other = not_a(RECORD.what, data) if data and place == RecordPlace(0, 41) else None
@@ -145,7 +152,7 @@ def refusal(name: str, text: Optional[bytes], place: Place) -> str:
 
     Where something is missing at the end of a line, that end is shown in place of what follows it.
     """
-    fault = FAULTS.get(place.number)
+    fault, name = FAULTS.get(place.number), plain(name)
     if fault is None:
         return f"{name}:{place.line}:{place.column}: fault {place.number}"
     heading, cure = fault.means, fault.do
@@ -163,22 +170,34 @@ def refusal(name: str, text: Optional[bytes], place: Place) -> str:
     return "\n".join(part for part in [*parts, cure] if part)
 
 
-def explanation(status: int, said: str, words: Sequence[str]) -> str:
-    """What is known of a run on these words that ended with this status and this line; '' for nothing."""
+def by_signal(number: int) -> str:
+    """What is told of a run that a signal ended."""
+    try:
+        return f"the signal {signal.Signals(number).name} ended the program"
+    except ValueError:
+        return f"the signal {number} ended the program"
+
+
+def explanation(status: int, said: str, words: Sequence[str], there: str = "") -> str:
+    """What is known of a run on these words that ended with this status and this line; '' for nothing. What was read is
+    `there`, or else where the name of IN says."""
     asked = read(words)
     source, target = (asked.files + ("", ""))[:2]
+    there = there or source
+    if status < 0:
+        return by_signal(-status)
     if status == 1:
         return f"{asked.wrong or 'these words are refused'}\n{USAGE}"
     if status == 2:
-        return f"{source!r} cannot be read: {_why_unread(source)}"
+        return f"{source!r} cannot be read: {_why_unread(there)}"
     if status == 3:
         place, file_place = place_of(said), file_place_of(said)
         record_place = record_place_of(said)
         if file_place:
-            return file_refusal(source, file_place)
+            return file_refusal(source, file_place, there)
         if asked.task != "--audit":
-            return refusal(source, _bytes_of(source, MOST_BYTES + 1), place) if place else ""
-        data = _bytes_of(source, MOST_RECORD + 1)
+            return refusal(source, _bytes_of(there, MOST_BYTES + 1), place) if place else ""
+        data = _bytes_of(there, MOST_RECORD + 1)
         if record_place:
             return record_refusal(source, data, record_place)
         record = records.parts(data) if data else None
@@ -230,31 +249,49 @@ def _why_unread(name: str) -> str:
 def _why_unwritten(name: str, piped: bool) -> str:
     if not name:
         return "it has no name"
-    if os.path.isdir(name):
+    folder = os.path.dirname(os.path.realpath(name))
+    try:
+        mode = os.stat(name).st_mode
+    except FileNotFoundError:
+        return os.strerror(errno.EISDIR) if name.endswith("/") and os.path.isdir(folder) else _why_unmade(folder)
+    except (OSError, ValueError) as error:
+        return getattr(error, "strerror", None) or "the host does not say why"
+    if stat.S_ISDIR(mode):
         return os.strerror(errno.EISDIR)
-    folder = os.path.dirname(name) or "."
+    if stat.S_ISREG(mode):
+        return why_full(folder, _LEFT) if os.access(name, os.W_OK) else os.strerror(errno.EACCES)
+    if piped:
+        return _WRITE_FAILED + _LEFT
+    return ("it is no plain file: the length of the track is written last, so OUT must be a file that can be sought in, "
+            "on a device with room")
+
+
+def _why_unmade(folder: str) -> str:
+    """Why no new file could be made, or filled, in a folder."""
+    if re.fullmatch(r"/proc/[0-9]+(/task/[0-9]+)?/fd", folder):
+        return os.strerror(errno.EBADF)
     try:
         os.stat(folder)
-        if os.path.isfile(name) and not os.access(name, os.W_OK):
-            return os.strerror(errno.EACCES)
-        if not os.path.exists(name) and not os.access(folder, os.W_OK | os.X_OK):
-            return f"{os.strerror(errno.EACCES)}: the folder {folder!r} may not be written to"
-        if not piped and os.path.exists(name) and not stat.S_ISREG(os.stat(name).st_mode):
-            return ("it is no plain file: the length of the track is written last, so OUT must be a file that "
-                    "can be sought in, on a device with room")
-        room = os.statvfs(folder)
-        if room.f_bavail == 0:
-            return os.strerror(errno.ENOSPC)
     except OSError as error:
         return error.strerror or "the host does not say why"
-    return "a write failed, perhaps at a limit of size or a full disk; what is there may be a beginning of the file"
+    if not os.access(folder, os.W_OK | os.X_OK):
+        return f"{os.strerror(errno.EACCES)}: the folder {folder!r} may not be written to"
+    return why_full(folder, _LEFT)
+
+
+def why_full(folder: str, left: str = "") -> str:
+    """Why a write into a folder failed, and what is left behind."""
+    with contextlib.suppress(OSError):
+        if os.statvfs(folder).f_bavail == 0:
+            return os.strerror(errno.ENOSPC)
+    return _WRITE_FAILED + left
 
 
 def main(words: Sequence[str]) -> int:
     text = explanation(int(words[0]), words[1], words[2:])
     if text:
         encoding = sys.stdout.encoding or "utf-8"
-        print(text.encode(encoding, "replace").decode(encoding))
+        print(escaped(text).encode(encoding, "replace").decode(encoding))
     return 0
 
 

@@ -3,6 +3,8 @@
 from __future__ import annotations
 
 from fractions import Fraction
+from functools import reduce
+from itertools import groupby
 from typing import Iterable, Optional, SupportsIndex, Union
 
 from ..language.grammar import KEYWORDS
@@ -12,7 +14,7 @@ from .lengths import WHOLE_NOTE, Exact, LengthLike, exact_ticks, written
 from .midi import DRUM_CHANNEL, instrument_number, velocity
 from .nodes import (
     MAX_COUNT, MAX_ENTRIES, MAX_PITCHES, Held, Message, Music, Note, Par, Repeat, Rest, Seq, as_int, body_of,
-    first_of_all, music,
+    first_of_all, joined, music,
 )
 from .pitch import Pitch, PitchLike
 from .shapes import Change, Curve, Number, Part, Swing, Tempo, shape_of, stretch_of
@@ -61,7 +63,9 @@ def bend(amount: SupportsIndex) -> Message:
 
 def seq(*items: Music) -> Seq:
     """One after another; what stands in a `seq` inside is taken out of it."""
-    return Seq(items)
+    parts = [part for is_seq, several in groupby(items, lambda item: isinstance(item, Seq))
+             for part in (several if is_seq else [Seq(tuple(several))]) if isinstance(part, Seq)]
+    return reduce(joined, parts) if parts else Seq(())
 
 
 def repeat(count: SupportsIndex, *items: Music) -> Repeat:

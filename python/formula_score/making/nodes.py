@@ -9,7 +9,7 @@ from __future__ import annotations
 
 from dataclasses import dataclass, replace
 from fractions import Fraction
-from typing import Iterable, Iterator, NoReturn, Optional, SupportsIndex, cast
+from typing import TYPE_CHECKING, Iterable, Iterator, NoReturn, Optional, SupportsIndex, cast
 
 from .errors import ScoreError
 from .lengths import MAX_LENGTH, WHOLE_NOTE, Exact, scaled
@@ -18,7 +18,7 @@ from .pitch import Pitch
 from .shapes import Part
 from .values import index, known, listed, shown, truth, whole
 
-MAX_PITCHES, MAX_COUNT, MAX_ENTRIES = 16, 1_000_000, 256
+MAX_PITCHES, MAX_COUNT, MAX_ENTRIES, MAX_OPERATIONS = 16, 1_000_000, 256, 262_144
 
 
 class Music:
@@ -39,6 +39,8 @@ class Music:
     bar_ticks: Exact = 0
     #: the first length in it that is no whole number of ticks at 480 a quarter note
     fine: Optional[Exact] = None
+    #: at least so many operations a seq is: each of its items is one, but a tied note
+    fewest = 0
 
     @property
     def ticks(self) -> int:
@@ -242,7 +244,27 @@ class Seq(Held):
 
     def __post_init__(self) -> None:
         body = tuple(flattened(listed("a seq", self.body, 0)))
-        self._keep(body=body, **facts(FLAT, body))
+        self._keep(body=body, fewest=_few(sum(not getattr(item, "tied", False) for item in body)), **facts(FLAT, body))
+
+    if not TYPE_CHECKING:
+        def __getattr__(self, name: str) -> object:
+            """The body of two that were joined, which is put together when it is asked for."""
+            if name != "body" or "_pair" not in self.__dict__:
+                raise AttributeError(name)
+            left = [*self.__dict__["_pair"]]
+            body: list[Music] = []
+            while left:
+                item = left.pop()
+                if "body" in item.__dict__:
+                    body += reversed(item.body)
+                else:
+                    left += item.__dict__["_pair"]
+            self._keep(body=tuple(reversed(body)))
+            del self.__dict__["_pair"]
+            return self.__dict__["body"]
+
+    def __reduce__(self) -> tuple[type["Seq"], tuple[tuple[Music, ...]]]:
+        return Seq, (self.body,)
 
     def __repr__(self) -> str:
         return f"seq({several(self.body)})"
@@ -304,13 +326,21 @@ def as_seq(item: Music) -> Seq:
 
 
 def joined(left: Seq, right: Seq) -> Seq:
-    """Both as one, without a look at all they hold: `+` in a loop adds one item at a time."""
+    """Both as one, without a look at all they hold, so that a loop which adds to a seq is linear."""
     whole_seq = object.__new__(Seq)
-    whole_seq._keep(body=left.body + right.body,
+    whole_seq._keep(_pair=(left, right), fewest=_few(left.fewest + right.fewest),
                     nesting=Nesting(*(max(depths) for depths in zip(left.nesting, right.nesting))),
                     exact=added((left.exact, right.exact)), bar_ticks=added((left.bar_ticks, right.bar_ticks)),
                     fine=right.fine if left.fine is None else left.fine)
     return whole_seq
+
+
+def _few(operations: int) -> int:
+    """So many operations, where a score may have them."""
+    if operations > MAX_OPERATIONS:
+        raise ScoreError(f"a score has at most {MAX_OPERATIONS:,} operations, and this seq alone {operations:,}: "
+                         "`repeat` and `phrase` write once what comes again")
+    return operations
 
 
 def flattened(items: Iterable[object]) -> Iterator[Music]:

@@ -119,3 +119,18 @@ def known(what: str, name: object, names: Iterable[str]) -> str:
         nearest = near(name, every) if isinstance(name, str) and len(name) < _SHOWN else ""
         raise ScoreError(f"there is no {what} {shown(name)}{nearest or '; there are ' + ', '.join(every)}")
     return name
+
+
+def plain(name: str) -> str:
+    """A name from elsewhere, in which each character that is not printed, as an escape or a line end, is escaped."""
+    return "".join(c if c.isprintable() else c.encode("unicode_escape").decode() for c in name)
+
+
+#: The characters that a terminal obeys, but a line end and a tabulator, and those that turn the direction of a text.
+_OBEYED = [*range(9), *range(11, 32), *range(127, 160), *range(0x202A, 0x202F), *range(0x2066, 0x206A)]
+_ESCAPES = {number: chr(number).encode("unicode_escape").decode() for number in _OBEYED}
+
+
+def escaped(text: str) -> str:
+    """Lines for a terminal, in which it finds nothing to obey."""
+    return text.translate(_ESCAPES)

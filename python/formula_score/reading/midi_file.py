@@ -4,6 +4,7 @@ from __future__ import annotations
 
 from typing import Sequence
 
+from ..running.outs import WRITE, WRITE_LINE, put
 from .playing import Failed
 
 #: An event of a track: its tick and its bytes.
@@ -49,9 +50,8 @@ def file_of(division: int, tracks: Sequence[Sequence[Timed]], end: int) -> bytes
 
 
 def save(path: str, data: bytes) -> None:
-    """Writes a file."""
+    """Writes a file, which is the old one until it is the whole new one."""
     try:
-        with open(path, "wb") as file:
-            file.write(data)
+        put(path, data)
     except OSError as error:
-        raise Failed(4, f"{path!r} cannot be written: {error.strerror}") from error
+        raise Failed(WRITE, f"{path!r} cannot be written: {error.strerror}", WRITE_LINE) from error

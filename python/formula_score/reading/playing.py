@@ -2,10 +2,13 @@
 
 from __future__ import annotations
 
+import contextlib
 import os
 import pathlib
 import subprocess
+import sys
 import tempfile
+from functools import lru_cache
 from typing import Iterable, NamedTuple, Optional, Sequence
 
 from ..explaining.explain import explanation
@@ -13,9 +16,13 @@ from ..making.errors import CommandError
 from ..running import command
 from ..running.command import FileEvent as Event
 from ..explaining.kinds import BY_VERBS
+from ..running.outs import name_of, nameless
 
 __all__ = ["Event", "Failed", "Listing", "Run", "judge", "listed", "listing_of", "listing_of_file", "located",
            "counted", "must_differ", "needs", "program", "run", "text_of"]
+
+#: The status where there is no program, as `bin/formula` has it.
+NO_PROGRAM = 70
 
 _TOP = pathlib.Path(__file__).resolve().parents[3]
 
@@ -48,26 +55,46 @@ class Listing(command.Listing):
 
 
 def program() -> str:
-    """The proved program; built on first use, where this package stands in the repository, whose scripts are none."""
+    """The proved program; where this package stands in the repository, else one that was built without proofs, which is
+    told. None is built."""
     found, script = command.find_program(), _TOP / "bin" / "formula"
     if script.exists() and (found is None or pathlib.Path(found).resolve().parent in (script.parent, _TOP / "scripts")):
-        built = subprocess.run([script, "--program"], stdout=subprocess.PIPE, check=False)
-        found = built.stdout.decode().strip() if built.returncode == 0 else None
+        found = _of_checkout(script)
     if not found:
         raise Failed(1, "there is no program: let FORMULA name it, or put formula into PATH")
     return found
 
 
-def run(source: str, target: str, *options: str) -> Run:
-    """Runs the program on two files; nobody is told anything."""
-    words = [*options, "--", source, target]
-    try:
-        status, said = command.answer(program(), words)
-    except CommandError as error:
-        raise Failed(1, error.why) from error
-    why = explanation(status, said, words) if status else ""
+@lru_cache(maxsize=None)
+def _of_checkout(script: pathlib.Path) -> str:
+    """The program that bin/formula finds, which says what there is to say of it."""
+    done = subprocess.run([script, "--found"], stdout=subprocess.PIPE, stderr=subprocess.PIPE, env=command.environment(),
+                          text=True, errors="replace", check=False)
+    if done.returncode:
+        raise Failed(NO_PROGRAM, done.stderr.strip())
+    print(done.stderr, end="", file=sys.stderr)
+    return done.stdout.strip()
+
+
+def run(source: str, target: str, *options: str, text: Optional[bytes] = None, keeps: bool = False) -> Run:
+    """Runs the program on two files; nobody is told anything. `text` is what IN has, where it was read already. With
+    `keeps` OUT is the old file until it is the whole new one."""
+    words = [*options, "--"]
+    with contextlib.ExitStack() as open_files:
+        copies = [] if text is None else [open_files.enter_context(nameless(text))]
+        there, files = (name_of(copies[0]) if copies else source), [copy.fileno() for copy in copies]
+        try:
+            if keeps:
+                status, said, unwritten = command.answer_into(program(), [*words, there], target, files)
+            else:
+                (status, said), unwritten = command.answer(program(), [*words, there, target], files), ""
+        except CommandError as error:
+            raise Failed(1, error.why) from error
+        if unwritten:
+            return Run(status, said, f"{target!r} cannot be written: {unwritten}")
+        why = explanation(status, said, [*words, source, target], there) if status else ""
     before, line = why.rpartition("\n")[::2]
-    return Run(status, said, f"{before}\n{BY_VERBS[line]}" if line in BY_VERBS else why)
+    return Run(128 - status if status < 0 else status, said, f"{before}\n{BY_VERBS[line]}" if line in BY_VERBS else why)
 
 
 def needs(run: Run, refused: Optional[int] = None) -> Run:
@@ -132,5 +159,5 @@ def must_differ(source: str, target: str) -> None:
 def judge(path: str, refused: Optional[int] = 1) -> bytes:
     """The text of a score that the program accepts; nothing is played."""
     text = text_of(path)
-    needs(run(path, os.devnull, "--locate", "0"), refused)
+    needs(run(path, os.devnull, "--locate", "0", text=text), refused)
     return text

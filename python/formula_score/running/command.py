@@ -9,12 +9,12 @@ file, one of them at a time: `parts`, a track for each channel; `from_` and `to`
 
 from __future__ import annotations
 
+import contextlib
 import os
 import re
 import shutil
 import subprocess
-import tempfile
-from typing import Iterable, NamedTuple, Optional, Sequence, Union
+from typing import IO, Iterable, Iterator, NamedTuple, Optional, Sequence, Union
 
 from ..explaining.explain import (
     explanation, file_place_of, file_refusal, place_of, record_place_of, record_refusal, refusal,
@@ -22,9 +22,12 @@ from ..explaining.explain import (
 from ..explaining.words import RANGES
 from ..making.errors import CommandError, FileRefused, RecordRefused, Refused, ScoreError
 from ..making.values import truth, whole
+from .outs import WRITE, WRITE_LINE, name_of, nameless, out_of, settled
 
 #: PREFIX/lib/formula, where the library is installed with the command.
 _HOME = os.path.abspath(os.path.join(os.path.dirname(__file__), *[os.pardir] * 3))
+
+_SETPRIV = "/usr/bin/setpriv", "--pdeathsig", "TERM", "--"
 
 Path = Union[str, "os.PathLike[str]"]
 
@@ -97,9 +100,13 @@ def play(text: Union[str, bytes], path: Path, program: Optional[str] = None, *, 
     """Lets the command play a text into the file `path`; the options are those of this module.
 
     A text that has a fault raises `Refused`, with the place and the meaning; any other end above 0 a `CommandError`.
-    Then the file is what formula(1) says of that status: at 1, 2, 3, 6 and 7 as it was.
+    Then the file is what it was: a new one takes its place when all of it is written and synced. Mode and owner stay;
+    another hard link to the old file keeps the old one. A FIFO or a device is written straight.
     """
-    _play(text, path, program, words_of(workers, lead, room, rounds, parts, from_, to, record))
+    options = words_of(workers, lead, room, rounds, parts, from_, to, record)
+    data, name = _bytes_of(text), file_name(path)
+    with nameless(data) as source:
+        _run_into(program, options, name_of(source), name, data, [source])
 
 
 def render(text: Union[str, bytes], program: Optional[str] = None, *, workers: Optional[int] = None,
@@ -107,18 +114,19 @@ def render(text: Union[str, bytes], program: Optional[str] = None, *, workers: O
            from_: Optional[int] = None, to: Optional[int] = None, record: bool = False) -> bytes:
     """Plays a text as `play` does, and gives the bytes of the file."""
     options = words_of(workers, lead, room, rounds, parts, from_, to, record)
-    with tempfile.TemporaryDirectory() as folder:
-        path = os.path.join(folder, "out.mid")
-        _play(text, path, program, options)
-        with open(path, "rb") as file:
-            return file.read()
+    data = _bytes_of(text)
+    with nameless(data) as source, nameless() as target:
+        _run(program, options, name_of(source), name_of(target), data, [source, target])
+        return target.read()
 
 
 def locate(text: Union[str, bytes], tick: int, process: int = 0, program: Optional[str] = None) -> Located:
     """Where a tick of the file lies in the deformations round a process; a `CommandError` where there is none."""
     words = ["--locate", str(whole("a tick", tick, *RANGES["--locate"])),
              "--process", str(whole("a process", process, *RANGES["--process"]))]
-    said = _play(text, os.devnull, program, words)
+    data = _bytes_of(text)
+    with nameless(data) as source:
+        said = _run(program, words, name_of(source), os.devnull, data, [source])
     found = re.fullmatch(r"process (\d+) levels (\d+) start (\d+) (positions|never)((?: \d+)*)", said)
     if not found:
         raise CommandError(0, said, f"the program said something else than where the tick lies: {said!r}")
@@ -134,10 +142,9 @@ def listing(source: Union[Path, bytes], program: Optional[str] = None) -> Listin
 
     What is no such file raises `FileRefused`, with the byte.
     """
-    with tempfile.TemporaryDirectory() as folder:
-        name, path = _stored(source, folder, "in.mid"), os.path.join(folder, "out")
-        _run(program, ["--list"], name, path)
-        with open(path, encoding="ascii") as file:
+    with _stored(source) as (name, files), nameless() as target:
+        _run(program, ["--list"], name, name_of(target), files=[*files, target])
+        with open(name_of(target), encoding="ascii") as file:
             try:
                 return listing_of(file)
             except ValueError:
@@ -162,7 +169,7 @@ def large(number: int, path: Path, program: Optional[str] = None, *, workers: Op
     """Plays the large score of a number, 0 to 999,999,999, which is for measuring; the options are those of `play`."""
     words = ["--generate", str(whole("a large score", number, *RANGES["--generate"]))]
     words += words_of(workers, lead, room, rounds, parts, from_, to, record)
-    said = _run(program, words, os.devnull, os.fspath(path))
+    said = _run_into(program, words, os.devnull, file_name(path))
     found = re.fullmatch(r"processes (\d+) events (\d+) last (\d+) bytes (\d+)", said)
     if not found:
         raise CommandError(0, said, f"the program said something else than the totals: {said!r}")
@@ -174,8 +181,8 @@ def audit(record: Union[Path, bytes], path: Path, program: Optional[str] = None)
 
     A record whose steps are no run raises `RecordRefused`, one whose score has a fault `Refused`.
     """
-    with tempfile.TemporaryDirectory() as folder:
-        _run(program, ["--audit"], _stored(record, folder, "in.record"), os.fspath(path))
+    with _stored(record) as (name, files):
+        _run_into(program, ["--audit"], name, file_name(path), files=files)
 
 
 def words_of(workers: Optional[int] = None, lead: Optional[int] = None, room: Optional[int] = None,
@@ -195,21 +202,26 @@ def words_of(workers: Optional[int] = None, lead: Optional[int] = None, room: Op
     return words
 
 
-def _stored(source: Union[Path, bytes], folder: str, name: str) -> str:
-    """The name of a file that has the bytes."""
-    if not isinstance(source, bytes):
-        return os.fspath(source)
-    path = os.path.join(folder, name)
-    with open(path, "wb") as file:
-        file.write(source)
-    return path
+def file_name(path: Path) -> str:
+    """The name of a file, as the command takes it: a text without NUL. `-` is a file too."""
+    name = os.fspath(path)
+    if not isinstance(name, str) or "\0" in name or name.encode("utf-8", "replace").decode() != name:
+        raise ScoreError(f"the name of a file is a text in UTF-8 without NUL, and {name!r} is none")
+    return os.path.join(os.curdir, name) if name == "-" else name
 
 
-def _play(text: Union[str, bytes], path: Path, program: Optional[str], options: Sequence[str]) -> str:
-    """Runs the command on a text, and gives its line."""
-    data = text.encode("utf-8") if isinstance(text, str) else text
-    with tempfile.TemporaryDirectory() as folder:
-        return _run(program, options, _stored(data, folder, "in.score"), os.fspath(path), data)
+@contextlib.contextmanager
+def _stored(source: Union[Path, bytes]) -> Iterator[tuple[str, list[IO[bytes]]]]:
+    """The name of a file that has the bytes, and the file where it was made for them."""
+    if isinstance(source, bytes):
+        with nameless(source) as file:
+            yield name_of(file), [file]
+    else:
+        yield file_name(source), []
+
+
+def _bytes_of(text: Union[str, bytes]) -> bytes:
+    return text.encode("utf-8") if isinstance(text, str) else text
 
 
 def environment() -> dict[str, str]:
@@ -217,13 +229,32 @@ def environment() -> dict[str, str]:
     return {name: value for name, value in os.environ.items() if name != "FORMULA"}
 
 
-def _run(program: Optional[str], options: Sequence[str], source: str, target: str,
-         text: Optional[bytes] = None) -> str:
+def ends_with_this(words: Sequence[str]) -> list[str]:
+    """The words of a run that ends where this process, or the thread that began it, is gone, as util-linux can do. What is
+    no program is left to the host, which says so: else a shell would try it."""
+    with contextlib.suppress(OSError, ValueError), open(shutil.which(words[0]) or words[0], "rb") as file:
+        if os.access(_SETPRIV[0], os.X_OK) and file.read(4).startswith((b"\x7fELF", b"#!")):
+            return [*_SETPRIV, *words]
+    return list(words)
+
+
+def _run(program: Optional[str], options: Sequence[str], source: str, target: str, text: Optional[bytes] = None,
+         files: Sequence[IO[bytes]] = ()) -> str:
     """Runs the command, and gives its line; raises what its status says."""
-    words = [*options, "--", source, target]
-    status, said = answer(program, words)
+    status, said = answer(program, [*options, "--", source, target], [file.fileno() for file in files])
     if status:
-        complain(status, said, words, text)
+        complain(status, said, [*options, "--", source, target], text)
+    return said
+
+
+def _run_into(program: Optional[str], options: Sequence[str], source: str, target: str,
+              text: Optional[bytes] = None, files: Sequence[IO[bytes]] = ()) -> str:
+    """Runs the command so that OUT is the old file until it is the whole new one."""
+    status, said, why = answer_into(program, [*options, "--", source], target, [file.fileno() for file in files])
+    if why:
+        raise CommandError(WRITE, WRITE_LINE, f"{target!r} cannot be written: {why}")
+    if status:
+        complain(status, said, [*options, "--", source, target], text)
     return said
 
 
@@ -234,12 +265,28 @@ def complain(status: int, said: str, words: Sequence[str], text: Optional[bytes]
     raise CommandError(status, said, explanation(status, said, words))
 
 
-def answer(program: Optional[str], words: Sequence[str]) -> tuple[int, str]:
-    """Runs the command on these words, and gives its status and its line."""
+def answer_into(program: Optional[str], words: Sequence[str], target: str,
+                files: Sequence[int] = ()) -> tuple[int, str, str]:
+    """Runs the command on these words and OUT, and keeps what it was until all of the new one is there. Gives its status,
+    its line, and why OUT could not be written, where that is known."""
+    out = out_of(target)
+    try:
+        status, said = answer(program, [*words, out.name], [*files, *out.files])
+        why = settled(out, status)
+    finally:
+        out.drop()
+    return (WRITE, WRITE_LINE, why) if why else (status, said, "")
+
+
+def answer(program: Optional[str], words: Sequence[str], files: Sequence[int] = ()) -> tuple[int, str]:
+    """Runs the command on these words, to which these open files are handed, and gives its status and its line."""
     command = needed_program(program)
     try:
-        run = subprocess.run([command, *words], stdin=subprocess.DEVNULL, stdout=subprocess.PIPE,
-                             stderr=subprocess.DEVNULL, check=False, env=environment())
+        for call in (ends_with_this([command, *words]), [command, *words]):
+            run = subprocess.run(call, stdin=subprocess.DEVNULL, stdout=subprocess.PIPE, stderr=subprocess.DEVNULL,
+                                 check=False, env=environment(), pass_fds=files)
+            if run.returncode not in (126, 127):  # else it could not be run, and the second call says why
+                break
     except (OSError, ValueError) as error:  # a name that no file has is the one or the other
         raise _unusable(command, "run", error) from error
     return run.returncode, run.stdout.decode("utf-8", "replace").strip()

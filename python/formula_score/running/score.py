@@ -11,17 +11,17 @@ from ..making.errors import ScoreError
 from ..making.expected import Event, events_of
 from ..making.lengths import DIVISION, MAX_DIVISION, MIN_DIVISION, written
 from ..making.nesting import first_fine
-from ..making.nodes import Held, Message, Music, Note, Par, Repeat, Rest, body_of
+from ..making.nodes import MAX_OPERATIONS, Held, Message, Music, Note, Par, Repeat, Rest, body_of
 from ..making.shapes import Part
 from ..making.values import shown, whole
 from . import command
+from .outs import put
 
 MAX_BYTES = 1_048_576
 MAX_END = 2**40
 MAX_EVENTS = 4_000_000
 #: by the version
 MAX_PROCESSES = {1: 4_096, 2: 16_384}
-MAX_OPERATIONS = 262_144
 MAX_STEPS = 16_777_216
 _WIDTH = 100
 
@@ -78,9 +78,8 @@ class Score:
         return events_of(self.body)
 
     def save(self, path: command.Path) -> None:
-        """Writes the text into a file."""
-        with open(path, "w", encoding="ascii", newline="\n") as file:
-            file.write(self.text)
+        """Writes the text into a file, which is the old one until it is the whole new one."""
+        put(command.file_name(path), self.text.encode("ascii"))
 
     def play(self, path: command.Path, program: Optional[str] = None, *, workers: Optional[int] = None,
              lead: Optional[int] = None, room: Optional[int] = None, rounds: bool = False, parts: bool = False,

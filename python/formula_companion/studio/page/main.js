@@ -92,6 +92,7 @@ function take(head, body) {
   if (head.failed) return takeFailure(head);
   if (head.kind === "file") takeFile(head, body);
   if (head.kind === "refusal") {
+    holds();
     writing.refuse(head.refusal);
     seeing.classList.add("stale");
     measured();
@@ -100,10 +101,24 @@ function take(head, body) {
   if (head.kind === "bars") takeBars(head);
 }
 
+let failing = false;
+
+/** Takes words away that told why something failed, which holds no longer. */
+function holds() {
+  if (failing) tell("");
+  failing = false;
+}
+
 /** Shows the file alone, where the companion has nothing to say of it.
  * @param {import("./session.js").Head} head */
 function takeFailure(head) {
   tell(head.failed || "");
+  failing = true;
+  if (head.kind === "failed") {  // there is no file of this text
+    writing.refuse(null);
+    seeing.classList.add("stale");
+    measured();
+  }
   if (head.kind === "picture") lanes.show([]);
   if (head.kind === "bars") {
     roll.bars = null;
@@ -125,6 +140,7 @@ function takeFile(head, body) {
 
 /** @param {import("./midi.js").Piece} piece @param {Uint8Array} file */
 function showPiece(piece, file) {
+  holds();
   writing.refuse(null);
   seeing.classList.remove("stale");
   places = null;
@@ -240,7 +256,7 @@ function selectedTicks() {
 for (const input of [fromBar, toBar, loop]) input.addEventListener("change", selected);
 for (const input of [meter, upbeat]) input.addEventListener("change", async () => {
   const answer = await session.ask("bars", counted());
-  if (answer.failed) tell(answer.failed); else takeBars(answer);
+  if (answer.failed) tell(answer.failed); else if (!answer.refused) takeBars(answer);
 });
 
 // ---- sound

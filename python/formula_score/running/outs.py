@@ -1,7 +1,7 @@
-"""Where a run puts OUT so that a file is either the old one or the whole new one, and what that takes of the host.
+"""How the library and each verb write a file: it is the old one until it is the whole new one.
 
-A regular file is written without a name in its folder, synced, and renamed over the old one at status 0. A descriptor,
-as standard output, gets the bytes once they are all there. All else is written straight.
+A regular file is written without a name in its folder, synced, and renamed over the old one. A descriptor, as standard
+output, gets the bytes once they are all there. All else is written straight.
 """
 
 from __future__ import annotations
@@ -12,11 +12,16 @@ import os
 import re
 import secrets
 import select
+import shutil
 import signal
 import stat
 import tempfile
-from typing import Optional, Union
+from typing import IO, Iterator, Optional, Union
 
+from ..explaining.explain import why_full
+
+#: The status of the program where OUT could not be written, and its line.
+WRITE, WRITE_LINE = 4, "formula: write fault"
 #: So many links may lead from a name to a file.
 MOST_LINKS = 40
 #: Bytes that are copied at once.
@@ -25,10 +30,10 @@ PIECE = 1 << 16
 SIGNALS = (signal.SIGINT, signal.SIGTERM, signal.SIGHUP, signal.SIGQUIT)
 
 
-def descriptor_of(name: str) -> Optional[int]:
+def descriptor_of(name: str, standard: int = 1) -> Optional[int]:
     """The descriptor that a name means, as `-` and /dev/stdout mean 1, through whatever links; None for a file."""
     if name == "-":
-        return 1
+        return standard
     for _ in range(MOST_LINKS):
         folder, last = os.path.split(name)
         folder = os.path.realpath(folder or os.curdir)
@@ -44,6 +49,8 @@ def descriptor_of(name: str) -> Optional[int]:
 class Straight:
     """OUT as it is named: a FIFO, a device, or what cannot be written, as the program will say."""
 
+    files: tuple[int, ...] = ()
+
     def __init__(self, name: str):
         self.name = name
 
@@ -57,6 +64,7 @@ class Straight:
 class Refusal:
     """OUT that may not be written, for a reason. The program gets no name: it says first what is wrong with IN."""
 
+    files: tuple[int, ...] = ()
     name = ""
 
     def __init__(self, why: OSError):
@@ -74,9 +82,9 @@ class Descriptor:
     """An open descriptor, as standard output: the program writes a file without a name, which is then copied."""
 
     def __init__(self, number: int):
-        self.number, self.file = number, tempfile.TemporaryFile()
-        os.set_inheritable(self.file.fileno(), True)
-        self.name = f"/proc/self/fd/{self.file.fileno()}"
+        self.number, self.file, self.folder = number, tempfile.TemporaryFile(), tempfile.gettempdir()
+        self.files = (self.file.fileno(),)
+        self.name = name_of(self.file)
 
     def keep(self) -> None:
         """Copies what was written, and syncs a file."""
@@ -94,10 +102,6 @@ class Descriptor:
         """Closes the file, and so takes it away."""
         self.file.close()
 
-    def why_full(self) -> str:
-        """Why the program could not write."""
-        return _why_full(tempfile.gettempdir())
-
 
 class Beside:
     """A regular file: the new one is written in its folder, and renamed over the old one when all of it is synced.
@@ -114,14 +118,14 @@ class Beside:
         if not os.access(self.folder, os.W_OK | os.X_OK, effective_ids=os.access in os.supports_effective_ids):
             raise PermissionError(errno.EACCES, f"the new file is made in the folder {self.folder!r}, which may not be "
                                   "written to")
-        mode = 0o600 if old else 0o666
-        file = _file_without_a_name(self.folder, mode)
+        self.mode = 0o600 if old else 0o666
+        file = file_without_a_name(self.folder, self.mode)
+        self.files: tuple[int, ...] = ()
         if file is None:
-            self.name = self.beside = self._new_name()
-            self.file = os.open(self.beside, os.O_CREAT | os.O_EXCL | os.O_RDWR, mode)
+            self.file = self._named()
+            self.name = self.beside or ""
         else:
-            self.name, self.file = f"/proc/self/fd/{file}", file
-            os.set_inheritable(file, True)
+            self.name, self.file, self.files = f"/proc/self/fd/{file}", file, (file,)
         try:
             self._take_owner()
         except OSError:
@@ -130,6 +134,13 @@ class Beside:
 
     def _new_name(self) -> str:
         return os.path.join(self.folder, f".formula-{secrets.token_hex(8)}")
+
+    def _named(self) -> int:
+        """A descriptor of a new file that has a name."""
+        beside = self._new_name()
+        file = os.open(beside, os.O_CREAT | os.O_EXCL | os.O_RDWR, self.mode)
+        self.beside = beside
+        return file
 
     def _take_owner(self) -> None:
         facts = os.fstat(self.file)
@@ -140,22 +151,40 @@ class Beside:
                 raise PermissionError(error.errno, "it belongs to another user or group, and a new file in its place "
                                       "would not") from error
 
-    def keep(self) -> None:
-        """Syncs the new file, closes it and gives it the name."""
+    def _sync(self) -> None:
         if self.old:
             _copy_attributes(self.path, self.file)
             os.fchmod(self.file, stat.S_IMODE(self.old.st_mode))
         os.fsync(self.file)
+
+    def _give_a_name(self) -> None:
+        """Gives the new file a name, or makes a copy that has one, where there are no hard links."""
+        beside = self._new_name()
+        try:
+            # with a folder's descriptor, which is not used, the link is one to what this name means
+            os.link(self.name, beside, src_dir_fd=self.file)
+            self.beside = beside
+        except OSError as error:
+            if error.errno not in (errno.EPERM, errno.EOPNOTSUPP):
+                raise
+            with os.fdopen(self.file, "rb") as before:
+                self.file = self._named()
+                before.seek(0)
+                with os.fdopen(os.dup(self.file), "wb") as copy:
+                    shutil.copyfileobj(before, copy)
+            self._take_owner()
+            self._sync()
+
+    def keep(self) -> None:
+        """Syncs the new file, closes it and gives it the name."""
+        self._sync()
         waiting = signal.pthread_sigmask(signal.SIG_BLOCK, SIGNALS)
         try:
             if self.beside is None:
-                beside = self._new_name()
-                # with a folder's descriptor, which is not used, the link is one to what this name means
-                os.link(self.name, beside, src_dir_fd=self.file)
-                self.beside = beside
+                self._give_a_name()
             number, self.file = self.file, -1
             os.close(number)
-            os.rename(self.beside, self.path)
+            os.rename(self.beside or "", self.path)
             self.beside = None
         finally:
             self.drop()
@@ -172,19 +201,8 @@ class Beside:
             if beside:
                 os.unlink(beside)
 
-    def why_full(self) -> str:
-        """Why the program could not write."""
-        return _why_full(self.folder)
 
-
-def _why_full(folder: str) -> str:
-    with contextlib.suppress(OSError):
-        if os.statvfs(folder).f_bavail == 0:
-            return os.strerror(errno.ENOSPC)
-    return "a write failed, perhaps at a limit of size or a full disk"
-
-
-def _file_without_a_name(folder: str, mode: int) -> Optional[int]:
+def file_without_a_name(folder: str, mode: int) -> Optional[int]:
     """A descriptor of a new file in a folder; None where the file system, or the host, has no such files."""
     if not os.path.exists("/proc/self/fd"):
         return None
@@ -201,6 +219,22 @@ def _copy_attributes(path: str, file: int) -> None:
         for name in os.listxattr(path):
             with contextlib.suppress(OSError):
                 os.setxattr(file, name, os.getxattr(path, name))
+
+
+def nameless(data: bytes = b"") -> IO[bytes]:
+    """A file without a name that holds these bytes, in memory where the host has such files."""
+    if hasattr(os, "memfd_create"):
+        file: IO[bytes] = os.fdopen(os.memfd_create("formula"), "w+b")
+    else:
+        file = tempfile.TemporaryFile()
+    file.write(data)
+    file.flush()
+    return file
+
+
+def name_of(file: IO[bytes]) -> str:
+    """The name by which a program to which the file is handed opens it anew."""
+    return f"/proc/self/fd/{file.fileno()}"
 
 
 Out = Union[Straight, Refusal, Descriptor, Beside]
@@ -226,3 +260,36 @@ def out_of(name: str) -> Out:
         return Beside(path, old) if is_file else Straight(name)
     except OSError as error:
         return Refusal(error)
+
+
+def settled(out: Out, status: int) -> str:
+    """Lets OUT be what a run wrote that ended with this status; why it could not be written, where that is known."""
+    if status == WRITE and isinstance(out, (Descriptor, Beside)):
+        return why_full(out.folder)
+    try:
+        if status in (0, WRITE):
+            out.keep()
+    except OSError as error:
+        return error.strerror or "the host does not say why"
+    return ""
+
+
+@contextlib.contextmanager
+def writing(name: str) -> Iterator[str]:
+    """The name of what is written in place of a file, or of what a name means; an `OSError` where it is not."""
+    out = out_of(name)
+    try:
+        if isinstance(out, Refusal):
+            out.keep()
+        yield out.name
+        out.keep()
+    except OSError as error:
+        raise OSError(error.errno, error.strerror, name) from error
+    finally:
+        out.drop()
+
+
+def put(name: str, data: bytes) -> None:
+    """Writes a file, or what a name means; an `OSError` where it is not written."""
+    with writing(name) as beside, open(beside, "wb") as file:
+        file.write(data)
