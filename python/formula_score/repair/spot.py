@@ -11,7 +11,7 @@ from .lexing import Lexeme, Line
 
 #: How many bytes behind the place are looked at.
 BEHIND = 1500
-#: How many bytes a statement may have that is looked at.
+#: How many bytes a statement may have that is looked at, without blanks and comments.
 LONGEST = 20_000
 _COMMENT = re.compile(rb"#[^\n]*")
 _MARKS = re.compile(rb"#[^\n]*|[;{}]")
@@ -100,7 +100,7 @@ class Spot:
     @property
     def is_long(self) -> bool:
         """Whether the present statement is too long to be read here."""
-        return len(_COMMENT.sub(b"", self.data[self.around.begun:self.place])) > LONGEST
+        return sum(map(len, _COMMENT.sub(b"", self.data[self.around.begun:self.place]).split())) > LONGEST
 
     @cached_property
     def names(self) -> dict[str, str]:

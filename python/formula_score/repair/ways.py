@@ -42,7 +42,7 @@ def _changed(line: Line, repair: Repair) -> str:
             at = line.lexemes[edit.last - 1].end
             continue
         # something is added: behind the token before
-        is_close = edit.new in (";", ",", ")", "]", "}")
+        is_close = edit.new in (",", ")", "]") or edit.new.endswith((";", "}"))
         place = max(at, line.lexemes[edit.first - 1].end if edit.first and is_close else line.lexemes[edit.first].start)
         made += [line.source[at:place], edit.new if edit.new in (";", ",", ")") else f" {edit.new} "]
         at = place

@@ -110,10 +110,10 @@ write \`--record\` in place of \`--audit\`, which makes the record of a run, and
         "$scratch/too_much:1:1: more than 1,048,576 bytes (fault 18)
 shorten the text; use phrases and loops" "$scratch/too_much" "$out"
     explains "a long line" 3 "$(fault '1:1048577 fault 3')" \
-        "$scratch/most:1:1048577: here \`formula\` is expected, and the text ends (fault 3)
+        "$scratch/most:1:1048577: the text is empty (fault 3)
 1 | …
   |  $(printf '%60s' '')^
-the text holds nothing, and a score begins with its head: write \`formula 1;\`" "$scratch/most" "$out"
+begin the text with \`formula 1;\`" "$scratch/most" "$out"
     clear_out
     for way in closed full unread; do
         [ "$way" != full ] || [ -c /dev/full ] || continue
