@@ -6,6 +6,7 @@ import contextlib
 import json
 import pathlib
 import re
+import signal
 import subprocess
 import sys
 import tempfile
@@ -16,7 +17,7 @@ from cluster import GONE, LONGEST, end, of_session, until
 
 BATCH = [sys.executable, str(harness.TOP / "bin" / "formula-score"), "batch"]
 #: So many results are there before something happens.
-SOME = 100
+SOME = 20
 REST = "run it again for the rest"
 
 
@@ -87,6 +88,16 @@ class Trial:
     def until_some(self) -> None:
         """Waits for some results."""
         until(lambda: len(self.results()) >= SOME)
+
+    @contextlib.contextmanager
+    def held(self, batch: "subprocess.Popen[bytes]") -> Iterator[None]:
+        """Waits for some results, and stops a batch meanwhile, which else would be done before something happens."""
+        self.until_some()
+        batch.send_signal(signal.SIGSTOP)
+        try:
+            yield
+        finally:
+            batch.send_signal(signal.SIGCONT)
 
     def wrong(self) -> list[str]:
         """The names whose files are not as they should be."""

@@ -29,24 +29,24 @@ HERE = pathlib.Path(__file__).resolve().parent
 def worker_killed(trial: Trial, cluster: Cluster) -> None:
     """A worker is killed."""
     batch = trial.begin("--dask", cluster.address)
-    trial.until_some()
-    end(cluster.hosts[0].workers()[:1])
+    with trial.held(batch):
+        end(cluster.hosts[0].workers()[:1])
     trial.is_whole(trial.ended(batch))
 
 
 def host_gone(trial: Trial, cluster: Cluster) -> None:
     """A host is gone with all its workers."""
     batch = trial.begin("--dask", cluster.address)
-    trial.until_some()
-    cluster.hosts[0].falls()
+    with trial.held(batch):
+        cluster.hosts[0].falls()
     trial.is_whole(trial.ended(batch))
 
 
 def worker_stopped(trial: Trial, cluster: Cluster) -> None:
     """A worker hangs."""
     batch = trial.begin("--dask", cluster.address)
-    trial.until_some()
-    end(cluster.hosts[0].workers()[:1], signal.SIGSTOP)
+    with trial.held(batch):
+        end(cluster.hosts[0].workers()[:1], signal.SIGSTOP)
     trial.is_whole(trial.ended(batch))
 
 
@@ -75,8 +75,8 @@ def hosts_failing(trial: Trial, cluster: Cluster) -> None:
 def scheduler_killed(trial: Trial, cluster: Cluster) -> None:
     """The scheduler is killed."""
     batch = trial.begin("--dask", cluster.address)
-    trial.until_some()
-    end(of_session(cluster.scheduler.pid))
+    with trial.held(batch):
+        end(of_session(cluster.scheduler.pid))
     said = trial.ended(batch)
     trial.check(said.status == 1 and said.error.endswith(f"; {REST}\n") and said.error.count("\n") == 1, said)
     trial.goes_on()
@@ -87,8 +87,8 @@ def asker_killed(trial: Trial, cluster: Cluster) -> None:
     for words in (("--dask", cluster.address), ()):
         shutil.rmtree(trial.out, ignore_errors=True)
         batch = trial.begin(*words)
-        trial.until_some()
-        batch.kill()
+        with trial.held(batch):
+            batch.kill()
         trial.check(trial.ended(batch).status == -signal.SIGKILL, "it ended before")
         trial.goes_on(*words)
 
@@ -99,8 +99,8 @@ def asker_interrupted(trial: Trial, cluster: Cluster) -> None:
         for words in (("--dask", cluster.address), ()):
             shutil.rmtree(trial.out, ignore_errors=True)
             batch = trial.begin(*words)
-            trial.until_some()
-            batch.send_signal(number)
+            with trial.held(batch):
+                batch.send_signal(number)
             said = trial.ended(batch)
             trial.check(said.status == 130 and bool(re.fullmatch(
                 f"batch: interrupted: [0-9]+ of {trial.count} scores are done; {REST}\n", said.error)), said)
