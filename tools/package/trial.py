@@ -69,7 +69,7 @@ class Trial:
         out = self.root / "tmp/out.mid"
         self.ends(f"{what}, a score", 0, "", "", formula, "/tmp/note.score", "/tmp/out.mid")
         self.tell(f"{what}, its file", out.exists() and out.read_bytes() == FILE)
-        why = "the nearest are `1/6`, `1/8` and `ticks 274`" if is_explained else ""
+        why = "`ticks 274`" if is_explained else ""
         self.ends(f"{what}, a refused score", 3, REFUSED, why, formula, "/tmp/refused.score", "/tmp/out.mid")
         self.ends(f"{what}, from a pipe", 3, REFUSED, why, formula, "/dev/stdin", "/tmp/out.mid",
                   text=(self.root / "tmp/refused.score").read_bytes())
