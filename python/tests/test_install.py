@@ -25,7 +25,7 @@ WANTED = (
     "bin/formula", "bin/formula-score", "lib/formula/formula", "lib/formula/proved.txt",
     "lib/formula/python/formula_score/__init__.py", "lib/formula/python/formula_companion/verbs/program.py",
     "share/doc/rosetrowel/python/formula_score/README.md", "share/man/man1/formula.1", "share/man/man1/formula-score.1",
-    "share/bash-completion/completions/formula", "share/vim/vimfiles/syntax/formula.vim",
+    "share/bash-completion/completions/formula", "share/bash-completion/completions/formula-score", "share/vim/vimfiles/syntax/formula.vim",
     "share/vim/vimfiles/compiler/formula.vim", "share/formula/editors/vscode/package.json",
     "share/formula/editors/vscode/tasks.json", "share/doc/rosetrowel/README.md", "share/doc/rosetrowel/COPYING",
     "share/doc/rosetrowel/docs/LANGUAGE.md", "share/doc/rosetrowel/examples/scores/canon.score",

@@ -43,6 +43,8 @@ What other machines send is believed. With --audit they send records of their pe
 each that it is one of the very score, step by step, and makes the file of it. What it refuses is played here, and the
 machine is named; so is a score that they call refused. What an earlier run believed is played again.
 
+example: formula-score batch scores midi -j 4
+
 The status is 0 where all are played, 1 where not, 70 where this could not begin, and 130 where it was interrupted:
 then nobody is at work any more, and the next run goes on from there. The program is FILE, else the one that FORMULA
 names, else the proved one."""
@@ -53,6 +55,11 @@ class Parser(argparse.ArgumentParser):
 
     def error(self, message: str) -> NoReturn:
         fail(f"{message}\nusage: {self.usage}")
+
+
+def words() -> list[str]:
+    """The options."""
+    return re.findall("--[a-z]+", USAGE)
 
 
 def read_words(words: Sequence[str], name: str, version: str) -> argparse.Namespace:

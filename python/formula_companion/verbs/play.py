@@ -12,7 +12,7 @@ from types import FrameType
 from typing import Iterator, NamedTuple, Optional, Sequence
 
 from formula_score.explaining.explain import explanation
-from formula_score.explaining.words import USAGE, Words, read
+from formula_score.explaining.words import FLAGS, RANGES, USAGE, Words, read
 from formula_score.reading.playing import Failed, program
 from formula_score.running.command import environment
 from .origin import origin
@@ -35,6 +35,8 @@ Runs formula on the same words, and is safe in the hand:
   made first, and then copied there. What the program says then goes to standard error. `-` as IN is standard input.
 
 The options are those of formula(1). --help prints this, --version from what the program was proved.
+
+example: formula-score play tune.score tune.mid
 
 status: that of the program, as formula(1) tells it. 1 also where IN and OUT are one file; 4 also where OUT
 could not be synced, closed or renamed, or its owner would change; 70 where there is no program; 128 + N where the
@@ -62,6 +64,11 @@ def main(words: Sequence[str], name: str, version: str) -> int:
         return _play(asked)
     except Failed as failed:
         return _end(End(NO_PROGRAM, "", failed.why))
+
+
+def words() -> list[str]:
+    """The options."""
+    return [*RANGES, *FLAGS]
 
 
 class End(NamedTuple):
