@@ -53,6 +53,8 @@ VERBS: dict[str, Verb] = {
     "lint": Verb("lint", "say what is accepted in a score, and hardly meant", "tune.score"),
     "notes": Verb("notes", "write the statements of notes that are given in a short line",
                   '"c4 d e r | f4~ f g/8. a/16 c5+e/4" --phrase tune >> my.score'),
+    "transpose": Verb("transpose", "move the written pitches of a score, or of one phrase, and leave all else as it is",
+                      "tune.score 2 --phrase opening"),
     "show": Verb("show", "print the events of a MIDI file, with names, bars and beats, or the steps of a record",
                  "tune.mid --meter 4/4"),
     "roll": Verb("roll", "draw a score or a MIDI file as a piano roll, once or whenever the score is saved",
