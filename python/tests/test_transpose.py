@@ -71,7 +71,7 @@ class Transposes(unittest.TestCase):
     def test_a_pitch_out_of_range_and_other_faults_keep_the_file(self) -> None:
         text = "formula 1; note c4 1/4; note f9 1/4;"
         for words, status, said in ((["4"], 1, "tune.score:1:30: `f9` moved by 4 is key 129"), (["200"], 2, "-127 to 127"),
-                                    (["2", "--to", self.path.parent], 4, "cannot be written")):
+                                    (["2", "--to", str(self.path.parent)], 4, "cannot be written")):
             answer = self.transposed(text, *words)
             self.assertEqual((answer.status, answer.said, self.path.read_text()), (status, "", text), words)
             self.assertIn(said, answer.complaint)

@@ -3,18 +3,24 @@
 from __future__ import annotations
 
 import contextlib
+import json
 import os
 import signal
 import stat
 import subprocess
 import sys
+from fractions import Fraction
 from types import FrameType
 from typing import Iterator, NamedTuple, Optional, Sequence
 
+from formula_score.checks.summary import of_score
 from formula_score.explaining.explain import explanation
 from formula_score.explaining.words import FLAGS, RANGES, USAGE, Words, read
-from formula_score.reading.playing import Failed, program
+from formula_score.reading.meter import Meter, groups_of
+from formula_score.reading.playing import Failed, program, text_of
+from formula_score.reading.ticks import agreed
 from formula_score.running.command import environment
+from .options import failure
 from .origin import origin
 from .outs import SIGNALS, Beside, Descriptor, Out, Straight, descriptor_of, out_of
 
@@ -23,6 +29,9 @@ WORDS, WRITE, UNSAID = 1, 4, 5
 LINES = {WORDS: "formula: words refused", WRITE: "formula: write fault"}
 #: The status where there is no program, as `bin/formula` has it.
 NO_PROGRAM = 70
+
+#: The options of this verb alone.
+OWN = ("--summary", "--json")
 
 ABOUT = """\
 Runs formula on the same words, and is safe in the hand:
@@ -34,7 +43,9 @@ Runs formula on the same words, and is safe in the hand:
 - `-`, /dev/stdout and other open descriptors may be OUT, with `>`, `>>` and pipes, whatever is asked for: the file is
   made first, and then copied there. What the program says then goes to standard error. `-` as IN is standard input.
 
-The options are those of formula(1). --help prints this, --version from what the program was proved.
+The options are those of formula(1), and two more. --summary prints what was played: events, length in bars of 4/4 and in
+seconds, processes, keys by channel. --json prints one line of JSON: `status`, `said`, `why`, of a refused text `refused` with
+its place and the cure, and with --summary the `summary`. Where OUT is standard output both go to standard error. --help prints this, --version from what the program was proved.
 
 example: formula-score play tune.score tune.mid
 
@@ -53,7 +64,10 @@ def main(words: Sequence[str], name: str, version: str) -> int:
         print(f"{version}\n{origin()}")
         return 0
     _open_what_is_closed()
-    asked = read(words)
+    own = {option for option in options if option in OWN}
+    asked = read([word for at, word in enumerate(words) if at >= len(options) or word not in own])
+    if own and (asked.wrong or asked.task in ("--audit", "--list", "--record", "--locate") or asked.files[0] == "-"):
+        asked = asked._replace(wrong=asked.wrong or f"{' and '.join(sorted(own))} need a score in a file, and its MIDI file as OUT")
     if asked.wrong:
         return _end(End(WORDS, LINES[WORDS], f"{asked.wrong}\n{USAGE.replace('formula', name, 1)}"))
     target = asked.files[1]
@@ -61,14 +75,14 @@ def main(words: Sequence[str], name: str, version: str) -> int:
         end = End(WORDS, LINES[WORDS], f"IN and OUT are one file, {target!r}: give OUT another name")
         return _end(end, _means_output(descriptor_of(target)))
     try:
-        return _play(asked)
+        return _play(asked, own)
     except Failed as failed:
         return _end(End(NO_PROGRAM, "", failed.why))
 
 
 def words() -> list[str]:
     """The options."""
-    return [*RANGES, *FLAGS]
+    return [*RANGES, *FLAGS, *OWN]
 
 
 class End(NamedTuple):
@@ -79,7 +93,7 @@ class End(NamedTuple):
     why: str
 
 
-def _play(asked: Words) -> int:
+def _play(asked: Words, own: set[str]) -> int:
     source, target = asked.files
     options = [f"{option}={asked.numbers[option]}" if option in asked.numbers else option for option in asked.options]
     command = [program(), *options, "--", "/dev/stdin" if source == "-" else source]
@@ -97,7 +111,25 @@ def _play(asked: Words) -> int:
         os.kill(os.getpid(), run.number)
     if end.status and not end.why:
         end = end._replace(why=explanation(end.status, end.said, [*options, "--", source, target]))
-    return _end(end, isinstance(out, Descriptor) and _means_output(out.number))
+    is_output = isinstance(out, Descriptor) and _means_output(out.number)
+    if own and end.status != UNSAID:
+        return _summed(end, source, own, 2 if is_output else 1)
+    return _end(end, is_output)
+
+
+def _summed(end: End, source: str, own: set[str], number: int) -> int:
+    """Says how the run ended, and what was played, on a descriptor, and gives the status."""
+    value = failure(Failed(end.status, end.why, end.said), source)
+    lines = []
+    if "--summary" in own and end.status == 0:
+        walk = agreed(text_of(source))
+        found = of_score(walk, Meter(groups_of("4/4"), Fraction(0), walk.reading.whole))
+        value, lines = {**value, "summary": found.value()}, list(found.lines())
+    if "--json" in own:
+        return end.status if _put(number, json.dumps(value, ensure_ascii=False)) else UNSAID
+    if end.status:
+        return _end(end, number == 2)
+    return 0 if _put(number, "\n".join(lines)) else UNSAID
 
 
 def _kept(out: Out, target: str, end: End) -> End:

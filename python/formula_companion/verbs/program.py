@@ -15,6 +15,7 @@ from typing import Iterable, NamedTuple, NoReturn, Optional, Sequence
 from formula_score import __version__
 from formula_score.reading.playing import Failed
 from .libraries import restart
+from .options import failure, put
 
 VERSION = f"formula-score {__version__}"
 
@@ -55,6 +56,8 @@ VERBS: dict[str, Verb] = {
                   '"c4 d e r | f4~ f g/8. a/16 c5+e/4" --phrase tune >> my.score'),
     "transpose": Verb("transpose", "move the written pitches of a score, or of one phrase, and leave all else as it is",
                       "tune.score 2 --phrase opening"),
+    "format": Verb("format", "set the text of a score in one layout, with every comment and event kept", "tune.score --check"),
+    "diff": Verb("diff", "say in what two scores or MIDI files differ, bar by bar", "old.score new.score --meter 3/4"),
     "show": Verb("show", "print the events of a MIDI file, with names, bars and beats, or the steps of a record",
                  "tune.mid --meter 4/4"),
     "roll": Verb("roll", "draw a score or a MIDI file as a piano roll, once or whenever the score is saved",
@@ -141,6 +144,7 @@ def main(words: Optional[Sequence[str]] = None, name: str = "formula-score") -> 
         return MISUSED
     verb = VERBS[given[0]]
     module = importlib.import_module(f".{verb.module}", __package__)
+    options: Optional[argparse.Namespace] = None
     try:
         options = None if verb.takes_words else _options(module, verb, f"{name} {given[0]}", given[1:])
         restart(given)
@@ -150,9 +154,13 @@ def main(words: Optional[Sequence[str]] = None, name: str = "formula-score") -> 
     except SystemExit as ended:
         return int(ended.code or 0)
     except Failed as failed:
+        if options and getattr(options, "json", False):
+            put(failure(failed, getattr(options, "score", "") or getattr(options, "file", "")))
+            return failed.status
         if failed.said:
             print(failed.said)
-        print(failed.why, file=sys.stderr)
+        if failed.why:
+            print(failed.why, file=sys.stderr)
         return failed.status
     except BrokenPipeError:  # who reads wants no more; what is left is for nobody
         os.dup2(os.open(os.devnull, os.O_WRONLY), sys.stdout.fileno())
