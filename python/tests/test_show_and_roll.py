@@ -198,7 +198,7 @@ class Listen(InAFolder):
         self.assertEqual((answer.status, heard), (0, bytes_of(EXAMPLES / "tutorial" / "1_line.hex")))
         _, heard = self.listened("timidity", self.SCORE, "--bars", "2")
         self.assertEqual(heard[29:33].hex(), "00904340")
-        answer, heard = self.listened("fluidsynth", self.SCORE, "--font", "some.sf2")
+        answer, heard = self.listened("fluidsynth", self.SCORE, "--font", self.file("some.sf2", b""))
         self.assertEqual((answer.status, answer.said.split()[0]), (0, "fluidsynth"))
 
     def test_without_one_the_package_is_told(self) -> None:
