@@ -82,10 +82,14 @@ def run(options: argparse.Namespace) -> int:
             raise Failed(1, f"{words[0]} cannot be run: {error.strerror}") from error
         except KeyboardInterrupt:
             return 0
-    wrong = fault_of(words, done.returncode, done.stderr)
+    _must_be_well(words, done.returncode, done.stderr)
+    return 0
+
+
+def _must_be_well(words: list[str], status: int, said: bytes) -> None:
+    wrong = fault_of(words, status, said)
     if wrong is not None:
         raise Failed(1, wrong)
-    return 0
 
 
 def _made(options: argparse.Namespace, rounds: int) -> Made:
@@ -147,21 +151,24 @@ def _follow(options: argparse.Namespace) -> None:
 def _until_saved(options: argparse.Namespace, made: Made) -> int:
     """Plays a file until the score is saved with a text that is accepted: the bar that was heard then, 0 behind the end."""
     words, stamp = needed_player(options.font), _stamp(options.score)
-    with _file(options, made) as path, subprocess.Popen([*words, path], stderr=subprocess.DEVNULL) as process:
-        print(f"{words[0]} plays {options.score}{f' from bar {options.bars.first}' if options.bars else ''}; end it with Ctrl-C",
-              flush=True)
+    begins = f" from bar {options.bars.first}" if options.bars else ""
+    with _file(options, made) as path, tempfile.TemporaryFile() as said, \
+            subprocess.Popen([*words, path], stderr=said) as process:
+        print(f"{words[0]} plays {options.score}{begins}; end it with Ctrl-C", flush=True)
         begun = time.monotonic()
         try:
             while True:
                 time.sleep(_LOOK)
-                now = _stamp(options.score)
+                over, now = process.poll() is not None, _stamp(options.score)
+                if over:
+                    said.seek(0)
+                    _must_be_well(words, process.returncode, said.read())
                 if now is None or now == stamp:
                     continue
                 stamp = now
                 tick = made.begin + (time.monotonic() - begun) * 2 * made.division * options.speed / 100
                 try:
                     judge(options.score)
-                    over = process.poll() is not None
                     return 0 if over else max((bar for bar, at in made.bars if at <= tick), default=0)
                 except Failed as failed:
                     print(failed.why, flush=True)

@@ -122,52 +122,65 @@ def completions(verbs: Sequence[str]) -> list[str]:
     return [word for action in _parser(module, verb, "")._actions for word in action.option_strings if word[:2] == "--"]
 
 
+def _without_verb(given: Sequence[str], name: str) -> Optional[int]:
+    """What words ask for that begin with no verb, and the status; None where they do."""
+    first = given[0] if given else ""
+    if first in VERBS:
+        return None
+    if first in ("--help", "-h"):
+        print(_usage(name), end="")
+    elif first == "--version":
+        print(VERSION)
+    elif first == "--words":
+        print("\n".join(completions(given[1:])))
+    else:
+        cure = near(first, VERBS)
+        said = f"there is no verb {first!r}{cure}" if given else "a verb is missing"
+        print(f"{name}: {said}{'' if cure else '; there are ' + ', '.join(VERBS)}\ntry: {name} --help", file=sys.stderr)
+        return MISUSED
+    return OK
+
+
+def _failed(failed: Failed, options: Optional[argparse.Namespace]) -> int:
+    """Says why a verb ended, and gives the status."""
+    if options and getattr(options, "json", False):
+        put(failure(failed, getattr(options, "score", "") or getattr(options, "file", "")))
+        return failed.status
+    if failed.said:
+        print(failed.said)
+    if failed.why:
+        print(failed.why, file=sys.stderr)
+    return failed.status
+
+
 def main(words: Optional[Sequence[str]] = None, name: str = "formula-score") -> int:
     """Runs a verb on the words behind the program's name, and gives its status."""
     given = list(sys.argv[1:] if words is None else words)
     for stream in (sys.stdout, sys.stderr):
         if isinstance(stream, io.TextIOWrapper):
             stream.reconfigure(errors="backslashreplace")
-    if given[:1] in (["--help"], ["-h"]):
-        print(_usage(name), end="")
-        return OK
-    if given[:1] == ["--version"]:
-        print(VERSION)
-        return OK
-    if given[:1] == ["--words"]:
-        print("\n".join(completions(given[1:])))
-        return OK
-    if not given or given[0] not in VERBS:
-        cure = near(given[0], VERBS) if given else ""
-        said = f"there is no verb {given[0]!r}{cure}" if given else "a verb is missing"
-        print(f"{name}: {said}{'' if cure else '; there are ' + ', '.join(VERBS)}\ntry: {name} --help", file=sys.stderr)
-        return MISUSED
+    status = _without_verb(given, name)
+    if status is not None:
+        return status
     verb = VERBS[given[0]]
     module = importlib.import_module(f".{verb.module}", __package__)
     options: Optional[argparse.Namespace] = None
     try:
         options = None if verb.takes_words else _options(module, verb, f"{name} {given[0]}", given[1:])
         restart(given)
-        status: int = module.run(options) if options else module.main(given[1:], f"{name} {given[0]}", VERSION)
+        ended: int = module.run(options) if options else module.main(given[1:], f"{name} {given[0]}", VERSION)
         if sys.stdout:
             sys.stdout.flush()
-    except SystemExit as ended:
-        return int(ended.code or 0)
+    except SystemExit as left:
+        return int(left.code or 0)
     except Failed as failed:
-        if options and getattr(options, "json", False):
-            put(failure(failed, getattr(options, "score", "") or getattr(options, "file", "")))
-            return failed.status
-        if failed.said:
-            print(failed.said)
-        if failed.why:
-            print(failed.why, file=sys.stderr)
-        return failed.status
+        return _failed(failed, options)
     except BrokenPipeError:  # who reads wants no more; what is left is for nobody
         os.dup2(os.open(os.devnull, os.O_WRONLY), sys.stdout.fileno())
         return FOUND
     except KeyboardInterrupt:
         return 130
-    return status
+    return ended
 
 
 if __name__ == "__main__":

@@ -47,9 +47,9 @@ def needed_player(font: Optional[str]) -> list[str]:
 
 
 def fault_of(words: list[str], status: int, said: bytes) -> Optional[str]:
-    """What a synthesizer says that is wrong, also where its status is 0."""
+    """What a synthesizer says that is wrong, also where its status is 0; libraries below it complain of what is well."""
     lines = said.decode("utf-8", "replace").splitlines()
-    wrong = next((line for line in lines if re.search(r"\b(error|panic)\b", line, re.IGNORECASE)), None)
+    wrong = next((line for line in lines if re.match(r"fluidsynth: (error|panic): ", line)), None)
     if wrong is None and status:
         return f"{words[0]} ended with status {status}" + (f": {lines[-1]}" if lines else "")
     return wrong and re.sub(r"^fluidsynth: (error|panic): ", "fluidsynth: ", wrong.strip())
