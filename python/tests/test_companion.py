@@ -43,7 +43,8 @@ class Words(unittest.TestCase):
             with mock.patch.dict(os.environ, {"COLUMNS": "100"}):
                 said = score(verb, "--help").said
             self.assertLessEqual(said.count("\n"), 50, verb)
-            self.assertIn(f"example: score {verb} {of.example}".strip() if not of.takes_words else "example: ", said, verb)
+            self.assertIn(f"example: score {verb} {of.example}".strip() if not of.takes_words else "example: ", said,
+                          verb)
             options = score("--words", verb).said.split()
             self.assertEqual([word for word in options if word not in said and not of.takes_words], [], verb)
             self.assertIn("--help", options)

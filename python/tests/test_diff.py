@@ -1,4 +1,5 @@
-"""The verb `diff`: versions of the tutorial's piece and of small scores and files, with what a musician says of each."""
+"""The verb `diff`: versions of the tutorial's piece and of small scores and files, with what a musician says of
+each."""
 
 from __future__ import annotations
 
@@ -28,7 +29,8 @@ class Differences(unittest.TestCase):
 
     def test_two_versions_of_the_tutorials_piece(self) -> None:
         new = PIECE
-        for before, now in (("note e4 1/8; note f4 1/8; note e4 1/4; note c4", "note e4 1/8; note fs4 1/8; note c4 1/4; rest"),
+        for before, now in (("note e4 1/8; note f4 1/8; note e4 1/4; note c4",
+                             "note e4 1/8; note fs4 1/8; note c4 1/4; rest"),
                             ("rest 1/4;\n", "rest 1/4;\n"), ("volume 60", "volume 70"), ("program 73", "program 40"),
                             ("flat 14/1 by 1250", "flat 14/1 by 1200"), ("gate 50", "gate 60")):
             new = new.replace(before, now, 1)
@@ -43,7 +45,8 @@ class Differences(unittest.TestCase):
             f"bars 11 to 12: opening: softer by 2 to 3, longer, 1.2 times; {faster}", f"bars 13 to 14: {faster}"]))
 
     def test_equal_pieces_differ_in_nothing(self) -> None:
-        answer = self.differ(PIECE, PIECE.replace("# Step 8", "# Another comment").replace("1/4; note e4", "2/8;   note e4"))
+        again = PIECE.replace("# Step 8", "# Another comment").replace("1/4; note e4", "2/8;   note e4")
+        answer = self.differ(PIECE, again)
         self.assertEqual(answer, Answer(0, "", ""))
         self.assertEqual(json.loads(self.differ(PIECE, PIECE, "--json").said), {"changes": [], "within": None})
 
@@ -79,13 +82,15 @@ class Differences(unittest.TestCase):
         self.assertEqual((answer.status, answer.said[:45]), (1, "each bar has the same notes and the same length"[:45]))
 
     def test_files_and_a_file_beside_a_score(self) -> None:
-        first = [(0, meta(3, b"flute")), (0, meta(0x58, b"\3\2\x18\x08")), (0, meta(0x51, (500_000).to_bytes(3, "big")))]
+        tempo = meta(0x51, (500_000).to_bytes(3, "big"))
+        first = [(0, meta(3, b"flute")), (0, meta(0x58, b"\3\2\x18\x08")), (0, tempo)]
         tune = notes(0, (0, 480, 60, 64), (480, 960, 62, 64), (1440, 1920, 64, 64))
         old = midi(480, [track([*first, *tune], 2880)])
         new = midi(960, [track([*first[:2], (0, meta(0x51, (600_000).to_bytes(3, "big"))),
                                 *notes(0, (0, 960, 60, 64), (960, 1920, 62, 64), (2880, 3840, 65, 100))], 5760)])
         slower = "slower, 100 quarter notes a minute in place of 120"
-        self.assertEqual(self.differ(old, new).said, f"bar 1: {slower}\nbar 2: flute: f4 in place of e4 at beat 1, louder, 64 to "
+        self.assertEqual(self.differ(old, new).said,
+                         f"bar 1: {slower}\nbar 2: flute: f4 in place of e4 at beat 1, louder, 64 to "
                                                      f"100; {slower}\n")
         text = "formula 1; gate 100 { note c4 1/4; note d4 1/4; rest 1/4; note e4 1/4; rest 1/2; }"
         self.assertEqual(self.differ(text, old, "--meter", "3/4").said, "")

@@ -1,7 +1,9 @@
-"""The verb `format`: texts that were set by hand; and of examples, the cookbook and imports that they stay what they are."""
+"""The verb `format`: texts that were set by hand; and of examples, the cookbook and imports that they stay what they
+are."""
 
 from __future__ import annotations
 
+import os
 import pathlib
 import re
 import tempfile
@@ -10,6 +12,7 @@ import unittest
 from .companion import Answer, score
 from .program import TOP, needs_program, run
 from .random_texts import Texts
+from .test_cookbook import GENERATORS, score_of
 
 from formula_score.reading.reader import read
 from formula_score.rewriting.layout import formatted
@@ -55,7 +58,7 @@ if r1 % 2 {
   rest ticks (pick(3)) max 5;
 }  # last
 """
-#: What is set in this layout already: comments in a column, closing braces together, lists that are broken behind commas.
+#: What is set already: comments in a column, closing braces together, lists that are broken behind commas.
 ALREADY = (SET, """\
 formula 1;
 note c4 1/4; note d4 1/4;   # bar 1
@@ -74,12 +77,14 @@ class Layouts(unittest.TestCase):
         self.assertEqual(formatted(read(LOOSE.encode())).decode().splitlines(), SET.splitlines())
 
     def test_what_is_set_stays(self) -> None:
-        for text in (*ALREADY[:1], *ALREADY[2:], ALREADY[1].replace("1/8,\n    1/8] { play c4; }", "1/8] { play c4; }")):
+        for text in (*ALREADY[:1], *ALREADY[2:], ALREADY[1].replace("1/8,\n    1/8] { play c4; }",
+                                                                    "1/8] { play c4; }")):
             self.assertEqual(formatted(read(text.encode())).decode(), text)
 
     def test_long_lines_are_broken(self) -> None:
         notes, bars = " ".join(["note c4 1/16;"] * 20), ", ".join(["1/4"] * 60)
-        lines = formatted(read(f"formula 1; phrase p {{ {notes} }} rhythm [{bars}] {{ play c4; }}".encode())).decode().splitlines()
+        text = f"formula 1; phrase p {{ {notes} }} rhythm [{bars}] {{ play c4; }}"
+        lines = formatted(read(text.encode())).decode().splitlines()
         self.assertEqual(lines[1:5], ["phrase p {", "  " + " ".join(["note c4 1/16;"] * 8),
                                       "  " + " ".join(["note c4 1/16;"] * 8), "  " + " ".join(["note c4 1/16;"] * 4)])
         shape = f"shape s = {', '.join(['flat 1/4 by 1000'] * 20)};"
@@ -101,7 +106,8 @@ class Formats(unittest.TestCase):
 
     def test_the_verb_writes_what_differs_alone(self) -> None:
         loose, neat = "formula 1;note c4 1/4 ;", "formula 1; note c4 1/4;\n"
-        self.assertEqual(self.formatted(loose, "--check"), Answer(1, f"{self.path}: this is not in the layout of `format`\n", ""))
+        self.assertEqual(self.formatted(loose, "--check"),
+                         Answer(1, f"{self.path}: this is not in the layout of `format`\n", ""))
         self.assertEqual((self.formatted(loose, "--to", "-").said, self.path.read_text()), (neat, loose))
         self.assertEqual((self.formatted(loose), self.path.read_text()), (Answer(0, "", ""), neat))
         before = self.path.stat().st_ino, self.path.stat().st_mtime_ns
@@ -111,8 +117,15 @@ class Formats(unittest.TestCase):
         self.assertEqual((answer.status, self.path.read_text()), (1, "formula 1; note c4;"))
 
     def test_the_same_file_and_the_same_text_once_more(self) -> None:
-        paths = [path for path in sorted((TOP / "examples").glob("*/*.score")) if path.parent.name not in ("refused", "long")]
-        texts = [path.read_text() for path in paths]
+        paths = sorted((TOP / "examples").glob("*/*.score"))
+        paths = [path for path in paths if path.parent.name not in ("refused", "long")]
+        home = os.getcwd()
+        os.chdir(self.path.parent)  # some generators write files
+        try:
+            texts = [score_of(generator).text for generator in GENERATORS]
+        finally:
+            os.chdir(home)
+        texts += [path.read_text() for path in paths]
         texts += [text for text in (Texts(seed).score() for seed in range(12)) if run(text)[0] == 0]
         set_already = 0
         for text in texts:

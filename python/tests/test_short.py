@@ -16,7 +16,8 @@ class Lines(unittest.TestCase):
             ("bb3/8 c fs5/8. g/16", ["note bb3 1/8; note c3 1/8; note fs5 3/16; note g5 1/16;"]),
             ("c4+e+g/2. r/4 | c5+e4/1", ["note c4, e4, g4 3/4; rest 1/4;", "note c5, e4 1/1;"]),
             # a note tied over the bar line is in its first bar, and a bar of 3/8 ends a triplet of eighths behind it
-            ("c4/2. d/4~ | d/1~|d/8 e/12 f g", ["note c4 3/4; note d4 11/8;", "note e4 1/12; note f4 1/12; note g4 1/12;"]),
+            ("c4/2. d/4~ | d/1~|d/8 e/12 f g", ["note c4 3/4; note d4 11/8;",
+                                                "note e4 1/12; note f4 1/12; note g4 1/12;"]),
             ("c0/4.. cb4/16", ["note c0 7/16; note cb4 1/16;"]),
         ):
             answer = score("notes", line)
@@ -29,8 +30,10 @@ class Lines(unittest.TestCase):
                          "note g4 1/4;\nnote c5 3/4;\n")
 
     def test_what_is_wrong_has_one_line_with_its_place(self) -> None:
-        for line, said in (("c4 d | e", "`|` at 6: the bar is 1/2 too short"), ("c d", "`c` at 1: the first pitch needs"),
-                           ("c4 h", "`h` at 4: this is no note"), ("c4/7", "`c4/7` at 1: this length is no whole number"),
+        for line, said in (("c4 d | e", "`|` at 6: the bar is 1/2 too short"), ("c d",
+                                                                                "`c` at 1: the first pitch needs"),
+                           ("c4 h", "`h` at 4: this is no note"), ("c4/7",
+                                                                   "`c4/7` at 1: this length is no whole number"),
                            ("c4~ d", "`d` at 5: the note before is tied"), ("r~", "`r~` at 1: a rest has no tie"),
                            ("c4 d~", "`d~` at 4: no note follows"), ("gs9", "`gs9` at 1: a key goes from 0 to 127"),
                            ("c4/0", "`c4/0` at 1"), ("+".join(["c4"] * 17), "a chord has at most 16")):

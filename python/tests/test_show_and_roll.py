@@ -83,7 +83,9 @@ track 1
         self.assertEqual((answer.status, answer.said), (1, "formula: file refused: byte 0 fault 22\n"))
         self.assertEqual(score("show", self.folder / "none.mid").status, 2)
         # a text that begins as a score is judged as one
-        self.assertEqual(score("show", EXAMPLES / "refused" / "not_expected_behind_play_outside_rhythm.score").said[:24], "formula: score refused: ")
+        self.assertEqual(score("show",
+                               EXAMPLES / "refused" / "not_expected_behind_play_outside_rhythm.score").said[:24],
+                         "formula: score refused: ")
 
     def test_a_record(self) -> None:
         data = bytes_of(EXAMPLES / "records" / "least.hex")

@@ -43,7 +43,8 @@ class Summaries(unittest.TestCase):
         return answer.status, json.loads(answer.said)
 
     def played(self, *words: object) -> "subprocess.CompletedProcess[str]":
-        return subprocess.run([TOP / "bin" / "formula-score", "play", *map(str, words)], capture_output=True, text=True, errors="replace",
+        return subprocess.run([TOP / "bin" / "formula-score", "play", *map(str, words)], capture_output=True, text=True,
+                              errors="replace",
                               env={"FORMULA": str(PROGRAM), "PATH": "/usr/bin:/bin"}, check=False)
 
     def test_play_bars_and_show_sum_up(self) -> None:
@@ -59,26 +60,32 @@ class Summaries(unittest.TestCase):
             "0": {"notes": 3, "low": 60, "high": 69}, "2": {"notes": 1, "low": 76, "high": 76},
             "9": {"notes": 1, "low": 36, "high": 36}}})
         # the pages of the tutorial say that its piece ends at tick 42,120: 43.875 seconds
-        self.assertEqual(score("bars", PIECE, "--summary").said.splitlines()[0], "202 events, 16 bars, 43.9 seconds, 4 processes")
+        self.assertEqual(score("bars", PIECE, "--summary").said.splitlines()[0],
+                         "202 events, 16 bars, 43.9 seconds, 4 processes")
 
     def test_show_gives_bars_of_a_score_through_deformations(self) -> None:
         said = score("show", self.path).said.splitlines()
         self.assertEqual([" ".join(line.split()) for line in said], [
             "4 processes, 480 ticks a quarter note, end at tick 7680, meter 4/4",
             "0 1:1 0 c4 velocity 64 1728 ticks process 0, line 3",
-            "1920 2:1 0 d4 velocity 64 3456 ticks process 1, line 5", "1920 2:1 0 a4 velocity 64 3456 ticks process 1, line 5",
+            "1920 2:1 0 d4 velocity 64 3456 ticks process 1, line 5",
+            "1920 2:1 0 a4 velocity 64 3456 ticks process 1, line 5",
             "1920 2:1 9 c2 (bass drum) velocity 64 1728 ticks process 2, line 6",
-            "5760 3:1 2 program 5 (electric piano 2) process 3, line 8", "5760 3:1 2 e5 velocity 64 1728 ticks process 3, line 8",
+            "5760 3:1 2 program 5 (electric piano 2) process 3, line 8",
+            "5760 3:1 2 e5 velocity 64 1728 ticks process 3, line 8",
             "7680 4:1 end of track"])
         events = self.json("show", self.path)[1]["events"]
-        self.assertEqual(events[1], {"tick": 1920, "track": 0, "message": "90 3E 40", "words": "d4  velocity 64", "channel": 0,
-                                     "end": 5376, "bar": 2, "beat": 1, "ticks": 0, "process": 1, "line": 5, "column": 24})
+        self.assertEqual(events[1], {"tick": 1920, "track": 0, "message": "90 3E 40", "words": "d4  velocity 64",
+                                     "channel": 0,
+                                     "end": 5376, "bar": 2, "beat": 1, "ticks": 0, "process": 1, "line": 5,
+                                     "column": 24})
 
     def test_json_of_bars_and_lint(self) -> None:
         status, value = self.json("bars", self.path)
         self.assertEqual((status, value["lengths"][-1]), (0, {"line": 0, "what": "the piece", "lasts": "3 bars",
                                                               "where": "bars 1 to 3"}))
-        self.assertEqual(self.json("bars", self.path, "--tick", 3), (0, {"bar": 3, "ticks": [{"tick": 5760, "processes": [3]}]}))
+        self.assertEqual(self.json("bars", self.path, "--tick", 3), (0, {"bar": 3, "ticks": [{"tick": 5760,
+                                                                                              "processes": [3]}]}))
         self.assertEqual(self.json("bars", self.path, "--bar", 3840), (0, {"tick": 3840, "places": [
             {"process": 1, "line": 5, "column": 24, "bar": 2, "beat": 3, "ticks": 0}]}))
         self.path.write_text("formula 1; note es4 1/4;")
@@ -95,7 +102,8 @@ class Summaries(unittest.TestCase):
         for words in (["bars"], ["lint"], ["show"], ["diff", str(self.path)]):
             status, value = self.json(*words, self.path)
             refused = value["refused"]
-            self.assertEqual((refused["line"], refused["column"], refused["fault"], value["status"]), (2, 8, 3, status), words)
+            self.assertEqual((refused["line"], refused["column"], refused["fault"], value["status"]), (2, 8, 3, status),
+                             words)
             self.assertTrue(refused["cure"], words)
         done = self.played(self.path, out, "--json")
         value = json.loads(done.stdout)
@@ -109,7 +117,8 @@ class Summaries(unittest.TestCase):
         self.assertEqual(self.played("-", self.folder / "t.mid", "--summary").returncode, 1)
         self.assertEqual(self.played(self.path, self.folder / "t.rec", "--record", "--json").returncode, 1)
         self.assertFalse((self.folder / "t.rec").exists())
-        self.assertEqual(score("bars", "/none", "--summary"), Answer(2, "", "'/none' cannot be read: No such file or directory\n"))
+        said = "'/none' cannot be read: No such file or directory\n"
+        self.assertEqual(score("bars", "/none", "--summary"), Answer(2, "", said))
         done = self.played(self.path, "-", "--summary")
         self.assertEqual((done.stdout[:4], done.stderr.splitlines()), ("MThd", SUMMARY))
 

@@ -46,7 +46,8 @@ class Transposes(unittest.TestCase):
             self.assertEqual((answer.status, " ".join(found)), (0, wanted), (names, by))
 
     def test_drums_stay_also_those_of_a_phrase(self) -> None:
-        text = "formula 1;\nphrase beat { note c2 1/4; }\nchannel 9 { do beat; note d2 1/4; channel 1 { note e4 1/4; } }\n"
+        text = ("formula 1;\nphrase beat { note c2 1/4; }\n"
+                "channel 9 { do beat; note d2 1/4; channel 1 { note e4 1/4; } }\n")
         self.assertEqual(self.transposed(text, -2).status, 0)
         self.assertEqual(self.path.read_text(), text.replace("e4", "d4"))
         answer = self.transposed(text + "do beat;\n", -2)
@@ -70,7 +71,8 @@ class Transposes(unittest.TestCase):
 
     def test_a_pitch_out_of_range_and_other_faults_keep_the_file(self) -> None:
         text = "formula 1; note c4 1/4; note f9 1/4;"
-        for words, status, said in ((["4"], 1, "tune.score:1:30: `f9` moved by 4 is key 129"), (["200"], 2, "-127 to 127"),
+        for words, status, said in ((["4"], 1, "tune.score:1:30: `f9` moved by 4 is key 129"), (["200"], 2,
+                                                                                                "-127 to 127"),
                                     (["2", "--to", str(self.path.parent)], 4, "cannot be written")):
             answer = self.transposed(text, *words)
             self.assertEqual((answer.status, answer.said, self.path.read_text()), (status, "", text), words)

@@ -21,7 +21,8 @@ class Written(NamedTuple):
 
 
 def written(data: bytes, start: int) -> Optional[Written]:
-    """The notes of a comment on the line that begins at a byte; None where there is none, or they are below it already."""
+    """The notes of a comment on the line that begins at a byte; None where there is none, or they are below it
+    already."""
     found = _COMMENT.match(data, start)
     if found is None:
         return None

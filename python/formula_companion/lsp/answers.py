@@ -68,7 +68,8 @@ class Text:
         action: Value = {"title": "write the notes of this comment", "kind": _REWRITE}
         if found.wrong:
             return [{**action, "disabled": {"reason": found.wrong}}]
-        return [{**action, "edit": {"changes": {self.uri: [{"range": self.range(found.end, found.end), "newText": found.new}]}}}]
+        return [{**action, "edit": {"changes": {self.uri: [{"range": self.range(found.end, found.end),
+                                                            "newText": found.new}]}}}]
 
     def formatting(self) -> list[Value]:
         """The change that sets the text in one layout; none where it is set, or cannot be read."""

@@ -60,7 +60,8 @@ class Server:
             "positionEncoding": "utf-16", "textDocumentSync": {"openClose": True, "change": _FULL},
             "hoverProvider": True, "completionProvider": {"triggerCharacters": [" "]}, "definitionProvider": True,
             "referencesProvider": True, "documentSymbolProvider": True,
-            "codeActionProvider": {"codeActionKinds": ["quickfix", "refactor.rewrite"]}, "documentFormattingProvider": True,
+            "codeActionProvider": {"codeActionKinds": ["quickfix", "refactor.rewrite"]},
+            "documentFormattingProvider": True,
             "renameProvider": {"prepareProvider": True}}}
 
     def initialized(self, _: Value) -> None:

@@ -49,7 +49,8 @@ def run(options: argparse.Namespace) -> int:
         return _tell_bar(agreed(text), meter, options)
     rows, found = counted(reading, meter)
     if options.json:
-        put({"meter": str(meter), "lengths": [row._asdict() for row in rows], "findings": [each._asdict() for each in found]})
+        put({"meter": str(meter), "lengths": [row._asdict() for row in rows],
+             "findings": [each._asdict() for each in found]})
         return 1 if found else 0
     print(f"meter {meter}" + (f", upbeat {options.upbeat}" if meter.upbeat else ""))
     for line in table(rows):
@@ -87,7 +88,8 @@ def _tell_bar(walk: Played, meter: Meter, options: argparse.Namespace) -> int:
     at = {happening.process: _written(walk, happening, tick) for happening in playing}
     if options.json:
         put({"tick": tick, "places": [{"process": happening.process, "line": happening.statement.line,
-                                       "column": happening.statement.first.column, **meter.at(at[happening.process])._asdict()}
+                                       "column": happening.statement.first.column,
+                                       **meter.at(at[happening.process])._asdict()}
                                       for happening in playing]})
         return 0
     found: dict[int, list[tuple[Happening, str]]] = {}

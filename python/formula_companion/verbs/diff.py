@@ -21,13 +21,13 @@ def arguments(parser: argparse.ArgumentParser) -> None:
     json_argument(parser, "an object with `changes`, each with its bars, part, process, kind and words")
     parser.description = f"""{parser.description}
 
-A line for each bar names what differs in each part: notes that are added, gone, moved, at another pitch, louder, longer;
-programs, controllers, bends; and the tempo of the bar in the mean. Bars that follow one another with the same words are one
-line. Where B has more or fewer bars, equal bars are found again, and the others are new or gone.
+A line for each bar names what differs in each part: notes that are added, gone, moved, at another pitch, louder,
+longer; programs, controllers, bends; and the tempo of the bar in the mean. Bars that follow one another with the same
+words are one line. Where B has more or fewer bars, equal bars are found again, and the others are new or gone.
 
-Of two scores bars are as they are written; a part is a branch and its channel, with the name of the branch. Of a file they
-are counted over its ticks, by --meter, else by its own meter, and so are those of a score beside a file. Lengths are how
-long notes sound.
+Of two scores bars are as they are written; a part is a branch and its channel, with the name of the branch. Of a file
+they are counted over its ticks, by --meter, else by its own meter, and so are those of a score beside a file. Lengths
+are how long notes sound.
 
 The status is 1 where they differ, and 2 where one cannot be read or is refused."""
 

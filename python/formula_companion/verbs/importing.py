@@ -72,7 +72,8 @@ def run(options: argparse.Namespace) -> int:
     save(options.score, found.text.encode())
     phrases = sum(line.startswith("phrase ") for line in found.text.splitlines())
     if options.json:
-        put({"notes": sum(map(is_on, listing.events)), "lines": found.lines, "out": options.score, "branches": found.branches,
+        put({"notes": sum(map(is_on, listing.events)), "lines": found.lines, "out": options.score,
+             "branches": found.branches,
              "phrases": phrases, "bytes": len(found.text.encode()), "is_good": found.is_good})
         return 0 if found.is_good else 1
     _tell(options.file, listing)

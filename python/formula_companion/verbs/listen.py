@@ -1,4 +1,5 @@
-"""The verb `listen`: plays a score, some bars or a phrase of it, through a synthesizer, or writes the sound to a file."""
+"""The verb `listen`: plays a score, some bars or a phrase of it, through a synthesizer, or writes the sound to a
+file."""
 
 from __future__ import annotations
 
@@ -29,24 +30,28 @@ def arguments(parser: argparse.ArgumentParser) -> None:
     parser.add_argument("--bars", type=bars_of, metavar="9-12", help="these bars alone, as `excerpt` cuts them")
     meter_arguments(parser)
     process_argument(parser)
-    parser.add_argument("--phrase", metavar="NAME", help="this phrase alone, as it is played first, in a loop; with --to once")
+    parser.add_argument("--phrase", metavar="NAME",
+                        help="this phrase alone, as it is played first, in a loop; with --to once")
     parser.add_argument("--channel", type=int, choices=range(16), metavar="N", help="one channel alone, 0 to 15")
     parser.add_argument("--speed", type=int, metavar="80", default=100, help="so many percent of the speed, 10 to 1000")
-    parser.add_argument("--click", action="store_true", help="a click on each beat of --meter, through all deformations")
-    parser.add_argument("--follow", action="store_true", help="play again whenever SCORE is saved, from the bar that is heard; a "
+    parser.add_argument("--click", action="store_true",
+                        help="a click on each beat of --meter, through all deformations")
+    parser.add_argument("--follow", action="store_true",
+                        help="play again whenever SCORE is saved, from the bar that is heard; a "
                         "text that is refused is told, and the old one plays on")
     parser.add_argument("--to", metavar="OUT", help="write the sound to a file: .wav, .flac or .ogg")
     parser.add_argument("--font", metavar="FILE.sf2", help="the sound font for fluidsynth")
     parser.description = f"""{parser.description}
 
-It takes fluidsynth where there is a sound font, else timidity; where neither is there it says which package has it, and the
-status is 1. The file that they play is the program's; with --phrase, --channel, --speed and --click the companion makes one
-of it, outside the proof. What the synthesizer says that is wrong is told, and OUT is written whole or not at all."""
+It takes fluidsynth where there is a sound font, else timidity; where neither is there it says which package has it,
+and the status is 1. The file that they play is the program's; with --phrase, --channel, --speed and --click the
+companion makes one of it, outside the proof. What the synthesizer says that is wrong is told, and OUT is written
+whole or not at all."""
 
 
 class Made(NamedTuple):
-    """A file that is to be heard: its bytes, the tick of the piece at which it begins, its seconds, and the bars of the piece
-    with their ticks, for a text that is followed."""
+    """A file that is to be heard: its bytes, the tick of the piece at which it begins, its seconds, and the bars of
+    the piece with their ticks, for a text that is followed."""
 
     data: bytes
     begin: int
@@ -149,7 +154,8 @@ def _follow(options: argparse.Namespace) -> None:
 
 
 def _until_saved(options: argparse.Namespace, made: Made) -> int:
-    """Plays a file until the score is saved with a text that is accepted: the bar that was heard then, 0 behind the end."""
+    """Plays a file until the score is saved with a text that is accepted: the bar that was heard then, 0 behind the
+    end."""
     words, stamp = needed_player(options.font), _stamp(options.score)
     begins = f" from bar {options.bars.first}" if options.bars else ""
     with _file(options, made) as path, tempfile.TemporaryFile() as said, \

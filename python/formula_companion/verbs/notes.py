@@ -17,7 +17,8 @@ def arguments(parser: argparse.ArgumentParser) -> None:
     parser.add_argument("line", metavar="LINE", nargs="+", help="the notes, as \"c4 d e/8 f g/2 | r c4+e+g/2.\"")
     parser.add_argument("--phrase", metavar="NAME", help="as a phrase of this name")
     meter_arguments(parser)
-    parser.add_argument("--division", type=int, metavar="N", default=480, help="the ticks of a quarter note, 24 to 960, where "
+    parser.add_argument("--division", type=int, metavar="N", default=480,
+                        help="the ticks of a quarter note, 24 to 960, where "
                         "the score states them; else 480")
     parser.description = f"""{parser.description}
 

@@ -34,7 +34,8 @@ def process_argument(parser: argparse.ArgumentParser) -> None:
 
 def json_argument(parser: argparse.ArgumentParser, what: str) -> None:
     """The option --json."""
-    parser.add_argument("--json", action="store_true", help=f"JSON in place of lines: {what}. A refusal is an object, too. "
+    parser.add_argument("--json", action="store_true",
+                        help=f"JSON in place of lines: {what}. A refusal is an object, too. "
                         "formula-score(1) has the schema")
 
 
@@ -49,7 +50,8 @@ def failure(failed: Failed, path: str) -> dict[str, Any]:
     place, byte = place_of(failed.said), file_place_of(failed.said)
     if place is not None:
         found = refusal(text_of(path), place)
-        refused = {"line": place.line, "column": place.column, "fault": place.number, "heading": found.heading, "cure": found.cure}
+        refused = {"line": place.line, "column": place.column, "fault": place.number, "heading": found.heading,
+                   "cure": found.cure}
     elif byte is not None:
         refused = {"byte": byte[0], "fault": byte[1], "heading": failed.why}
     return {"status": failed.status, "said": failed.said, "why": failed.why, "refused": refused}
@@ -63,7 +65,8 @@ def is_score(path: str) -> bool:
 
 def summary_argument(parser: argparse.ArgumentParser) -> None:
     """The option --summary."""
-    parser.add_argument("--summary", action="store_true", help="a few lines alone: events, bars, seconds, processes, keys by "
+    parser.add_argument("--summary", action="store_true",
+                        help="a few lines alone: events, bars, seconds, processes, keys by "
                         "channel")
 
 

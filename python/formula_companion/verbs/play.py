@@ -43,9 +43,10 @@ Runs formula on the same words, and is safe in the hand:
 - `-`, /dev/stdout and other open descriptors may be OUT, with `>`, `>>` and pipes, whatever is asked for: the file is
   made first, and then copied there. What the program says then goes to standard error. `-` as IN is standard input.
 
-The options are those of formula(1), and two more. --summary prints what was played: events, length in bars of 4/4 and in
-seconds, processes, keys by channel. --json prints one line of JSON: `status`, `said`, `why`, of a refused text `refused` with
-its place and the cure, and with --summary the `summary`. Where OUT is standard output both go to standard error. --help prints this, --version from what the program was proved.
+The options are those of formula(1), and two more. --summary prints what was played: events, length in bars of 4/4 and
+in seconds, processes, keys by channel. --json prints one line of JSON: `status`, `said`, `why`, of a refused text
+`refused` with its place and the cure, and with --summary the `summary`. Where OUT is standard output both go to
+standard error. --help prints this, --version from what the program was proved.
 
 example: formula-score play tune.score tune.mid
 
@@ -67,7 +68,8 @@ def main(words: Sequence[str], name: str, version: str) -> int:
     own = {option for option in options if option in OWN}
     asked = read([word for at, word in enumerate(words) if at >= len(options) or word not in own])
     if own and (asked.wrong or asked.task in ("--audit", "--list", "--record", "--locate") or asked.files[0] == "-"):
-        asked = asked._replace(wrong=asked.wrong or f"{' and '.join(sorted(own))} need a score in a file, and its MIDI file as OUT")
+        asked = asked._replace(wrong=asked.wrong
+                               or f"{' and '.join(sorted(own))} need a score in a file, and its MIDI file as OUT")
     if asked.wrong:
         return _end(End(WORDS, LINES[WORDS], f"{asked.wrong}\n{USAGE.replace('formula', name, 1)}"))
     target = asked.files[1]

@@ -34,8 +34,9 @@ read; where a verb plays (play, excerpt, listen, roll), the status of formula.""
 class Verb(NamedTuple):
     """A module of this package that has `arguments(parser)` and `run(options) -> int`, what it is for, and a use of it.
 
-    One that takes words in its own way has `main(words, name, version) -> int`, and `words()`, its options. None imports at
-    its head what Python has not by itself: the libraries of a verb stand in `FEATURES` of `formula_score.host.packages`.
+    One that takes words in its own way has `main(words, name, version) -> int`, and `words()`, its options. None
+    imports at its head what Python has not by itself: the libraries of a verb stand in `FEATURES` of
+    `formula_score.host.packages`.
     """
 
     module: str
@@ -48,7 +49,8 @@ class Verb(NamedTuple):
 VERBS: dict[str, Verb] = {
     "play": Verb("play", "run formula so that OUT is the old file or the whole new one, or standard output",
                  "tune.score tune.mid", True),
-    "listen": Verb("listen", "play a score, or some bars of it, through fluidsynth or timidity", "tune.score --bars 9-12"),
+    "listen": Verb("listen", "play a score, or some bars of it, through fluidsynth or timidity",
+                   "tune.score --bars 9-12"),
     "bars": Verb("bars", "count the bars of a score, check the comments that count them, tell the tick of a bar",
                  "tune.score --meter 3/4"),
     "lint": Verb("lint", "say what is accepted in a score, and hardly meant", "tune.score"),
@@ -56,7 +58,8 @@ VERBS: dict[str, Verb] = {
                   '"c4 d e r | f4~ f g/8. a/16 c5+e/4" --phrase tune >> my.score'),
     "transpose": Verb("transpose", "move the written pitches of a score, or of one phrase, and leave all else as it is",
                       "tune.score 2 --phrase opening"),
-    "format": Verb("format", "set the text of a score in one layout, with every comment and event kept", "tune.score --check"),
+    "format": Verb("format", "set the text of a score in one layout, with every comment and event kept",
+                   "tune.score --check"),
     "diff": Verb("diff", "say in what two scores or MIDI files differ, bar by bar", "old.score new.score --meter 3/4"),
     "show": Verb("show", "print the events of a MIDI file, with names, bars and beats, or the steps of a record",
                  "tune.mid --meter 4/4"),
@@ -66,12 +69,14 @@ VERBS: dict[str, Verb] = {
                     "tune.score third.mid --bars 9-12"),
     "export": Verb("exporting", "write a score for notation programs, with a tempo map, a meter and names",
                    "tune.score print.mid --meter 4/4"),
-    "import": Verb("importing", "write a score from a MIDI file, play it, and compare each event", "tune.mid tune.score"),
+    "import": Verb("importing", "write a score from a MIDI file, play it, and compare each event",
+                   "tune.mid tune.score"),
     "studio": Verb("studio", "show and play a score in the browser while it is written", "tune.score"),
     "lsp": Verb("lsp", "serve an editor that speaks LSP: what is refused, completion, names, an outline", ""),
     "batch": Verb("batch", "play every score of a folder, over all processors, or by a cluster of machines",
                   "scores midi -j 4", True),
-    "needs": Verb("needs", "say which of Debian's packages are missing, for sound, the studio, editors and tests", "sound"),
+    "needs": Verb("needs", "say which of Debian's packages are missing, for sound, the studio, editors and tests",
+                  "sound"),
 }
 
 

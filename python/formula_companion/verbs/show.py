@@ -69,8 +69,8 @@ def _of_score(options: argparse.Namespace) -> Shown:
     walk = agreed(judge(options.file))
     meter = Meter(options.meter or groups_of("4/4"), options.upbeat, walk.reading.whole)
     listing = sent_of(walk)
-    head = (f"{counted(len(walk.begun), 'process')}, {listing.division} ticks a quarter note, end at tick {listing.end}, "
-            f"meter {meter}")
+    head = (f"{counted(len(walk.begun), 'process')}, {listing.division} ticks a quarter note, end at tick "
+            f"{listing.end}, meter {meter}")
     return Shown(head, listing, meter, summary.of_score(walk, meter))
 
 

@@ -22,11 +22,11 @@ def arguments(parser: argparse.ArgumentParser) -> None:
     parser.description = f"""{parser.description}
 
 Names as `fs4` and keys as `key 66` are written anew, and all else stays byte by byte. Names go by the new key: what is
-F sharp in D major is G sharp in E major. What is played on channel {DRUM_CHANNEL} are drums, and stays. Where a pitch leaves the keys from
-0 to 127, nothing is written, and its place is told.
+F sharp in D major is G sharp in E major. What is played on channel {DRUM_CHANNEL} are drums, and stays. Where a pitch
+leaves the keys from 0 to 127, nothing is written, and its place is told.
 
-A pitch that is computed or drawn, as `key (60 + n0)`, stays; each is told with its place, and the status is 1. Where there
-is none, the program plays both texts: each note has to be moved by just N, at its tick."""
+A pitch that is computed or drawn, as `key (60 + n0)`, stays; each is told with its place, and the status is 1. Where
+there is none, the program plays both texts: each note has to be moved by just N, at its tick."""
 
 
 def _semitones(word: str) -> int:
@@ -71,5 +71,5 @@ def _compare(old: Listing, new: Listing, by: int, only: Optional[str]) -> None:
     if len(old.events) != len(new.events) or any(
             one.tick != other.tick or other.message not in {moved(one.message), *([one.message] if only else [])}
             for one, other in pairs):
-        raise Failed(1, "the program does not play each note moved by so much: this is a fault of the companion, and nothing is "
-                        "written")
+        raise Failed(1, "the program does not play each note moved by so much: this is a fault of the companion, and "
+                     "nothing is written")

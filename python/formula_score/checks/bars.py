@@ -62,7 +62,8 @@ def _rows(reading: Reading, structure: Structure, meter: Meter,
         if not spans:
             known = reading.length(phrase.block.statements)
             lasts = [meter.lasts(meter.upbeat, meter.upbeat + known)] if known is not None else ["?"]
-        yield Row(phrase.name.line, f"phrase {name}", " or ".join(lasts), _times(spans, meter) if spans else "never played")
+        where = _times(spans, meter) if spans else "never played"
+        yield Row(phrase.name.line, f"phrase {name}", " or ".join(lasts), where)
     for par, played in structure.pars.values():
         for at, block in enumerate(par.blocks):
             spans = [branches[at] for branches in played]

@@ -10,7 +10,8 @@ from .pieces import Bar, Part, Piece, Tone, Word
 
 #: What of a note has a degree: the words for more and less of it, and its value.
 _DEGREES: dict[str, tuple[str, str, Callable[[Tone], Union[int, Fraction]]]] = {
-    "velocity": ("louder", "softer", lambda tone: tone.velocity), "length": ("longer", "shorter", lambda tone: tone.sounds)}
+    "velocity": ("louder", "softer", lambda tone: tone.velocity),
+    "length": ("longer", "shorter", lambda tone: tone.sounds)}
 #: So many notes of a bar are named one by one.
 _NAMED = 3
 #: Tempos that differ by less are one.
@@ -18,7 +19,8 @@ _NEAR = 0.005
 
 
 class Change(NamedTuple):
-    """Something that differs: its kind, in words, the bar of the older and of the newer piece, the part, and its process.
+    """Something that differs: its kind, in words, the bar of the older and of the newer piece, the part, and its
+    process.
 
     A bar is None where a piece has none; part and process are None of the tempo and of whole bars. `facts` has what the
     words were made of.
@@ -50,20 +52,23 @@ def changes(old: Piece, new: Piece) -> list[Change]:
 
 
 def _aligned(old: Piece, new: Piece) -> Iterator[tuple[Optional[int], Optional[int]]]:
-    """The bars of both, those that belong together side by side. Where both have as many bars, these go by their numbers."""
+    """The bars of both, those that belong together side by side. Where both have as many bars, these go by their
+    numbers."""
     before, now = ([bar.signature for bar in piece.bars] for piece in (old, new))
     if len(old.bars) == len(new.bars):
         yield from ((old.first + at, new.first + at) for at in range(len(old.bars)))
         return
     for _, low, high, begin, end in SequenceMatcher(None, before, now, autojunk=False).get_opcodes():
         for at in range(max(high - low, end - begin)):
-            yield (old.first + low + at if low + at < high else None, new.first + begin + at if begin + at < end else None)
+            yield (old.first + low + at if low + at < high else None,
+                   new.first + begin + at if begin + at < end else None)
 
 
 def _whole(piece: Piece, at: Optional[int], to: Optional[int]) -> Change:
     bar = piece.bars[(at if at is not None else to or 0) - piece.first]
     count = sum(map(len, bar.tones.values()))
-    return Change("bar added" if at is None else "bar gone", "new" if at is None else "gone", at, to, None, None, {"notes": count})
+    return Change("bar added" if at is None else "bar gone", "new" if at is None else "gone", at, to, None, None,
+                  {"notes": count})
 
 
 def _change(kind: str, words: str, process: int, **facts: Any) -> Change:
@@ -78,13 +83,15 @@ def _tones(one: Bar, other: Bar, part: Part, piece: Piece, number: int) -> Itera
     moved = _pairs(gone, added, lambda tone: tone.key)
     yield from _other_keys(other_keys, piece, number)
     for before, behind in moved:
-        yield _change("moved", f"{behind.name} from {piece.beat(number, before.begin)} to {piece.beat(number, behind.begin)}",
+        yield _change("moved",
+                      f"{behind.name} from {piece.beat(number, before.begin)} to {piece.beat(number, behind.begin)}",
                       behind.process, key=behind.key, begin=str(behind.begin), before=str(before.begin))
     for kind, tones in (("gone", gone), ("added", added)):
         if len(tones) > _NAMED:
             yield _change(kind, f"{len(tones)} notes {kind}", tones[0].process, notes=len(tones))
         else:
-            yield from (_change(kind, f"{tone.name} {kind} at {piece.beat(number, tone.begin)}", tone.process, key=tone.key,
+            yield from (_change(kind, f"{tone.name} {kind} at {piece.beat(number, tone.begin)}", tone.process,
+                                key=tone.key,
                                 begin=str(tone.begin)) for tone in tones)
     yield from _degrees([*same, *other_keys, *moved])
 
@@ -105,11 +112,14 @@ def _other_keys(pairs: list[tuple[Tone, Tone]], piece: Piece, number: int) -> It
     by = {behind.key - before.key for before, behind in pairs}
     if len(pairs) > _NAMED:
         step = by.pop() if len(by) == 1 else 0
-        how = f"{abs(step)} semitone{'s' * (abs(step) != 1)} {'higher' if step > 0 else 'lower'}" if step else "at another pitch"
-        yield _change("pitch", f"{len(pairs)} notes {how}", pairs[0][1].process, notes=len(pairs), semitones=step or None)
+        semitones = f"{abs(step)} semitone{'s' * (abs(step) != 1)}"
+        how = f"{semitones} {'higher' if step > 0 else 'lower'}" if step else "at another pitch"
+        yield _change("pitch", f"{len(pairs)} notes {how}", pairs[0][1].process, notes=len(pairs),
+                      semitones=step or None)
         return
     for before, behind in pairs:
-        yield _change("pitch", f"{behind.name} in place of {before.name} at {piece.beat(number, behind.begin)}", behind.process,
+        yield _change("pitch", f"{behind.name} in place of {before.name} at {piece.beat(number, behind.begin)}",
+                      behind.process,
                       key=behind.key, before=before.key, begin=str(behind.begin))
 
 
@@ -123,7 +133,8 @@ def _degrees(pairs: list[tuple[Tone, Tone]]) -> Iterator[Change]:
         count = "" if len(differ) == len(pairs) else f"{len(differ)} of {len(pairs)} notes "
         kind = kinds.pop() if len(kinds) == 1 else f"{more} and {less}"
         yield _change(kind, count + kind + _by(name, differ), pairs[0][1].process, notes=len(differ),
-                      before=sorted({str(before) for before, _ in differ}), now=sorted({str(behind) for _, behind in differ}))
+                      before=sorted({str(before) for before, _ in differ}),
+                      now=sorted({str(behind) for _, behind in differ}))
 
 
 def _by(name: str, differ: list[tuple[Any, Any]]) -> str:
@@ -144,20 +155,24 @@ def _words(one: Bar, other: Bar, part: Part, piece: Piece, number: int) -> Itera
         gone.remove(word)
         added.remove(next(each for each in added if _is_like(word, each)))
     if len(gone) + len(added) > 2 * _NAMED:
-        yield _change("messages", f"{len(gone)} messages in place of {len(added)}" if gone else f"{len(added)} messages added",
+        yield _change("messages",
+                      f"{len(gone)} messages in place of {len(added)}" if gone else f"{len(added)} messages added",
                       (added or gone)[0].process, gone=len(gone), added=len(added))
         return
     for word in gone:
         now = next((each for each in added if (each.begin, each.what) == (word.begin, word.what)), None)
         if now is not None:
             added.remove(now)
-            yield _change("message", f"{_said(now)} in place of {word.value}", now.process, what=word.what, before=word.value,
+            yield _change("message", f"{_said(now)} in place of {word.value}", now.process, what=word.what,
+                          before=word.value,
                           now=now.value)
         else:
-            yield _change("message", f"{_said(word)} gone at {piece.beat(number, word.begin)}", word.process, what=word.what,
+            yield _change("message", f"{_said(word)} gone at {piece.beat(number, word.begin)}", word.process,
+                          what=word.what,
                           before=word.value)
     for word in added:
-        yield _change("message", f"{_said(word)} added at {piece.beat(number, word.begin)}", word.process, what=word.what,
+        yield _change("message", f"{_said(word)} added at {piece.beat(number, word.begin)}", word.process,
+                      what=word.what,
                       now=word.value)
 
 
@@ -186,7 +201,8 @@ def lines(found: list[Change]) -> Iterator[str]:
         words = f"{part}{change.words}"
         if rows and rows[-1][:2] == (change.old, change.new):
             before = rows.pop()[2]
-            is_same_part = part and before.rpartition("; ")[2].startswith(part) and part not in before.rpartition("; ")[0]
+            others, _, last = before.rpartition("; ")
+            is_same_part = part and last.startswith(part) and part not in others
             words = f"{before}, {change.words}" if is_same_part else f"{before}; {words}"
         rows.append((change.old, change.new, words))
     while rows:

@@ -32,7 +32,8 @@ class Part(NamedTuple):
 
 
 class Tone(NamedTuple):
-    """A note: where in its bar it begins, its key and name, its velocity, how long it sounds, and its process; -1 in a file."""
+    """A note: where in its bar it begins, its key and name, its velocity, how long it sounds, and its process; -1 in
+    a file."""
 
     begin: Fraction
     key: int
@@ -107,7 +108,8 @@ def of_score(walk: Played, meter: Meter) -> Piece:
         if happening.statement.word in ("note", "play"):
             sounds = Fraction((happening.end - happening.begin) * happening.percent, 100 * whole)
             bar.tones.setdefault(part, []).extend(
-                Tone(begin, key, named, happening.velocity, sounds, happening.process) for key, named in _named(happening))
+                Tone(begin, key, named, happening.velocity, sounds, happening.process)
+                for key, named in _named(happening))
         else:
             bar.words.setdefault(part, []).append(_word(begin, messages_of(happening)[0][1], happening.process))
     if len(piece.bars) <= _MOST_BARS:
@@ -137,7 +139,8 @@ def _word(begin: Fraction, message: bytes, process: int) -> Word:
 
 
 def _branch(walk: Played, place: Optional[Place]) -> tuple[int, str]:
-    """The outermost branch of a place, with the name that the score has for it: a comment above it, or its first phrase."""
+    """The outermost branch of a place, with the name that the score has for it: a comment above it, or its first
+    phrase."""
     found = None
     while place is not None:
         found, place = (place if place.kind == "branch" else found), place.outer
@@ -175,7 +178,8 @@ def of_file(listing: Listing, groups: tuple[Group, ...], upbeat: Fraction) -> Pi
         piece.parts.setdefault(part, titles.get(event.track) or f"channel {part.channel}")
         if is_on(event):
             end = listing.end if sounding.end is None else sounding.end
-            bar.tones.setdefault(part, []).append(Tone(begin, event.message[1], str(Pitch(event.message[1])), event.message[2],
+            bar.tones.setdefault(part, []).append(Tone(begin, event.message[1], str(Pitch(event.message[1])),
+                                                       event.message[2],
                                                        Fraction(end - event.tick, meter.whole), -1))
         else:
             bar.words.setdefault(part, []).append(_word(begin, event.message, -1))

@@ -1,4 +1,5 @@
-"""What a score or a file is in a few lines: its events, its length in bars and seconds, its processes, its keys by channel."""
+"""What a score or a file is in a few lines: its events, its length in bars and seconds, its processes, its keys by
+channel."""
 
 from __future__ import annotations
 
@@ -40,7 +41,8 @@ class Summary(NamedTuple):
 
     def value(self) -> dict[str, Any]:
         """The summary for a program."""
-        return {**self._asdict(), "channels": {str(channel): keys._asdict() for channel, keys in sorted(self.channels.items())}}
+        channels = {str(channel): keys._asdict() for channel, keys in sorted(self.channels.items())}
+        return {**self._asdict(), "channels": channels}
 
 
 def of_score(walk: Played, meter: Meter) -> Summary:

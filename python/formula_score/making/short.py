@@ -15,12 +15,14 @@ from .lengths import MAX_LENGTH, WHOLE_NOTE, written
 from .nodes import MAX_PITCHES, Note, Rest, Seq
 from .pitch import Pitch
 
-_WORD = re.compile(r"(?P<sounds>r|[a-g][sb]?[0-9]?(?:\+[a-g][sb]?[0-9]?)*)(?:/(?P<part>[0-9]{1,4})(?P<dots>\.{0,3}))?(?P<tie>~?)")
+_WORD = re.compile(r"(?P<sounds>r|[a-g][sb]?[0-9]?(?:\+[a-g][sb]?[0-9]?)*)"
+                   r"(?:/(?P<part>[0-9]{1,4})(?P<dots>\.{0,3}))?(?P<tie>~?)")
 _FIRST = Fraction(1, 4)
 
 
 class Struck(NamedTuple):
-    """A note, a chord, or without names a rest: how its pitches are written, where it begins, and its length, in ticks."""
+    """A note, a chord, or without names a rest: how its pitches are written, where it begins, and its length, in
+    ticks."""
 
     names: tuple[str, ...]
     begin: int
@@ -116,7 +118,8 @@ def struck(line: str, whole: int = WHOLE_NOTE, bar: Optional[int] = None, upbeat
 
 
 def statements(notes: list[Struck], whole: int, bar: int, upbeat: int = 0, width: int = 100) -> Iterator[str]:
-    """The notes as lines of a score: a bar a line, or some where it is long; a note over a bar line is in its first bar."""
+    """The notes as lines of a score: a bar a line, or some where it is long; a note over a bar line is in its first
+    bar."""
     words: list[str] = []
     number: Optional[int] = None
     for note in notes:

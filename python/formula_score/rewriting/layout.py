@@ -1,9 +1,9 @@
 """The text of a score in one layout; tokens, comments, and where its lines and blocks break stay as they are written.
 
 A line is set in by two blanks for each open block. A block is on one line, or its braces end and begin lines; one that
-opens alone in another, on its line, closes with it. A statement is on one line; where lines are longer than a screen they
-break between statements, and lists behind commas. Comments behind statements have two blanks before them, or keep the
-column that they share.
+opens alone in another, on its line, closes with it. A statement is on one line; where lines are longer than a screen
+they break between statements, and lists behind commas. Comments behind statements have two blanks before them, or
+keep the column that they share.
 """
 
 from __future__ import annotations
@@ -22,8 +22,8 @@ _GAP = 2
 
 
 class Row(NamedTuple):
-    """A line: how deep it is set in, what it says, and the comment behind it; the comment's column in the old text, and how
-    many blanks were before it."""
+    """A line: how deep it is set in, what it says, and the comment behind it; the comment's column in the old text,
+    and how many blanks were before it."""
 
     depth: int
     text: str
@@ -33,7 +33,8 @@ class Row(NamedTuple):
 
 
 class _Unit(NamedTuple):
-    """A statement, a shape, a phrase or a branch: its first token, the tokens of its heads, and its blocks behind them."""
+    """A statement, a shape, a phrase or a branch: its first token, the tokens of its heads, and its blocks behind
+    them."""
 
     first: Token
     last: Token
@@ -63,7 +64,8 @@ def _units_of_score(reading: Reading) -> tuple[_Unit, ...]:
     for phrase in reading.phrases.values():
         at = starts[phrase.name.start] - 1
         inner = tuple(_unit(reading, statement) for statement in phrase.block.statements)
-        found.append(_Unit(tokens[at], phrase.block.closed, (tokens[at:at + 2],), ((phrase.block.opened, phrase.block.closed, inner),)))
+        block = phrase.block.opened, phrase.block.closed, inner
+        found.append(_Unit(tokens[at], phrase.block.closed, (tokens[at:at + 2],), (block,)))
     found.sort(key=lambda unit: unit.first.start)
     first = found[0].first.start if found else tokens[-1].start
     head: list[Token] = []
@@ -144,7 +146,8 @@ class _Page:
         """Ends the open line."""
         if comment:
             before = self.lines[comment.line - 1][:comment.column - 1]
-            self.rows.append(Row(depth, self.open, self.words(comment), comment.column, len(before) - len(before.rstrip())))
+            self.rows.append(Row(depth, self.open, self.words(comment), comment.column,
+                                 len(before) - len(before.rstrip())))
         elif self.open:
             self.rows.append(Row(depth, self.open))
         self.open = ""
@@ -154,7 +157,8 @@ class _Page:
         return self.lines[comment.line - 1][comment.column - 1:].decode("latin-1").rstrip()
 
     def comments_until(self, line: int, depth: int) -> None:
-        """Writes the comments above a line of the old text, each behind what stands on its line, or on one of its own."""
+        """Writes the comments above a line of the old text, each behind what stands on its line, or on one of its
+        own."""
         while self.comments and self.comments[0].line < line:
             comment = self.comments.pop(0)
             if comment.line == self.line and self.open:

@@ -51,8 +51,8 @@ def fifths(name: str) -> int:
 
 
 def key_of(names: list[str]) -> int:
-    """The key of some pitches: that in which most of them lie, of several the one in which they lie as they are written, and
-    then the one with fewest accidentals."""
+    """The key of some pitches: that in which most of them lie, of several the one in which they lie as they are
+    written, and then the one with fewest accidentals."""
     places = Counter(map(fifths, names))
 
     def outside(key: int) -> int:
@@ -92,7 +92,8 @@ def transposed(reading: Reading, semitones: int, only: Optional[str] = None) -> 
              and _moves(statement, heard) for written in _pitches(reading, statement)]
     names = [written.first.text for _, written in moved if written.first.text != "key"]
     old = key_of(names)
-    new = min((old + 7 * semitones + 12 * turn for turn in range(-90, 91)), key=lambda key: (abs(key), (key > 0) != (old > 0)))
+    keys = (old + 7 * semitones + 12 * turn for turn in range(-90, 91))
+    new = min(keys, key=lambda key: (abs(key), (key > 0) != (old > 0)))
     pieces, behind, left = [], 0, []
     for _, (token, end, key) in moved:
         if key is None:
@@ -132,7 +133,8 @@ def _pitches(reading: Reading, statement: Statement) -> Iterator[_Written]:
 
 
 def _channels(reading: Reading) -> dict[int, set[int]]:
-    """By the byte of each note the channels on which it is played; of a phrase that is not, as if it were on channel 0."""
+    """By the byte of each note the channels on which it is played; of a phrase that is not, as if it were on channel
+    0."""
     found: dict[int, set[int]] = {}
     seen: set[tuple[str, int]] = set()
 
@@ -158,7 +160,8 @@ def _moves(statement: Statement, heard: dict[int, set[int]]) -> bool:
     """Whether the pitches of a statement are no drums."""
     channels = heard.get(statement.first.start, set())
     if DRUM_CHANNEL in channels and len(channels) > 1:
-        raise Refused(statement.first, "this note is played on the channel of drums and on others: it cannot move for one alone")
+        raise Refused(statement.first,
+                      "this note is played on the channel of drums and on others: it cannot move for one alone")
     return bool(channels) and DRUM_CHANNEL not in channels
 
 

@@ -86,19 +86,21 @@ def _lines(walk: Played, meter: Meter, with_beats: bool) -> list[tuple[int, int]
         unit = meter.whole // meter.signature(bar).unit
         begin, end = meter.start(bar), min(last, meter.start(bar + 1))
         # the beats of an upbeat are those before the first bar
-        written += range(end - (end - begin) // unit * unit if bar == 0 else begin, end, unit) if with_beats else [begin]
+        first = end - (end - begin) // unit * unit if bar == 0 else begin
+        written += range(first, end, unit) if with_beats else [begin]
         bar += 1
     found = [(place, spot) for place, spot in zip(written, spots_of(walk, written)) if spot is not None]
     return list(zip([place for place, _ in found], ticks_of(walk.reading, [spot for _, spot in found])))
 
 
 def phrase(walk: Played, name: str) -> tuple[Tune, int]:
-    """A phrase as it is played first, alone, and the tick at which that begins: with the programs, controllers and bends that
-    hold there."""
+    """A phrase as it is played first, alone, and the tick at which that begins: with the programs, controllers and
+    bends that hold there."""
     wanted = walk.reading.phrases.get(name)
     if wanted is None:
         raise Failed(1, f"there is no phrase {name!r}; there are {', '.join(walk.reading.phrases) or 'none'}")
-    place = next((found for happening in walk.happenings for found in _places(happening.place) if found.node is wanted), None)
+    places = (found for happening in walk.happenings for found in _places(happening.place))
+    place = next((found for found in places if found.node is wanted), None)
     if place is None:
         raise Failed(1, f"phrase {name!r} is never played")
     own = [happening for happening in walk.happenings if place in _places(happening.place)]
@@ -113,7 +115,7 @@ def phrase(walk: Played, name: str) -> tuple[Tune, int]:
         sender = message.happening if isinstance(message, Sent) else None
         if sender is not None and id(sender) in inside:
             events.append((event.tick - begin, bytes(message)))
-        elif sender is not None and event.tick <= begin and message[0] >> 4 in (0xB, 0xC, 0xE) and message[0] & 15 in channels:
+        elif event.tick <= begin and message[0] >> 4 in (0xB, 0xC, 0xE) and message[0] & 15 in channels:
             state[message[0], message[1] if message[0] >> 4 == 0xB else 0] = bytes(message)
     return Tune(walk.reading.division, [*((0, message) for message in state.values()), *events], end - begin), begin
 

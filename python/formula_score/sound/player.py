@@ -47,7 +47,8 @@ def needed_player(font: Optional[str]) -> list[str]:
 
 
 def fault_of(words: list[str], status: int, said: bytes) -> Optional[str]:
-    """What a synthesizer says that is wrong, also where its status is 0; libraries below it complain of what is well."""
+    """What a synthesizer says that is wrong, also where its status is 0; libraries below it complain of what is
+    well."""
     lines = said.decode("utf-8", "replace").splitlines()
     wrong = next((line for line in lines if re.match(r"fluidsynth: (error|panic): ", line)), None)
     if wrong is None and status:
@@ -59,14 +60,16 @@ def must_be_sound(path: str) -> None:
     """Refuses a file of sound that can't be made."""
     suffix = pathlib.PurePath(path).suffix.lower()
     if suffix not in KINDS:
-        raise Failed(2, f"{path!r}: sound is written to {', '.join(KINDS)}, and {suffix or 'no suffix'!r} is none of them")
+        raise Failed(2,
+                     f"{path!r}: sound is written to {', '.join(KINDS)}, and {suffix or 'no suffix'!r} is none of them")
     folder = os.path.dirname(path) or os.curdir
     if not os.path.isdir(folder):
         raise Failed(2, f"there is no folder {folder!r}")
 
 
 def sound_of(data: bytes, path: str, seconds: float, font: Optional[str]) -> bytes:
-    """The file of sound of a MIDI file, of the kind that the suffix of a path says; it lasts so many seconds at least."""
+    """The file of sound of a MIDI file, of the kind that the suffix of a path says; it lasts so many seconds at
+    least."""
     words = needed_player(font)
     if words[0] != "fluidsynth":
         raise Failed(1, f"files of sound are made by fluidsynth. On Debian:\n  {install_line(names('sound'))}")
@@ -77,7 +80,8 @@ def sound_of(data: bytes, path: str, seconds: float, font: Optional[str]) -> byt
         # without -T it writes WAV under every name
         command = [*words[:-1], "-F", str(target), "-T", kind, words[-1], str(source)]
         try:
-            done = subprocess.run(command, stdin=subprocess.DEVNULL, stdout=subprocess.DEVNULL, stderr=subprocess.PIPE, check=False)
+            done = subprocess.run(command, stdin=subprocess.DEVNULL, stdout=subprocess.DEVNULL, stderr=subprocess.PIPE,
+                                  check=False)
         except OSError as error:
             raise Failed(1, f"{words[0]} cannot be run: {error.strerror}") from error
         wrong = fault_of(words, done.returncode, done.stderr)
