@@ -51,12 +51,17 @@ class Words(unittest.TestCase):
             self.assertRegex(manual, rf"(?m)^(\.B[IR]? |\.B formula-score ){verb}\b", verb)
 
     def test_the_nearest_verb_and_option_are_named(self) -> None:
-        for words, near in ((["lisen"], "listen"), (["exprot", "a"], "export"), (["bars", "--metre", "3/4"], "--meter"),
-                            (["lint", "a", "--halp"], "--help")):
+        for words, near, status in ((["lisen"], "listen", 2), (["exprot", "a"], "export", 2),
+                                    (["bars", "a", "--metre", "3/4"], "--meter", 2), (["lint", "a", "--halp"], "--help", 2),
+                                    (["batch", "a", "b", "--sedes", "1"], "--seeds", 70)):
             answer = score(*words)
-            self.assertEqual(answer.status, 2, words)
+            self.assertEqual(answer.status, status, words)
             self.assertIn(f"is `{near}` meant?", answer.complaint, words)
         self.assertNotIn("meant?", score("qqq").complaint)
+        done = subprocess.run([TOP / "bin" / "formula-score", "play", "a", "b", "--worker=2"], stdout=subprocess.PIPE,
+                              stderr=subprocess.PIPE, text=True, check=False)
+        self.assertEqual((done.returncode, done.stderr.splitlines()[0]),
+                         (1, "there is no option '--worker'; is `--workers` meant?"))
 
     def test_bash_completes_verbs_and_options(self) -> None:
         script = ('source "$1"; COMP_WORDS=("$2" "${@:3}"); COMP_CWORD=$(( $# - 2 )); _formula_score 2>/dev/null; '

@@ -18,6 +18,7 @@ from ..batch.results import Results
 from ..batch.running import INTERRUPTED, Ended, run
 from ..batch.telling import report, write_csv, write_json
 from .libraries import needs, restart
+from .options import near_option
 
 USAGE = "[-j N | --dask ADDRESS] [--audit] [--seeds A-B] [--seconds S] [--csv FILE] [--json] [--program FILE] FOLDER OUT"
 
@@ -54,10 +55,10 @@ class Parser(argparse.ArgumentParser):
     """A parser that ends as the verb does where it can't begin."""
 
     def error(self, message: str) -> NoReturn:
-        fail(f"{message}\nusage: {self.usage}")
+        fail(f"{message}{near_option(message, known())}\nusage: {self.usage}")
 
 
-def words() -> list[str]:
+def known() -> list[str]:
     """The options."""
     return re.findall("--[a-z]+", USAGE)
 

@@ -3,9 +3,11 @@
 from __future__ import annotations
 
 import argparse
+import difflib
 import json
+import re
 from fractions import Fraction
-from typing import Any, Optional
+from typing import Any, Iterable, Optional
 
 from formula_score.checks.summary import Summary
 from formula_score.explaining.explain import file_place_of, place_of
@@ -30,6 +32,18 @@ def process_argument(parser: argparse.ArgumentParser) -> None:
     """The option --process."""
     parser.add_argument("--process", type=int, metavar="P", help="the bars of this process, as the program numbers "
                         "them, where branches have warps of their own; else those of all")
+
+
+def near(word: str, words: Iterable[str]) -> str:
+    """The one of some words that was probably meant, as a question; nothing where none is near."""
+    found = difflib.get_close_matches(word, list(words), 1, 0.6)
+    return f"; is `{found[0]}` meant?" if found else ""
+
+
+def near_option(complaint: str, words: Iterable[str]) -> str:
+    """The option that was probably meant by one that a complaint says is unknown."""
+    found = re.match(r"(?:unrecognized arguments: |there is no option ')(--[^ =']+)", complaint)
+    return near(found[1], words) if found else ""
 
 
 def json_argument(parser: argparse.ArgumentParser, what: str) -> None:

@@ -20,7 +20,7 @@ from formula_score.reading.meter import Meter, groups_of
 from formula_score.reading.playing import Failed, program, text_of
 from formula_score.reading.ticks import agreed
 from formula_score.running.command import environment
-from .options import failure
+from .options import failure, near_option
 from .origin import origin
 from .outs import SIGNALS, Beside, Descriptor, Out, Straight, descriptor_of, out_of
 
@@ -71,7 +71,8 @@ def main(words: Sequence[str], name: str, version: str) -> int:
         asked = asked._replace(wrong=asked.wrong
                                or f"{' and '.join(sorted(own))} need a score in a file, and its MIDI file as OUT")
     if asked.wrong:
-        return _end(End(WORDS, LINES[WORDS], f"{asked.wrong}\n{USAGE.replace('formula', name, 1)}"))
+        cure = near_option(asked.wrong, known())
+        return _end(End(WORDS, LINES[WORDS], f"{asked.wrong}{cure}\n{USAGE.replace('formula', name, 1)}"))
     target = asked.files[1]
     if _is_in(target, asked.files[0]):
         end = End(WORDS, LINES[WORDS], f"IN and OUT are one file, {target!r}: give OUT another name")
@@ -82,7 +83,7 @@ def main(words: Sequence[str], name: str, version: str) -> int:
         return _end(End(NO_PROGRAM, "", failed.why))
 
 
-def words() -> list[str]:
+def known() -> list[str]:
     """The options."""
     return [*RANGES, *FLAGS, *OWN]
 

@@ -3,19 +3,17 @@
 from __future__ import annotations
 
 import argparse
-import difflib
 import importlib
 import io
 import os
-import re
 import sys
 from types import ModuleType
-from typing import Iterable, NamedTuple, NoReturn, Optional, Sequence
+from typing import NamedTuple, NoReturn, Optional, Sequence
 
 from formula_score import __version__
 from formula_score.reading.playing import Failed
 from .libraries import restart
-from .options import failure, put
+from .options import failure, near, near_option, put
 
 VERSION = f"formula-score {__version__}"
 
@@ -34,7 +32,7 @@ read; where a verb plays (play, excerpt, listen, roll), the status of formula.""
 class Verb(NamedTuple):
     """A module of this package that has `arguments(parser)` and `run(options) -> int`, what it is for, and a use of it.
 
-    One that takes words in its own way has `main(words, name, version) -> int`, and `words()`, its options. None
+    One that takes words in its own way has `main(words, name, version) -> int`, and `known()`, its options. None
     imports at its head what Python has not by itself: the libraries of a verb stand in `FEATURES` of
     `formula_score.host.packages`.
     """
@@ -84,15 +82,8 @@ class Parser(argparse.ArgumentParser):
     """A parser whose complaint names what helps: the nearest of its options, too."""
 
     def error(self, message: str) -> NoReturn:
-        wrong = re.match(r"unrecognized arguments: (--[^ =]+)", message)
-        cure = near(wrong[1], [word for action in self._actions for word in action.option_strings]) if wrong else ""
+        cure = near_option(message, [word for action in self._actions for word in action.option_strings])
         self.exit(MISUSED, f"{self.prog}: {message}{cure}\ntry: {self.prog} --help\n")
-
-
-def near(word: str, words: Iterable[str]) -> str:
-    """The one of some words that was probably meant, as a question; nothing where none is near."""
-    found = difflib.get_close_matches(word, list(words), 1, 0.6)
-    return f"; is `{found[0]}` meant?" if found else ""
 
 
 def _usage(name: str) -> str:
@@ -123,7 +114,7 @@ def completions(verbs: Sequence[str]) -> list[str]:
     verb = VERBS[verbs[0]]
     module = importlib.import_module(f".{verb.module}", __package__)
     if verb.takes_words:
-        return [*module.words(), "--help", "--version"]
+        return [*module.known(), "--help", "--version"]
     return [word for action in _parser(module, verb, "")._actions for word in action.option_strings if word[:2] == "--"]
 
 
