@@ -91,6 +91,13 @@ class Layouts(unittest.TestCase):
         lines = formatted(read(f"formula 1; {shape}".encode())).decode().splitlines()
         self.assertEqual([line[:8] for line in lines], ["formula ", "shape s ", *["    flat"] * 3])
         self.assertLessEqual(max(map(len, lines)), 120)
+        # heads of blocks that open on one line break within their lists, and once more in the same places
+        entries = ", ".join(["100"] * 21)
+        heads = f"loud [{entries}] {{ artic [{entries}] {{\n note c4 1/4;\n }} }}"
+        new = formatted(read(f"formula 1;\n{heads}".encode()))
+        self.assertEqual([line[:9] for line in new.decode().splitlines()[1:]],
+                         ["loud [100", "    100, ", "  note c4", "} }"])
+        self.assertEqual(formatted(read(new)), new)
 
 
 @needs_program

@@ -136,6 +136,7 @@ class _Page:
         self.comments = list(reading.comments)
         self.line = 1                   # of the old text, of what was written last
         self.open = ""                  # the line that is written
+        self.more = 0                   # how much deeper it is set in, where it goes on with a statement
         self.is_closed = False          # whether it ends with a brace that closes more than a line
         self.lines = reading.text.split(b"\n")
         self.starts = list(accumulate((len(line) + 1 for line in self.lines), initial=0))
@@ -144,6 +145,7 @@ class _Page:
 
     def end(self, depth: int, comment: Optional[Comment] = None) -> None:
         """Ends the open line."""
+        depth, self.more = depth + self.more, 0
         if comment:
             before = self.lines[comment.line - 1][:comment.column - 1]
             self.rows.append(Row(depth, self.open, self.words(comment), comment.column,
@@ -193,15 +195,13 @@ class _Page:
             self.add(flat, depth)
             self.line = unit.last.line
             return
-        if not unit.blocks:
-            self.end(depth)
-            self.wrapped(unit, depth)
-            self.line = unit.last.line
-            return
         if not is_hugged:
             self.end(depth)
+        if not unit.blocks:
+            self.words_of(unit.heads[0], "", depth)
+            self.line = unit.last.line
         for head, (opened, closed, inner) in zip(unit.heads, unit.blocks):
-            self.add(f"{joined(head)} {{", depth)
+            self.words_of(head, " {", depth)
             self.block(opened, closed, inner, depth)
         self.is_closed = True
 
@@ -244,27 +244,27 @@ class _Page:
 
     def add(self, text: str, depth: int) -> None:
         """Adds words to the open line; a line that would be too long ends before them."""
-        if self.open and 2 * depth + len(self.open) + 1 + len(text) > WIDTH:
+        if self.open and 2 * (depth + self.more) + len(self.open) + 1 + len(text) > WIDTH:
             self.end(depth)
         self.open = f"{self.open} {text}" if self.open else text
 
-    def wrapped(self, unit: _Unit, depth: int) -> None:
-        """A statement of several lines: it is broken behind commas, where it was and where a line would be too long."""
+    def words_of(self, tokens: Sequence[Token], behind: str, depth: int) -> None:
+        """Adds a statement, or what is before a block, with something behind it: it breaks behind commas, where it did and
+        where a line would be too long."""
         items: list[tuple[str, int]] = []   # what goes up to a comma, and the line of its first token
         is_new = True
-        for token, text in zip(unit.heads[0], spaced(unit.heads[0])):
+        for token, text in zip(tokens, spaced(tokens)):
             items += [(text, token.line)] if is_new else []
             items[-1] = items[-1] if is_new else (items[-1][0] + text, items[-1][1])
             is_new = token.text == ","
-        deep, line = depth, unit.first.line
-        for text, begun in items:
-            if self.open and (begun > line or 2 * deep + len(self.open) + len(text) > WIDTH):
-                self.rows.append(Row(deep, self.open))
-                self.open, deep = "", depth + 2
-            self.open = self.open + text if self.open else text.lstrip()
-            line = begun
-        self.rows.append(Row(deep, self.open))
-        self.open = ""
+        items[-1] = items[-1][0] + behind, items[-1][1]
+        self.open = f"{self.open} {items[0][0]}" if self.open else items[0][0]
+        for (text, begun), (_, line) in zip(items[1:], items):
+            if begun > line or 2 * (depth + self.more) + len(self.open) + len(text) > WIDTH:
+                self.end(depth)
+                self.open, self.more = text.lstrip(), 2
+            else:
+                self.open += text
 
 
 def _flat(unit: _Unit) -> str:
