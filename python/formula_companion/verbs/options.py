@@ -5,6 +5,7 @@ from __future__ import annotations
 import argparse
 import difflib
 import json
+import os
 import re
 from fractions import Fraction
 from typing import Any, Iterable, Optional
@@ -72,7 +73,10 @@ def failure(failed: Failed, path: str) -> dict[str, Any]:
 
 
 def is_score(path: str) -> bool:
-    """Whether a file begins as the text of a score: with its first word, behind blanks and comments."""
+    """Whether a file begins as the text of a score: with its first word, behind blanks and comments. What cannot be read
+    twice is taken for a MIDI file."""
+    if os.path.exists(path) and not os.path.isfile(path):
+        return False
     found = next(tokens(text_of(path)[:100_000].decode("latin-1")))
     return found.text == "formula"
 
