@@ -45,6 +45,14 @@ class Typed(PageTest):
         self.shown([60])
         self.assertTrue(self.value("studio.writing.text").endswith("do tune;"))
 
+    def test_the_notes_of_a_comment_are_written_below_it(self) -> None:
+        self.write("formula 1;\n# notes: c4 e/2")
+        self.press("control+space")
+        self.waited(lambda: self.value("document.querySelector('.CodeMirror-hint')?.textContent.startsWith('write the notes')"))
+        self.press("enter")
+        self.shown([60, 64])
+        self.assertEqual(self.value("studio.writing.text"), "formula 1;\n# notes: c4 e/2\nnote c4 1/4; note e4 1/2;")
+
     def test_a_block_is_folded(self) -> None:
         self.put("formula 1;\nphrase tune {\n  note c4 1/4;\n}\ndo tune;\n")
         self.browser.execute_script("studio.writing.go(1, 3)")

@@ -21,6 +21,7 @@ from .making.music import (
     tempo_change, warp,
 )
 from .making.pitch import CHORDS, MODES, Pitch, PitchLike, Scale, chord
+from .making.short import notes
 from .running.command import (
     FileEvent, Large, Listing, Located, audit, find_program, large, listing, locate, play, render,
 )
@@ -34,7 +35,7 @@ __all__ = [
     "Large", "LengthLike", "Listing", "Located", "MODES", "Meter", "Music", "Part", "Pitch", "PitchLike",
     "RecordRefused", "Refused", "Scale", "Score", "ScoreError", "Seq", "accents", "articulations", "audit", "bend",
     "breath", "channel", "chord", "control", "crescendo", "dotted", "drum", "drums", "dynamics", "euclid",
-    "find_program", "flat", "gate", "hits", "instrument", "large", "listing", "locate", "melody", "note", "par",
-    "pause", "phrase", "play", "render", "render_all", "repeat", "rest", "seq", "slope", "stretch_of", "swing",
+    "find_program", "flat", "gate", "hits", "instrument", "large", "listing", "locate", "melody", "note", "notes",
+    "par", "pause", "phrase", "play", "render", "render_all", "repeat", "rest", "seq", "slope", "stretch_of", "swing",
     "tempo", "tempo_change", "ticks", "triplet", "warp",
 ]

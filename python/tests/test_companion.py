@@ -4,7 +4,9 @@ from __future__ import annotations
 
 import os
 import re
+import subprocess
 import unittest
+from unittest import mock
 
 from .companion import score
 from .program import TOP, needs_program
@@ -33,6 +35,41 @@ class Words(unittest.TestCase):
             answer = score(*words)
             self.assertEqual((answer.status, answer.said), (2, ""), words)
             self.assertIn("--help", answer.complaint, words)
+
+    def test_each_verb_has_one_screen_with_an_example_its_options_and_a_place_on_the_man_page(self) -> None:
+        manual = (TOP / "docs" / "formula-score.1").read_text().replace("\\", "")
+        self.assertEqual(score("--words").said.split(), [*VERBS, "--help", "--version"])
+        for verb, of in VERBS.items():
+            with mock.patch.dict(os.environ, {"COLUMNS": "100"}):
+                said = score(verb, "--help").said
+            self.assertLessEqual(said.count("\n"), 50, verb)
+            self.assertIn(f"example: score {verb} {of.example}".strip() if not of.takes_words else "example: ", said,
+                          verb)
+            options = score("--words", verb).said.split()
+            self.assertEqual([word for word in options if word not in said and not of.takes_words], [], verb)
+            self.assertIn("--help", options)
+            self.assertRegex(manual, rf"(?m)^(\.B[IR]? |\.B formula-score ){verb}\b", verb)
+
+    def test_the_nearest_verb_and_option_are_named(self) -> None:
+        for words, near, status in ((["lisen"], "listen", 2), (["exprot", "a"], "export", 2),
+                                    (["bars", "a", "--metre", "3/4"], "--meter", 2), (["lint", "a", "--halp"], "--help", 2),
+                                    (["batch", "a", "b", "--sedes", "1"], "--seeds", 70)):
+            answer = score(*words)
+            self.assertEqual(answer.status, status, words)
+            self.assertIn(f"is `{near}` meant?", answer.complaint, words)
+        self.assertNotIn("meant?", score("qqq").complaint)
+        done = subprocess.run([TOP / "bin" / "formula-score", "play", "a", "b", "--worker=2"], stdout=subprocess.PIPE,
+                              stderr=subprocess.PIPE, text=True, check=False)
+        self.assertEqual((done.returncode, done.stderr.splitlines()[0]),
+                         (1, "there is no option '--worker'; is `--workers` meant?"))
+
+    def test_bash_completes_verbs_and_options(self) -> None:
+        script = ('source "$1"; COMP_WORDS=("$2" "${@:3}"); COMP_CWORD=$(( $# - 2 )); _formula_score 2>/dev/null; '
+                  'printf "%s\\n" "${COMPREPLY[@]}"')
+        for words, wanted in ((["li"], {"listen", "lint"}), (["excerpt", "--ch"], {"--channel"})):
+            done = subprocess.run(["bash", "-c", script, "bash", TOP / "editors/bash/formula-score",
+                                   TOP / "bin/formula-score", *words], stdout=subprocess.PIPE, text=True, check=True)
+            self.assertEqual({*done.stdout.split()}, wanted, words)
 
     @needs_program
     def test_the_pages_show_what_it_says(self) -> None:

@@ -155,6 +155,31 @@ class Spoken(unittest.TestCase):
         self.assertEqual([(item["label"], item["textEdit"]["range"]["start"]["character"]) for item in offered],
                          [("tune", 3)])
 
+    def test_notes_of_a_comment_are_written_and_a_text_is_set(self) -> None:
+        def actions(line: int) -> Any:
+            place = {"line": line, "character": 3}
+            return self.ask("textDocument/codeAction", {"textDocument": {"uri": URI}, "range": {"start": place,
+                                                                                                "end": place},
+                                                        "context": {"diagnostics": []}})
+
+        self.open("formula 1;\nvolume 9 {\n  # notes 3/4: c4 d/8 e f/4 | g/2.\n}\n# notes: x\n  note c4 1/4 ;\n")
+        action, = actions(2)
+        edit, = action["edit"]["changes"][URI]
+        self.assertEqual(edit["newText"], "\n  note c4 1/4; note d4 1/8; note e4 1/8; note f4 1/4;\n  note g4 3/4;")
+        self.assertEqual(edit["range"], {"start": {"line": 2, "character": 34}, "end": {"line": 2, "character": 34}})
+        self.assertIn("`x` at 1: this is no note", actions(4)[0]["disabled"]["reason"])
+        self.assertEqual(actions(1), [])
+        item, = self.at("completion", 2, 20)["items"]
+        self.assertEqual(item["textEdit"]["newText"], edit["newText"])
+        self.assertTrue(self.able["documentFormattingProvider"])
+        options = {"textDocument": {"uri": URI}, "options": {"tabSize": 2, "insertSpaces": True}}
+        edit, = self.ask("textDocument/formatting", options)
+        self.assertEqual(edit["newText"].splitlines()[4:], ["# notes: x", "note c4 1/4;"])
+        self.open("formula 1;\nnote c4 1/4;\n# notes: c4\nnote c4 1/4;\n", 2)
+        self.assertEqual((self.ask("textDocument/formatting", options), actions(2)), ([], []))
+        self.open("formula 1;\nnote c4;\n", 3)
+        self.assertEqual(self.ask("textDocument/formatting", options), [])
+
     def test_a_name_is_renamed_everywhere_or_not_at_all(self) -> None:
         self.open(TEXT)
         changed = self.at("rename", 3, 4, newName="song")["changes"][URI]

@@ -82,8 +82,10 @@ track 1
         answer = score("show", TOP / "README.md")
         self.assertEqual((answer.status, answer.said), (1, "formula: file refused: byte 0 fault 22\n"))
         self.assertEqual(score("show", self.folder / "none.mid").status, 2)
-        given = score("show", EXAMPLES / "scores" / "melody.score")
-        self.assertIn("play it into a MIDI file first, by `formula SCORE OUT`", given.complaint)
+        # a text that begins as a score is judged as one
+        self.assertEqual(score("show",
+                               EXAMPLES / "refused" / "not_expected_behind_play_outside_rhythm.score").said[:24],
+                         "formula: score refused: ")
 
     def test_a_record(self) -> None:
         data = bytes_of(EXAMPLES / "records" / "least.hex")
@@ -198,7 +200,7 @@ class Listen(InAFolder):
         self.assertEqual((answer.status, heard), (0, bytes_of(EXAMPLES / "tutorial" / "1_line.hex")))
         _, heard = self.listened("timidity", self.SCORE, "--bars", "2")
         self.assertEqual(heard[29:33].hex(), "00904340")
-        answer, heard = self.listened("fluidsynth", self.SCORE, "--font", "some.sf2")
+        answer, heard = self.listened("fluidsynth", self.SCORE, "--font", self.file("some.sf2", b""))
         self.assertEqual((answer.status, answer.said.split()[0]), (0, "fluidsynth"))
 
     def test_without_one_the_package_is_told(self) -> None:

@@ -50,7 +50,8 @@ def _pages_and_code(top: pathlib.Path) -> Iterator[tuple[str, pathlib.Path]]:
         yield f"share/doc/rosetrowel/python/{package}/README.md", home / "README.md"
     for name in ("formula.1", "formula-score.1"):
         yield f"share/man/man1/{name}", top / "docs" / name
-    yield "share/bash-completion/completions/formula", top / "editors/bash/formula"
+    for name in ("formula", "formula-score"):
+        yield f"share/bash-completion/completions/{name}", top / "editors/bash" / name
     yield from _below(top / "editors/vim", "share/vim/vimfiles")
     yield from _below(top / "editors/vscode", "share/formula/editors/vscode")
     yield "share/doc/rosetrowel/editors/README.md", top / "editors/README.md"

@@ -12,6 +12,7 @@ from formula_score.reading.names import CONTROLLERS
 from formula_score.repair.spot import Spot
 from .names import uses
 from .reference import SAYS, form_of
+from .short_notes import written
 
 _LENGTHS = ("1/1", "1/2", "1/4", "1/8", "1/16", "1/32", "3/4", "3/8", "3/16", "1/6", "1/12")
 _OCTAVE = tuple(f"{name}4" for name in "c cs d eb e f fs g ab a bb b".split())
@@ -36,6 +37,9 @@ class Completion(NamedTuple):
 
 def completed(data: bytes, byte: int) -> Completion:
     """What may be written at a byte, where a word may have been begun; those first that begin as it does."""
+    notes = written(data, data.rfind(b"\n", 0, byte) + 1)
+    if notes is not None and notes.new and data.find(b"#", data.rfind(b"\n", 0, byte) + 1, byte) >= 0:
+        return Completion(notes.end, notes.end, [Item("write the notes", notes.new, " ".join(notes.new.split()))])
     found = _WORD.search(data, max(0, byte - 60), byte)
     start = found.start() if found else byte
     begun = data[start:byte].decode("ascii")

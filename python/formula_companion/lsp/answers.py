@@ -5,17 +5,21 @@ from __future__ import annotations
 from typing import Any, Iterator, Optional
 
 from formula_score.language.tokens import kind_of
+from formula_score.reading.reader import read
+from formula_score.rewriting.layout import formatted
 from ..editing.completion import completed
 from ..editing.names import definition, renamed, same_name, use_at
 from ..editing.outline import Part, outline
 from ..editing.places import Places, Position, Range
 from ..editing.reference import row_at
 from ..editing.refusal import Refusal
+from ..editing.short_notes import written
 
 #: The numbers of LSP for kinds of symbols and of completions, and for how bad a diagnostic is.
 _SYMBOLS = {"phrase": 12, "shape": 13, "branch": 3}
 _KEYWORD, _VALUE, _REFERENCE = 14, 12, 18
 _ERROR = 1
+_REWRITE = "refactor.rewrite"
 
 Value = dict[str, Any]
 
@@ -50,11 +54,32 @@ class Text:
     def actions(self, line: int, refusal: Optional[Refusal]) -> list[Value]:
         """The changes that the cure of a refusal names, where it is on a line."""
         if refusal is None or not refusal.range.start.line <= line <= refusal.range.end.line:
-            return []
+            return self.notes(line)
         return [{"title": fix.title, "kind": "quickfix", "isPreferred": len(refusal.fixes) == 1,
                  "diagnostics": self.diagnostics(refusal)["diagnostics"],
                  "edit": {"changes": {self.uri: [{"range": _range(fix.range), "newText": fix.new}]}}}
                 for fix in refusal.fixes]
+
+    def notes(self, line: int) -> list[Value]:
+        """What writes the notes of a comment `# notes: ..` on a line, or why it does not."""
+        found = written(self.data, self.places.starts[line]) if line < len(self.places.starts) else None
+        if found is None:
+            return []
+        action: Value = {"title": "write the notes of this comment", "kind": _REWRITE}
+        if found.wrong:
+            return [{**action, "disabled": {"reason": found.wrong}}]
+        return [{**action, "edit": {"changes": {self.uri: [{"range": self.range(found.end, found.end),
+                                                            "newText": found.new}]}}}]
+
+    def formatting(self) -> list[Value]:
+        """The change that sets the text in one layout; none where it is set, or cannot be read."""
+        try:
+            new = formatted(read(self.data))
+        except ValueError:
+            return []
+        if new == self.data:
+            return []
+        return [{"range": self.range(0, len(self.data)), "newText": new.decode("utf-8", "replace")}]
 
     def hover(self, position: Value) -> Optional[Value]:
         """The row of the reference for a word."""

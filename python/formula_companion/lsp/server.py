@@ -70,6 +70,7 @@ class Server:
                 asked["position"], bool(asked.get("context", {}).get("includeDeclaration", True))),
             "textDocument/documentSymbol": lambda asked: self._text(asked).symbols(),
             "textDocument/prepareRename": lambda asked: self._text(asked).may_rename(asked["position"]),
+            "textDocument/formatting": lambda asked: self._text(asked).formatting(),
             "textDocument/rename": self.rename, "textDocument/codeAction": self.actions,
         }
         self.endpoint = Endpoint(handlers, self.write)
@@ -100,7 +101,9 @@ class Server:
             "positionEncoding": "utf-16", "textDocumentSync": {"openClose": True, "change": _FULL},
             "hoverProvider": True, "completionProvider": {"triggerCharacters": [" "]}, "definitionProvider": True,
             "referencesProvider": True, "documentSymbolProvider": True,
-            "codeActionProvider": {"codeActionKinds": ["quickfix"]}, "renameProvider": {"prepareProvider": True}}}
+            "codeActionProvider": {"codeActionKinds": ["quickfix", "refactor.rewrite"]},
+            "documentFormattingProvider": True,
+            "renameProvider": {"prepareProvider": True}}}
 
     def initialized(self, _: Value) -> None:
         """Says where there is no program."""
@@ -167,7 +170,7 @@ class Server:
         return text
 
     def actions(self, asked: Value) -> list[Value]:
-        """The changes that mend what is refused at a place."""
+        """The changes that mend what is refused at a place, or that write the notes of a comment."""
         text = self._text(asked)
         return text.actions(asked["range"]["start"]["line"], self.refusals.get(text.uri))
 

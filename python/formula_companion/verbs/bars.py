@@ -3,17 +3,17 @@
 from __future__ import annotations
 
 import argparse
-from typing import Optional
 
-from formula_score.checks.bars import bars_between, counted, process_name, ring, ticks_by_process
+from formula_score.checks.bars import bars_between, counted, process_name, ring, table, ticks_by_process
+from formula_score.checks.summary import of_score
 from formula_score.making.values import plain
 from formula_score.reading.meter import Meter
-from formula_score.reading.playing import judge
+from formula_score.reading.playing import Failed, judge
 from formula_score.reading.reader import read
 from formula_score.reading.structure import Span
 from formula_score.reading.ticks import agreed, happening_at, position_at
 from formula_score.reading.walk import Happening, Played
-from .options import meter_arguments, process_argument
+from .options import json_argument, meter_arguments, process_argument, put, show_summary, summary_argument
 
 
 def arguments(parser: argparse.ArgumentParser) -> None:
@@ -26,6 +26,8 @@ def arguments(parser: argparse.ArgumentParser) -> None:
                        "the bar behind the last one that of the end")
     asked.add_argument("--bar", type=int, metavar="TICK", help="tell the bar and beat of a tick, as written and as "
                        "played, and the line of the score; the rounds of loops count")
+    summary_argument(parser)
+    json_argument(parser, "`lengths` and `findings`, or the `ticks` or `places` that are asked for")
     parser.description = f"""{parser.description}
 
 Lengths are counted as they are written, as if no `warp` stood there. Told as wrong are: a phrase or branch that is no
@@ -40,25 +42,35 @@ def run(options: argparse.Namespace) -> int:
     text = judge(options.score)
     reading = read(text)
     meter = Meter(options.meter, options.upbeat, reading.whole)
+    if options.summary:
+        return show_summary(of_score(agreed(text), meter), options.json)
     if options.tick is not None:
-        return _tell_tick(agreed(text), meter, options.tick, options.process)
+        return _tell_tick(agreed(text), meter, options)
     if options.bar is not None:
-        return _tell_bar(agreed(text), meter, options.bar, options.process)
-    lines, found = counted(reading, meter)
+        return _tell_bar(agreed(text), meter, options)
+    rows, found = counted(reading, meter)
+    if options.json:
+        put({"meter": str(meter), "lengths": [row._asdict() for row in rows],
+             "findings": [each._asdict() for each in found]})
+        return 1 if found else 0
     print(f"meter {meter}" + (f", upbeat {options.upbeat}" if meter.upbeat else ""))
-    for line in lines:
+    for line in table(rows):
         print(line)
     for finding in found:
         print(f"{plain(options.score)}:{finding.line}:{finding.column}: {finding.what}")
     return 1 if found else 0
 
 
-def _tell_tick(walk: Played, meter: Meter, bar: int, process: Optional[int]) -> int:
+def _tell_tick(walk: Played, meter: Meter, options: argparse.Namespace) -> int:
+    bar, process = options.tick, options.process
     last = walk.ended[len(walk.begun) - 1].written
     if not (0 if meter.upbeat else 1) <= bar or meter.start(bar) > last:
-        print(f"there is no bar {bar}: the piece has {meter.lasts(0, last)}, {bars_between(Span(0, last, walk.place), meter)}")
-        return 1
+        raise Failed(1, "", f"there is no bar {bar}: the piece has {meter.lasts(0, last)}, "
+                     f"{bars_between(Span(0, last, walk.place), meter)}")
     found = ticks_by_process(walk, meter.start(bar), process)
+    if options.json:
+        put({"bar": bar, "ticks": [{"tick": tick, "processes": processes} for tick, processes in found.items()]})
+        return 0 if found else 1
     for tick, processes in found.items():
         only = "" if len(walk.begun) == 1 else " in " + ", ".join(process_name(walk, process) for process in processes)
         print(f"bar {bar}: tick {tick}{only}")
@@ -67,17 +79,23 @@ def _tell_tick(walk: Played, meter: Meter, bar: int, process: Optional[int]) -> 
     return 0 if found else 1
 
 
-def _tell_bar(walk: Played, meter: Meter, tick: int, process: Optional[int]) -> int:
+def _tell_bar(walk: Played, meter: Meter, options: argparse.Namespace) -> int:
+    tick, process = options.bar, options.process
     end = walk.tick_of_end(len(walk.begun) - 1)
     playing = [happening for happening in happening_at(walk, tick) if process in (None, happening.process)]
     if not playing:
         where = "" if process is None else f" in process {process}"
-        print(f"nothing is played at tick {tick}{where}: the piece ends at tick {end}")
-        return 1
+        raise Failed(1, "", f"nothing is played at tick {tick}{where}: the piece ends at tick {end}")
+    at = {happening.process: _written(walk, happening, tick) for happening in playing}
+    if options.json:
+        put({"tick": tick, "places": [{"process": happening.process, "line": happening.statement.line,
+                                       "column": happening.statement.first.column,
+                                       **meter.at(at[happening.process])._asdict()}
+                                      for happening in playing]})
+        return 0
     found: dict[int, list[tuple[Happening, str]]] = {}
     for happening in playing:
-        position = position_at(walk.reading, happening.levels, tick)
-        written = happening.end if position is None else happening.begin + position - happening.position
+        written = at[happening.process]
         statement = happening.statement
         place = f"line {statement.line}, column {statement.first.column}{ring(happening.place, written, meter)}"
         found.setdefault(written, []).append((happening, place))
@@ -87,3 +105,8 @@ def _tell_bar(walk: Played, meter: Meter, tick: int, process: Optional[int]) -> 
         for happening, place in several:
             print(f"  {place}" + (f", in {process_name(walk, happening.process)}" if len(walk.begun) > 1 else ""))
     return 0
+
+
+def _written(walk: Played, happening: Happening, tick: int) -> int:
+    position = position_at(walk.reading, happening.levels, tick)
+    return happening.end if position is None else happening.begin + position - happening.position

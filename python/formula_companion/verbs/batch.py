@@ -18,6 +18,7 @@ from ..batch.results import Results
 from ..batch.running import INTERRUPTED, Ended, run
 from ..batch.telling import report, write_csv, write_json
 from .libraries import needs, restart
+from .options import near_option
 
 USAGE = "[-j N | --dask ADDRESS] [--audit] [--seeds A-B] [--seconds S] [--csv FILE] [--json] [--program FILE] FOLDER OUT"
 
@@ -43,6 +44,8 @@ What other machines send is believed. With --audit they send records of their pe
 each that it is one of the very score, step by step, and makes the file of it. What it refuses is played here, and the
 machine is named; so is a score that they call refused. What an earlier run believed is played again.
 
+example: formula-score batch scores midi -j 4
+
 The status is 0 where all are played, 1 where not, 70 where this could not begin, and 130 where it was interrupted:
 then nobody is at work any more, and the next run goes on from there. The program is FILE, else the one that FORMULA
 names, else the proved one."""
@@ -52,7 +55,12 @@ class Parser(argparse.ArgumentParser):
     """A parser that ends as the verb does where it can't begin."""
 
     def error(self, message: str) -> NoReturn:
-        fail(f"{message}\nusage: {self.usage}")
+        fail(f"{message}{near_option(message, known())}\nusage: {self.usage}")
+
+
+def known() -> list[str]:
+    """The options."""
+    return re.findall("--[a-z]+", USAGE)
 
 
 def read_words(words: Sequence[str], name: str, version: str) -> argparse.Namespace:

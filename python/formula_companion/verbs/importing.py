@@ -14,7 +14,9 @@ from typing import Callable, Iterator
 from ..importer.going import Imported, imported
 from ..importer.moved import Choices
 from formula_score.reading.midi_file import save
+from formula_score.reading.notes import is_on
 from formula_score.reading.playing import Failed, Listing, counted, listing_of_file, must_differ, needs, run as play
+from .options import json_argument, put
 
 #: A file with more bytes or events makes no score, which has at most a mebibyte.
 _MOST_BYTES, _MOST_EVENTS = 8_000_000, 500_000
@@ -42,6 +44,7 @@ def arguments(parser: argparse.ArgumentParser) -> None:
     parser.add_argument("--all-messages", action="store_true", help="keeps messages that change nothing")
     parser.add_argument("--keep-clock", action="store_true", help="keeps the quarter notes of the file, though nothing lies "
                         "on them")
+    json_argument(parser, "what the file has, what moved, and what was written")
     parser.description = f"""{parser.description}
 
 The score is one to go on with: notes that lie near a grid go to it, ends go to the length that one would write, bars
@@ -67,10 +70,15 @@ def run(options: argparse.Namespace) -> int:
         listing = _listing(options.file)
         found = _imported(listing, os.path.basename(options.file), choices, tell)
     save(options.score, found.text.encode())
+    phrases = sum(line.startswith("phrase ") for line in found.text.splitlines())
+    if options.json:
+        put({"notes": sum(map(is_on, listing.events)), "lines": found.lines, "out": options.score,
+             "branches": found.branches,
+             "phrases": phrases, "bytes": len(found.text.encode()), "is_good": found.is_good})
+        return 0 if found.is_good else 1
     _tell(options.file, listing)
     for line in found.lines:
         print(line)
-    phrases = sum(line.startswith("phrase ") for line in found.text.splitlines())
     print(f"{options.score}: {counted(found.branches, 'branch')}, {counted(phrases, 'phrase')}, {len(found.text):,} bytes")
     return 0 if found.is_good else 1
 
@@ -109,7 +117,7 @@ def _played(text: str) -> Listing:
 
 
 def _tell(path: str, listing: Listing) -> None:
-    notes = sum(event.message[0] >> 4 == 9 and event.message[2] > 0 for event in listing.events)
+    notes = sum(map(is_on, listing.events))
     messages = sum(event.message[0] >> 4 in (0xB, 0xC, 0xE) for event in listing.events)
     print(f"{path}: format {listing.format}, {counted(listing.tracks, 'track')}, {listing.division} ticks a quarter note; "
           f"{counted(notes, 'note')}, {messages:,} control changes, programs and bends")

@@ -8,11 +8,13 @@ from formula_score.checks.lint import BEATS, findings
 from formula_score.making.values import plain
 from formula_score.reading.playing import judge
 from formula_score.reading.reader import read
+from .options import json_argument, put
 
 
 def arguments(parser: argparse.ArgumentParser) -> None:
     """What the verb takes."""
     parser.add_argument("score", metavar="SCORE", help="the text of a score")
+    json_argument(parser, "the `findings`")
     parser.description = f"""{parser.description}
 
 It says nothing and ends with 0 where it finds nothing, else with 1. It looks for
@@ -29,6 +31,8 @@ It says nothing and ends with 0 where it finds nothing, else with 1. It looks fo
 def run(options: argparse.Namespace) -> int:
     """Prints what it finds."""
     found = findings(read(judge(options.score)))
-    for finding in found:
+    if options.json:
+        put({"findings": [finding._asdict() for finding in found]})
+    for finding in () if options.json else found:
         print(f"{plain(options.score)}:{finding.line}:{finding.column}: {finding.what}")
     return 1 if found else 0

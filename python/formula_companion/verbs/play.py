@@ -3,28 +3,37 @@
 from __future__ import annotations
 
 import contextlib
+import json
 import os
 import signal
 import stat
 import subprocess
 import sys
+from fractions import Fraction
 from types import FrameType
 from typing import Iterator, NamedTuple, Optional, Sequence
 
+from formula_score.checks.summary import of_score
 from formula_score.explaining.explain import by_signal, explanation
-from formula_score.explaining.words import USAGE, Words, read
+from formula_score.explaining.words import FLAGS, RANGES, USAGE, Words, read
 from formula_score.making.values import escaped
-from formula_score.reading.playing import NO_PROGRAM, Failed, program
+from formula_score.reading.meter import Meter, groups_of
+from formula_score.reading.playing import NO_PROGRAM, Failed, program, text_of
+from formula_score.reading.ticks import agreed
 from formula_score.running.command import ends_with_this, environment
 from formula_score.running.outs import (
     SIGNALS, WRITE, WRITE_LINE, Descriptor, Out, Straight, descriptor_of, out_of, settled,
 )
 from .ins import Source, source_of
+from .options import failure, near_option
 from .origin import origin
 
 #: The statuses of the program that this verb gives by itself, and the program's lines.
 WORDS, READ, UNSAID = 1, 2, 5
 LINES = {WORDS: "formula: words refused", READ: "formula: read fault", WRITE: WRITE_LINE}
+
+#: The options of this verb alone.
+OWN = ("--summary", "--json")
 
 ABOUT = """\
 Runs formula on the same words, and is safe in the hand:
@@ -38,7 +47,12 @@ Runs formula on the same words, and is safe in the hand:
 - `-`, /dev/stdin, other open descriptors and FIFOs may be IN, whoever owns them: they are read once, from where they
   are to their end, before anything is played. A file whose name is `-` is `./-`.
 
-The options are those of formula(1). --help prints this, --version from what the program was proved.
+The options are those of formula(1), and two more. --summary prints what was played: events, length in bars of 4/4 and
+in seconds, processes, keys by channel. --json prints one line of JSON: `status`, `said`, `why`, of a refused text
+`refused` with its place and the cure, and with --summary the `summary`. Where OUT is standard output both go to
+standard error. --help prints this, --version from what the program was proved.
+
+example: formula-score play tune.score tune.mid
 
 status: that of the program, as formula(1) tells it. 1 also where IN and OUT are one file; 4 also where OUT
 could not be synced, closed or renamed, or its owner would change; 70 where there is no program; 128 + N where the
@@ -55,9 +69,14 @@ def main(words: Sequence[str], name: str, version: str) -> int:
         print(f"{version}\n{origin()}")
         return 0
     _open_what_is_closed()
-    asked = read(words)
+    own = {option for option in options if option in OWN}
+    asked = read([word for at, word in enumerate(words) if at >= len(options) or word not in own])
+    if own and (asked.wrong or asked.task in ("--audit", "--list", "--record", "--locate") or asked.files[0] == "-"):
+        asked = asked._replace(wrong=asked.wrong
+                               or f"{' and '.join(sorted(own))} need a score in a file, and its MIDI file as OUT")
     if asked.wrong:
-        return _end(End(WORDS, LINES[WORDS], f"{asked.wrong}\n{USAGE.replace('formula', name, 1)}"))
+        cure = near_option(asked.wrong, known())
+        return _end(End(WORDS, LINES[WORDS], f"{asked.wrong}{cure}\n{USAGE.replace('formula', name, 1)}"))
     source, target = asked.files
     if asked.task != "--locate" and _is_in(target, source):
         end = End(WORDS, LINES[WORDS], f"IN and OUT are one file, {target!r}: give OUT another name")
@@ -69,9 +88,14 @@ def main(words: Sequence[str], name: str, version: str) -> int:
         end = End(READ, LINES[READ], f"{what} cannot be read: {error.strerror}")
         return _end(end, _means_output(descriptor_of(target)))
     try:
-        return _play(asked, read_from)
+        return _play(asked, read_from, own)
     except Failed as failed:
         return _end(End(NO_PROGRAM, "", failed.why))
+
+
+def known() -> list[str]:
+    """The options."""
+    return [*RANGES, *FLAGS, *OWN]
 
 
 class End(NamedTuple):
@@ -82,7 +106,7 @@ class End(NamedTuple):
     why: str
 
 
-def _play(asked: Words, source: Source) -> int:
+def _play(asked: Words, source: Source, own: set[str]) -> int:
     target = asked.files[1]
     options = [f"{option}={asked.numbers[option]}" if option in asked.numbers else option for option in asked.options]
     # with --locate OUT is not opened
@@ -102,7 +126,25 @@ def _play(asked: Words, source: Source) -> int:
         os.kill(os.getpid(), run.number)
     if end.status and not end.why:
         end = end._replace(why=explanation(end.status, end.said, [*options, "--", asked.files[0], target], source.name))
-    return _end(end, isinstance(out, Descriptor) and _means_output(out.number))
+    is_output = isinstance(out, Descriptor) and _means_output(out.number)
+    if own and end.status != UNSAID:
+        return _summed(end, source.name, own, 2 if is_output else 1)
+    return _end(end, is_output)
+
+
+def _summed(end: End, source: str, own: set[str], number: int) -> int:
+    """Says how the run ended, and what was played, on a descriptor, and gives the status."""
+    value = failure(Failed(end.status, end.why, end.said), source)
+    lines = []
+    if "--summary" in own and end.status == 0:
+        walk = agreed(text_of(source))
+        found = of_score(walk, Meter(groups_of("4/4"), Fraction(0), walk.reading.whole))
+        value, lines = {**value, "summary": found.value()}, list(found.lines())
+    if "--json" in own:
+        return end.status if _put(number, json.dumps(value, ensure_ascii=False)) else UNSAID
+    if end.status:
+        return _end(end, number == 2)
+    return 0 if _put(number, "\n".join(lines)) else UNSAID
 
 
 def _unwritten(target: str, why: str) -> str:

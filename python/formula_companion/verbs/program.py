@@ -18,6 +18,7 @@ from formula_score.making.values import escaped
 from formula_score.reading.playing import Failed
 from formula_score.running.outs import descriptor_of
 from .libraries import restart
+from .options import failure, near, near_option, put
 
 VERSION = f"formula-score {__version__}"
 
@@ -38,40 +39,60 @@ At a write fault the status is 4."""
 
 
 class Verb(NamedTuple):
-    """A module of this package that has `arguments(parser)` and `run(options) -> int`, and what it is for.
+    """A module of this package that has `arguments(parser)` and `run(options) -> int`, what it is for, and a use of it.
 
-    One that takes words in its own way has `main(words, name, version) -> int`. None imports at its head what Python has
-    not by itself: the libraries of a verb stand in `FEATURES` of `formula_score.host.packages`.
+    One that takes words in its own way has `main(words, name, version) -> int`, and `known()`, its options. None
+    imports at its head what Python has not by itself: the libraries of a verb stand in `FEATURES` of
+    `formula_score.host.packages`.
     """
 
     module: str
     about: str
+    example: str
     takes_words: bool = False
 
 
 #: The verbs, in the order in which they are told.
 VERBS: dict[str, Verb] = {
-    "play": Verb("play", "run formula so that OUT is the old file or the whole new one, or standard output", True),
-    "bars": Verb("bars", "count the bars of a score, check the comments that count them, tell the tick of a bar"),
-    "excerpt": Verb("excerpt", "write some bars of a score as a MIDI file, its channels in tracks, or one channel"),
-    "show": Verb("show", "print the events of a MIDI file, with names, bars and beats, or the steps of a record"),
-    "roll": Verb("roll", "draw a score or a MIDI file as a piano roll, once or whenever the score is saved"),
-    "listen": Verb("listen", "play a score, or some bars of it, through fluidsynth or timidity"),
-    "studio": Verb("studio", "show and play a score in the browser while it is written"),
-    "lsp": Verb("lsp", "serve an editor that speaks LSP: what is refused, completion, names, an outline"),
-    "batch": Verb("batch", "play every score of a folder, over all processors, or by a cluster of machines", True),
-    "needs": Verb("needs", "say which of Debian's packages are missing, for sound, the studio, editors and tests"),
-    "lint": Verb("lint", "say what is accepted in a score, and hardly meant"),
-    "export": Verb("exporting", "write a score for notation programs, with a tempo map, a meter and names"),
-    "import": Verb("importing", "write a score from a MIDI file, play it, and compare each event"),
+    "play": Verb("play", "run formula so that OUT is the old file or the whole new one, or standard output",
+                 "tune.score tune.mid", True),
+    "listen": Verb("listen", "play a score, or some bars of it, through fluidsynth or timidity",
+                   "tune.score --bars 9-12"),
+    "bars": Verb("bars", "count the bars of a score, check the comments that count them, tell the tick of a bar",
+                 "tune.score --meter 3/4"),
+    "lint": Verb("lint", "say what is accepted in a score, and hardly meant", "tune.score"),
+    "notes": Verb("notes", "write the statements of notes that are given in a short line",
+                  '"c4 d e r | f4~ f g/8. a/16 c5+e/4" --phrase tune >> my.score'),
+    "transpose": Verb("transpose", "move the written pitches of a score, or of one phrase, and leave all else as it is",
+                      "tune.score 2 --phrase opening"),
+    "format": Verb("format", "set the text of a score in one layout, with every comment and event kept",
+                   "tune.score --check"),
+    "diff": Verb("diff", "say in what two scores or MIDI files differ, bar by bar", "old.score new.score --meter 3/4"),
+    "show": Verb("show", "print the events of a MIDI file, with names, bars and beats, or the steps of a record",
+                 "tune.mid --meter 4/4"),
+    "roll": Verb("roll", "draw a score or a MIDI file as a piano roll, once or whenever the score is saved",
+                 "tune.score tune.html --follow"),
+    "excerpt": Verb("excerpt", "write some bars of a score as a MIDI file, its channels in tracks, or one channel",
+                    "tune.score third.mid --bars 9-12"),
+    "export": Verb("exporting", "write a score for notation programs, with a tempo map, a meter and names",
+                   "tune.score print.mid --meter 4/4"),
+    "import": Verb("importing", "write a score from a MIDI file, play it, and compare each event",
+                   "tune.mid tune.score"),
+    "studio": Verb("studio", "show and play a score in the browser while it is written", "tune.score"),
+    "lsp": Verb("lsp", "serve an editor that speaks LSP: what is refused, completion, names, an outline", ""),
+    "batch": Verb("batch", "play every score of a folder, over all processors, or by a cluster of machines",
+                  "scores midi -j 4", True),
+    "needs": Verb("needs", "say which of Debian's packages are missing, for sound, the studio, editors and tests",
+                  "sound"),
 }
 
 
 class Parser(argparse.ArgumentParser):
-    """A parser whose complaint names what helps."""
+    """A parser whose complaint names what helps: the nearest of its options, too."""
 
     def error(self, message: str) -> NoReturn:
-        self.exit(MISUSED, f"{self.prog}: {message}\ntry: {self.prog} --help\n")
+        cure = near_option(message, [word for action in self._actions for word in action.option_strings])
+        self.exit(MISUSED, f"{self.prog}: {message}{cure}\ntry: {self.prog} --help\n")
 
 
 def _usage(name: str) -> str:
@@ -83,11 +104,58 @@ def _usage(name: str) -> str:
 
 def _options(module: ModuleType, verb: Verb, name: str, words: Sequence[str]) -> argparse.Namespace:
     """The options of a verb that its words give."""
-    parser = Parser(prog=name, description=f"{verb.about[0].upper()}{verb.about[1:]}.", epilog=STATUSES,
+    return _parser(module, verb, name).parse_args(words)
+
+
+def _parser(module: ModuleType, verb: Verb, name: str) -> Parser:
+    parser = Parser(prog=name, description=f"{verb.about[0].upper()}{verb.about[1:]}.",
+                    epilog=f"example: {name} {verb.example}".rstrip() + f"\n\n{STATUSES}",
                     formatter_class=argparse.RawDescriptionHelpFormatter)
     parser.add_argument("--version", action="version", version=VERSION)
     module.arguments(parser)
-    return parser.parse_args(words)
+    return parser
+
+
+def completions(verbs: Sequence[str]) -> list[str]:
+    """What may stand behind the program's name: the verbs, and behind one of them its options."""
+    if not verbs or verbs[0] not in VERBS:
+        return [*VERBS, "--help", "--version"]
+    verb = VERBS[verbs[0]]
+    module = importlib.import_module(f".{verb.module}", __package__)
+    if verb.takes_words:
+        return [*module.known(), "--help", "--version"]
+    return [word for action in _parser(module, verb, "")._actions for word in action.option_strings if word[:2] == "--"]
+
+
+def _without_verb(given: Sequence[str], name: str) -> Optional[int]:
+    """What words ask for that begin with no verb, and the status; None where they do."""
+    first = given[0] if given else ""
+    if first in VERBS:
+        return None
+    if first in ("--help", "-h"):
+        print(_usage(name), end="")
+    elif first == "--version":
+        print(VERSION)
+    elif first == "--words":
+        print("\n".join(completions(given[1:])))
+    else:
+        cure = near(first, VERBS)
+        said = f"there is no verb {first!r}{cure}" if given else "a verb is missing"
+        print(f"{name}: {said}{'' if cure else '; there are ' + ', '.join(VERBS)}\ntry: {name} --help", file=sys.stderr)
+        return MISUSED
+    return OK
+
+
+def _failed(failed: Failed, options: Optional[argparse.Namespace]) -> int:
+    """Says why a verb ended, and gives the status."""
+    if options and getattr(options, "json", False):
+        put(failure(failed, getattr(options, "score", "") or getattr(options, "file", "")))
+        return failed.status
+    if failed.said:
+        print(failed.said)
+    if failed.why:
+        print(failed.why, file=sys.stderr)
+    return failed.status
 
 
 def _escape(stream: io.TextIOWrapper) -> None:
@@ -138,35 +206,26 @@ def main(words: Optional[Sequence[str]] = None, name: str = "formula-score") -> 
         if isinstance(stream, io.TextIOWrapper):
             stream.reconfigure(errors="backslashreplace")
             _escape(stream)
-    if given[:1] in (["--help"], ["-h"]):
-        print(_usage(name), end="")
-        return OK
-    if given[:1] == ["--version"]:
-        print(VERSION)
-        return OK
-    if not given or given[0] not in VERBS:
-        said = f"there is no verb {given[0]!r}" if given else "a verb is missing"
-        print(f"{name}: {said}; there are {', '.join(VERBS)}\ntry: {name} --help", file=sys.stderr)
-        return MISUSED
+    status = _without_verb(given, name)
+    if status is not None:
+        return status
     verb = VERBS[given[0]]
     module = importlib.import_module(f".{verb.module}", __package__)
+    options: Optional[argparse.Namespace] = None
     try:
         options = None if verb.takes_words else _options(module, verb, f"{name} {given[0]}", given[1:])
         restart(given)
         with _ends_in_order(), _said_beside(options):
-            status: int = module.run(options) if options else module.main(given[1:], f"{name} {given[0]}", VERSION)
+            ended: int = module.run(options) if options else module.main(given[1:], f"{name} {given[0]}", VERSION)
         if sys.stdout:
             sys.stdout.flush()
-    except SystemExit as ended:
-        return int(ended.code or 0)
+    except SystemExit as left:
+        return int(left.code or 0)
     except Failed as failed:
-        if failed.said:
-            print(failed.said)
-        print(failed.why, file=sys.stderr)
-        return failed.status
+        return _failed(failed, options)
     except BrokenPipeError:  # who reads wants no more; what is left is for nobody
         os.dup2(os.open(os.devnull, os.O_WRONLY), sys.stdout.fileno())
         return FOUND
     except KeyboardInterrupt:
         return 130
-    return status
+    return ended

@@ -2,7 +2,7 @@
 
 from __future__ import annotations
 
-from typing import Iterator, Optional
+from typing import Iterable, Iterator, NamedTuple, Optional
 
 from ..reading import marks
 from ..reading.marks import Finding
@@ -15,14 +15,25 @@ from ..reading.walk import Place, Played, Process
 _SHOWN = 6
 
 
-def counted(reading: Reading, meter: Meter) -> tuple[list[str], list[Finding]]:
-    """The lines of a table of what has how many bars, and what is off, in the order of the text."""
+class Row(NamedTuple):
+    """Something that has bars: its line, 0 for the piece, what it is, how long, and where it is played."""
+
+    line: int
+    what: str
+    lasts: str
+    where: str
+
+
+def counted(reading: Reading, meter: Meter) -> tuple[list[Row], list[Finding]]:
+    """What has how many bars, and what is off, in the order of the text."""
     named = sections(reading, lambda comment: marks.bars_of(comment) is None)
     wanted = [edge for mark in marks.marks(reading) for edge in (mark.first, mark.last)]
     structure = Structure(reading, wanted + [edge for section in named for edge in (section.first, section.last)])
     structure.run()
     found = sorted([*_lengths(structure, meter), *marks.findings(reading, structure, meter)])
-    return list(_table(reading, structure, meter, named)), found
+    rows = sorted(_rows(reading, structure, meter, named))
+    whole = Span(0, structure.end, structure.place)
+    return [*rows, Row(0, "the piece", meter.lasts(0, structure.end), bars_between(whole, meter))], found
 
 
 # ---- the table
@@ -44,34 +55,33 @@ def _times(spans: list[Span], meter: Meter) -> str:
 
 
 def _rows(reading: Reading, structure: Structure, meter: Meter,
-          named: list[Section]) -> Iterator[tuple[int, str, str, str]]:
+          named: list[Section]) -> Iterator[Row]:
     for name, phrase in reading.phrases.items():
         spans = structure.phrases.get(name, [])
         lasts = sorted({meter.lasts(span.begin, span.end) for span in spans})
         if not spans:
             known = reading.length(phrase.block.statements)
             lasts = [meter.lasts(meter.upbeat, meter.upbeat + known)] if known is not None else ["?"]
-        yield phrase.name.line, f"phrase {name}", " or ".join(lasts), _times(spans, meter) if spans else "never played"
+        where = _times(spans, meter) if spans else "never played"
+        yield Row(phrase.name.line, f"phrase {name}", " or ".join(lasts), where)
     for par, played in structure.pars.values():
         for at, block in enumerate(par.blocks):
             spans = [branches[at] for branches in played]
             lasts = sorted({meter.lasts(span.begin, span.end) for span in spans})
-            yield block.head.line, f"branch {at + 1}", " or ".join(lasts), _times(spans, meter)
+            yield Row(block.head.line, f"branch {at + 1}", " or ".join(lasts), _times(spans, meter))
     for section in named:
         begins, ends = structure.spans[section.first.first.start], structure.spans[section.last.first.start]
         spans = [Span(begin.begin, end.end, begin.place) for begin, end in zip(begins, ends)]
         if spans:
             lasts = sorted({meter.lasts(span.begin, span.end) for span in spans})
-            yield section.line, f"section {section.name}", " or ".join(lasts), _times(spans, meter)
+            yield Row(section.line, f"section {section.name}", " or ".join(lasts), _times(spans, meter))
 
 
-def _table(reading: Reading, structure: Structure, meter: Meter, named: list[Section]) -> Iterator[str]:
-    rows = sorted(_rows(reading, structure, meter, named))
-    whole = Span(0, structure.end, structure.place)
-    table = [(f"line {line}", *row) for line, *row in rows]
-    table.append(("", "the piece", meter.lasts(0, structure.end), bars_between(whole, meter)))
-    widths = [min(60, max(len(row[at]) for row in table)) for at in range(3)]
-    for row in table:
+def table(rows: Iterable[Row]) -> Iterator[str]:
+    """The rows as lines."""
+    cells = [(f"line {row.line}" if row.line else "", *row[1:]) for row in rows]
+    widths = [min(60, max(len(row[at]) for row in cells)) for at in range(3)]
+    for row in cells:
         yield "  ".join(f"{cell:<{width}}" for cell, width in zip(row, [*widths, 0])).rstrip()
 
 

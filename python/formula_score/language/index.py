@@ -144,7 +144,7 @@ INDEX = (
          "time meter metre time_signature timesig timesignature"),
     Word("transpose",
          "phrase tune { note key (r0 + 60) 1/4; note key (r0 + 64) 1/4; } do tune; set r0 = 5; do tune;",
-         "a register moves each key",
+         "a register moves each key; `formula-score transpose` retypes the names of a text",
          "transposed transposition octave_up octave_down"),
     Word("tremolo",
          "repeat 8 { note c4 1/32; }",

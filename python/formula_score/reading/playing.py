@@ -147,7 +147,7 @@ def located(text: bytes, tick: int, process: int) -> Optional[tuple[int, ...]]:
 
 def counted(number: int, thing: str) -> str:
     """So many of something, as `1 note` or `2 notes`."""
-    return f"{number:,} {thing}{'' if number == 1 else 'es' if thing.endswith('ch') else 's'}"
+    return f"{number:,} {thing}{'' if number == 1 else 'es' if thing.endswith(('ch', 'ss')) else 's'}"
 
 
 def must_differ(source: str, target: str) -> None:

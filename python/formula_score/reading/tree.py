@@ -5,7 +5,7 @@ Lengths are ticks, counted as they are written.
 
 from __future__ import annotations
 
-from bisect import bisect_right
+from bisect import bisect_left, bisect_right
 from dataclasses import dataclass
 from fractions import Fraction
 from functools import cached_property
@@ -153,6 +153,14 @@ class Reading:
         blocks = [phrase.block.statements for phrase in self.phrases.values()] + [self.statements]
         found = [statement for statements in blocks for statement in _with_inner(statements)]
         return iter(sorted(found, key=lambda statement: statement.first.start))
+
+    def tokens_between(self, first: Token, last: Token) -> tuple[Token, ...]:
+        """The tokens from one to another, with both."""
+        return self.tokens[bisect_left(self._starts, first.start):bisect_right(self._starts, last.start)]
+
+    @cached_property
+    def _starts(self) -> list[int]:
+        return [token.start for token in self.tokens]
 
     def comments_above(self) -> dict[int, list[Comment]]:
         """The comments on lines of their own between a token and the one before it, by the byte of the token."""
