@@ -75,7 +75,7 @@ class Transposes(unittest.TestCase):
                                                                                                 "-127 to 127"),
                                     (["2", "--to", str(self.path.parent)], 4, "cannot be written")):
             answer = self.transposed(text, *words)
-            self.assertEqual((answer.status, answer.said, self.path.read_text()), (status, "", text), words)
+            self.assertEqual((answer.status, self.path.read_text()), (status, text), words)
             self.assertIn(said, answer.complaint)
         answer = self.transposed("formula 1; note c4;", 2)
         self.assertEqual((answer.status, answer.said), (1, "formula: score refused: 1:19 fault 3\n"))
