@@ -21,11 +21,11 @@ from .making.music import (
     tempo_change, warp,
 )
 from .making.pitch import CHORDS, MODES, Pitch, PitchLike, Scale, chord
+from .notation.score import Score
 from .running.command import (
     FileEvent, Large, Listing, Located, audit, find_program, large, listing, locate, play, render,
 )
 from .running.rendering import render_all
-from .running.score import Score
 
 __version__ = "0.1.0"
 

@@ -1,11 +1,13 @@
 """The pictures of the pages: piano rolls of the steps of docs/TUTORIAL.md, of two generators of python/COOKBOOK.md, and of
-two examples without their deformations and with them, side by side. Each is drawn by the companion from a listing."""
+two examples without their deformations and with them, side by side. Each is drawn by the companion from a listing. The last
+step of the tutorial is also drawn as notes, by MuseScore 3 where it is installed."""
 
 from __future__ import annotations
 
 import os
 import pathlib
 import re
+import shutil
 import subprocess
 import sys
 import tempfile
@@ -36,6 +38,11 @@ class Drawing:
         script.write_text(f"{texts[number - 1]}score.save({str(score)!r})\n", encoding="utf-8")
         subprocess.run([sys.executable, "-B", script], check=True, env={**os.environ, "PYTHONPATH": str(self.top / "python")})
         return score
+
+    def on_paper(self, score: pathlib.Path) -> None:
+        """Draws a score as notes."""
+        subprocess.run([self.top / "bin" / "formula-score", "print", score, self.pictures / "paper.svg", "--title", "Ode to Joy",
+                        "--composer", "Ludwig van Beethoven"], check=True)
 
     def with_and_without(self, name: str) -> None:
         """Draws an example without its deformations and with them, side by side."""
@@ -71,6 +78,8 @@ def draw_all(top: pathlib.Path, program: str) -> None:
         for score in sorted((top / "examples" / "tutorial").glob("*.score")):
             if f"pictures/{score.stem}.svg" in shown:
                 drawing.draw(score, drawing.pictures / f"{score.stem}.svg")
+        if shutil.which("musescore3"):
+            drawing.on_paper(top / "examples" / "tutorial" / "8_end.score")
         for number, name in GENERATORS.items():
             drawing.draw(drawing.generator(number), drawing.pictures / f"cookbook_{name}.svg")
         for name in BESIDE:

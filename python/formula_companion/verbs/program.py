@@ -53,8 +53,9 @@ VERBS: dict[str, Verb] = {
     "batch": Verb("batch", "play every score of a folder, over all processors, or by a cluster of machines", True),
     "needs": Verb("needs", "say which of Debian's packages are missing, for sound, the studio, editors and tests"),
     "lint": Verb("lint", "say what is accepted in a score, and hardly meant"),
-    "export": Verb("exporting", "write a score for notation programs, with a tempo map, a meter and names"),
-    "import": Verb("importing", "write a score from a MIDI file, play it, and compare each event"),
+    "export": Verb("exporting", "write a score as MusicXML, ABC, or a MIDI file with a tempo map, a meter and names"),
+    "print": Verb("printing", "draw a score as notes on paper, by MuseScore or abcm2ps"),
+    "import": Verb("importing", "write a score from a MIDI file, MusicXML or ABC, and compare what it plays"),
 }
 
 

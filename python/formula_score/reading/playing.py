@@ -15,7 +15,7 @@ from ..running.command import FileEvent as Event
 from ..explaining.kinds import BY_VERBS
 
 __all__ = ["Event", "Failed", "Listing", "Run", "judge", "listed", "listing_of", "listing_of_file", "located",
-           "counted", "must_differ", "needs", "program", "run", "text_of"]
+           "counted", "must_differ", "must_end_in", "needs", "program", "run", "text_of"]
 
 _TOP = pathlib.Path(__file__).resolve().parents[3]
 
@@ -127,6 +127,15 @@ def must_differ(source: str, target: str) -> None:
     """Refuses to write a file over what it is made of."""
     if os.path.exists(source) and os.path.exists(target) and os.path.samefile(source, target):
         raise Failed(2, f"{target!r} is the file that is read: give another name to what is written")
+
+
+def must_end_in(path: str, suffixes: Sequence[str]) -> str:
+    """The suffix of a file that is written, in small letters; refuses a name that promises another kind of file."""
+    suffix = pathlib.PurePath(path).suffix
+    if suffix.lower() in suffixes:
+        return suffix.lower()
+    said = f"{path!r} ends in {suffix!r}" if suffix else f"{path!r} has no suffix"
+    raise Failed(2, f"{said}: what is written is {', '.join(suffixes[:-1])} or {suffixes[-1]}")
 
 
 def judge(path: str, refused: Optional[int] = 1) -> bytes:
