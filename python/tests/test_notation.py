@@ -1,6 +1,6 @@
-"""Notation out: what is printed against what the program plays, and against what other programs play of it; signs by hand.
+"""Notation out: what is printed against what the program plays, and what other programs play of it; signs by hand.
 
-What all of scripts/stress notation compares is tried here for a part: MuseScore 3, abc2midi and abcm2ps where they are here.
+A part of what scripts/stress notation compares is tried here, with MuseScore 3, abc2midi and abcm2ps where they are here.
 """
 
 from __future__ import annotations
@@ -37,7 +37,7 @@ harness: Any = importlib.import_module("harness")
 
 #: What is tried by the others, and how many random texts are.
 TRIED = "breath_and_pause", "controls", "legato_line", "melody", "8_end"
-RANDOM, ROUND = 4, 6
+RANDOM, ROUND, IMPORTS = 4, 6, 2
 
 
 def piece(text: str, meter: str = "4/4") -> Piece:
@@ -64,7 +64,7 @@ def exported(text: str, suffix: str, *words: object, verb: str = "export") -> tu
 
 @needs_program
 class Others(unittest.TestCase):
-    """MuseScore and abc2midi play each note where it is printed, and that is where the program plays it without shapes."""
+    """MuseScore and abc2midi play each note where it is printed, which is where the program plays it without shapes."""
 
     def tried(self, texts: list[Any]) -> None:
         """Tries texts as scripts/stress does."""
@@ -82,9 +82,17 @@ class Others(unittest.TestCase):
     def test_random_texts_with_tuplets_are_played_as_printed(self) -> None:
         self.tried([stress.random_text(seed) for seed in range(1, RANDOM + 1)])
 
+    def test_scores_of_midi_files_are_played_as_printed(self) -> None:
+        texts = list(stress.imports(IMPORTS))
+        if len(texts) < IMPORTS:
+            packages = " ".join(stress.foreign.BEFORE)
+            self.skipTest(f"NOT TRIED: there are no foreign files here (apt-get install {packages})")
+        self.tried(texts)
+
     def test_repeats_with_endings_are_played_as_printed(self) -> None:
         rounds = ("repeat 3 { note c4 1/1; note d4 1/1; if less(n0, 2) { note e4 1/1; } else { note f4 1/1; } } "
-                  "repeat 4 { note g4 1/2; note a4 1/2; } repeat 3 { note c5 2/1; if less(n0, 1) { note d5 1/1; } else { "
+                  "repeat 4 { note g4 1/2; note a4 1/2; } repeat 2 { note b4 1/1; } repeat 2 { note a4 1/1; } "
+                  "repeat 3 { note c5 2/1; if less(n0, 1) { note d5 1/1; } else { "
                   "if less(n0, 2) { note e5 1/1; } else { note f5 1/1; } } } note c4 1/1;")
         self.tried([stress.Text("loops", f"formula 1; {rounds}".encode(), is_plain=True)])
 
@@ -103,8 +111,8 @@ class Signs(unittest.TestCase):
                          "C6 D2- | D2 EF- F3 G | c8 |]")
 
     def test_tuplets_have_brackets(self) -> None:
-        self.assertEqual(abc("note c4 1/12; note d4 1/12; note e4 1/12; note f4 1/4; note g4 1/20; note a4 1/5; note b4 1/4;"),
-                         "(3:2:3CDE F2 (5:4:2G/A2 B2 |]")
+        text = "note c4 1/12; note d4 1/12; note e4 1/12; note f4 1/4; note g4 1/20; note a4 1/5; note b4 1/4;"
+        self.assertEqual(abc(text), "(3:2:3CDE F2 (5:4:2G/A2 B2 |]")
 
     def test_voices_have_rests_where_they_sound_and_none_where_they_are_silent(self) -> None:
         text = ("par { branch { note c5 2/1; } branch { rest 1/2; note e4 1/4; } }")
@@ -128,12 +136,13 @@ class Signs(unittest.TestCase):
                           '<ending number="3" type="start"/>', '<ending number="3" type="discontinue"/>'])
 
     def test_a_gate_of_100_and_more_is_a_slur_and_50_is_staccato(self) -> None:
-        self.assertEqual(abc("gate 100 { note c4 1/4; note d4 1/4; } note e4 1/4; gate 50 { note f4 1/4; }"), "(C2 D2) E2 .F2 |]")
+        self.assertEqual(abc("gate 100 { note c4 1/4; note d4 1/4; } note e4 1/4; gate 50 { note f4 1/4; }"),
+                         "(C2 D2) E2 .F2 |]")
         self.assertEqual(abc("gate 120 { note c4 1/4; rest 1/4; note d4 1/4; note e4 1/4; }"), "C2 z2 (D2 E2) |]")
 
     def test_a_slope_is_a_word_with_its_end_and_a_pause_a_fermata(self) -> None:
-        text = ("shape end = flat 1/1 by 1000, slope 1/2 by 1000 to 2000, flat 1/4 by 2000, pause 1/1, flat 1/4 by 2000; "
-                "warp end { note c4 1/1; note d4 1/2; note e4 1/2; }")
+        text = ("shape end = flat 1/1 by 1000, slope 1/2 by 1000 to 2000, flat 1/4 by 2000, pause 1/1, "
+                "flat 1/4 by 2000; warp end { note c4 1/1; note d4 1/2; note e4 1/2; }")
         self.assertEqual(abc(text), 'C8 | "^rit."D4 [Q:1/4=60]!fermata!E4 |]')
 
     def test_loudness_is_dynamics_hairpins_and_accents(self) -> None:
@@ -143,9 +152,10 @@ class Signs(unittest.TestCase):
                          "!mp!C2 !accent!D2 E2 F2 |]")
 
     def test_what_no_value_says_is_moved_and_counted(self) -> None:
-        unsaid = piece("note c4 ticks 479; note d4 ticks 481; control 7 100; gate 200 { note e4 1/4; note f4 1/4; }").sheet.unsaid
-        self.assertEqual({what: number for what, number in unsaid.items() if number},
-                         {"notes moved, by at most 1 tick": 2, "control changes": 1, "gates above 100, as long as written": 2})
+        text = "note c4 ticks 479; note d4 ticks 481; control 7 100; gate 200 { note e4 1/4; note f4 1/4; }"
+        self.assertEqual({what: number for what, number in piece(text).sheet.unsaid.items() if number},
+                         {"notes moved, by at most 1 tick": 2, "control changes": 1,
+                          "gates above 100, as long as written": 2})
 
 
 class Files(unittest.TestCase):
@@ -172,9 +182,9 @@ class Files(unittest.TestCase):
 
     @needs_program
     def test_25000_notes_take_five_seconds_of_a_processor_at_most(self) -> None:
-        text = ("formula 1; par { " + " ".join(f"branch {{ channel {at} {{ repeat 625 {{ note c4 1/8; note d4 1/16; note e4 1/16; "
-                "note key (60 + n0 % 12) 1/4; note f4 1/12; note g4 1/12; note a4 1/12; note b4 1/4; note c5 1/16; note c4 3/16; "
-                "} } }" for at in range(4)) + " }")
+        notes = ("note c4 1/8; note d4 1/16; note e4 1/16; note key (60 + n0 % 12) 1/4; note f4 1/12; note g4 1/12; "
+                 "note a4 1/12; note b4 1/4; note c5 1/16; note c4 3/16;")
+        text = f"formula 1; par {{ {' '.join(f'branch {{ channel {at} {{ repeat 625 {{ {notes} }} }} }}' for at in range(4))} }}"
         begun = time.process_time()
         answer, _ = exported(text, ".musicxml")
         self.assertEqual(answer.status, 0)

@@ -1,4 +1,4 @@
-"""Notation in: a MusicXML file by hand, with the notes that it has; files that are none; ABC, and what MuseScore plays."""
+"""Notation in: a MusicXML file by hand, with the notes that it has; files that are none; ABC; what MuseScore plays."""
 
 from __future__ import annotations
 
@@ -88,10 +88,10 @@ class MusicXml(unittest.TestCase):
             answer, text = imported(data, suffix)
             self.assertEqual((answer.status, answer.complaint), (0, ""))
             self.assertEqual(sorted(notes_of(text)), sorted(NOTES))
-            for words in ("# title: A Song\n", "# composer: N. N.\n", "# Clarinet in B♭\n", "channel 2 {", "program 71;", "by 2000;",
-                          "volume 96 {", "gate 50 { note ab4 1/8; }"):
+            for words in ("# title: A Song\n", "# composer: N. N.\n", "# Clarinet in B♭\n", "channel 2 {", "program 71;",
+                          "by 2000;", "volume 96 {", "gate 50 { note ab4 1/8; }"):
                 self.assertIn(words, text or "")
-            self.assertIn("not played, or not as they are meant: 1 grace notes", answer.said)
+            self.assertIn("not played, or not as they are meant: 1 grace note", answer.said)
 
     def test_a_file_that_is_none_says_where_and_writes_nothing(self) -> None:
         bomb = '<?xml version="1.0"?><!DOCTYPE x [<!ENTITY a "aaaa"><!ENTITY b "&a;&a;">]><score-partwise>&b;</score-partwise>'
@@ -119,8 +119,8 @@ class Others(unittest.TestCase):
         answer, text = imported(tune, ".abc")
         self.assertEqual(answer.status, 0, answer.complaint)
         self.assertEqual(re.findall("^  # (.*)$", text or "", re.M), ["Tin whistle", "Fiddle"])
-        self.assertEqual(notes_of(text), [("0", "1", "c4"), ("1", "2", "e4"), ("2", "4", "g4"), ("0", "2", "c3"), ("2", "3", "e3"),
-                                          ("3", "4", "g3")])
+        self.assertEqual(notes_of(text), [("0", "1", "c4"), ("1", "2", "e4"), ("2", "4", "g4"), ("0", "2", "c3"),
+                                          ("2", "3", "e3"), ("3", "4", "g3")])
 
     def test_by_musescore_is_what_musescore_plays(self) -> None:
         if not shutil.which("musescore3"):

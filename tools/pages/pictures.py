@@ -15,6 +15,8 @@ import tempfile
 #: Generators of the cookbook, by their numbers there, and the names of their pictures.
 GENERATORS = {1: "canon", 3: "phases"}
 BESIDE = "breath_and_pause", "nested_deformations"
+#: The part of a page of MuseScore that is shown.
+PAPER = "0 100 2976 1880"
 
 
 class Drawing:
@@ -40,9 +42,14 @@ class Drawing:
         return score
 
     def on_paper(self, score: pathlib.Path) -> None:
-        """Draws a score as notes."""
-        subprocess.run([self.top / "bin" / "formula-score", "print", score, self.pictures / "paper.svg", "--title", "Ode to Joy",
+        """Draws a score as notes, and keeps the upper part of the page, on a white ground."""
+        picture = self.pictures / "paper.svg"
+        subprocess.run([self.top / "bin" / "formula-score", "print", score, picture, "--title", "Ode to Joy",
                         "--composer", "Ludwig van Beethoven"], check=True)
+        drawn = re.sub(r'<svg [^>]*?\n', f'<svg width="893" height="564" viewBox="{PAPER}"\n', picture.read_text(encoding="utf-8"),
+                       count=1)
+        ground = '</desc>\n<rect width="100%" height="100%" fill="#ffffff"/>'
+        picture.write_text(drawn.replace("</desc>", ground, 1), encoding="utf-8")
 
     def with_and_without(self, name: str) -> None:
         """Draws an example without its deformations and with them, side by side."""

@@ -1,13 +1,13 @@
 """Compares what other programs play of the notation that `export` writes, and draws it.
 
 MuseScore 3 plays the MusicXML and abc2midi the ABC of each example but `long_rests`, of each step of the tutorial, of
-`four_voices`, of random texts with thirds, fifths and sevenths, and of scores imported from Debian's MIDI files. Each note
-has to begin at the tick where it is printed, with its key and channel. Where nothing was moved that is the tick at which the
-program plays the text without its shapes. abc2midi begins a tick late, and its sevenths lie within one. A key that sounds
-already on its channel is not struck again by MuseScore: such unisons are counted. abcm2ps draws examples and tutorial
-without a warning. What is written as MusicXML comes back by `import`, each note with its end and its name. Then the demos of
-MuseScore are read directly and by MuseScore. On Debian: apt-get install musescore3 abcmidi abcm2ps, and for the imports
-freedoom mma simutrans-data. --some N tries N texts of each kind."""
+`four_voices`, of random texts with thirds, fifths and sevenths, and of scores imported from Debian's MIDI files. Each
+note has to begin at the tick where it is printed, with its key and channel. Where nothing was moved that is the tick at
+which the program plays the text without its shapes. abc2midi begins a tick late, and its sevenths lie within one. A key
+that sounds already on its channel is not struck again by MuseScore: such unisons are counted. abcm2ps draws examples
+and tutorial without a warning. What is written as MusicXML comes back by `import`, each note with its end and its name.
+Then the demos of MuseScore are read directly and by MuseScore. On Debian: apt-get install musescore3 abcmidi abcm2ps,
+and for the imports the packages that `foreign` names. --some N tries N texts of each kind."""
 
 from __future__ import annotations
 
@@ -96,7 +96,7 @@ def even(text: bytes) -> bytes:
 
 
 def by_program(text: bytes) -> Counter[Place]:
-    """The note-ons that the program plays of a text without its shapes; of chords each key once, and none without a length."""
+    """The note-ons that the program plays of a text without its shapes, each key of a place once."""
     listing = listing_of(even(text))
     found = {(event.tick, event.message[1], event.message[0] & 15) for event in listing.events if is_on(event)}
     return Counter((round(Fraction(tick * _QUARTER, listing.division)), key, channel) for tick, key, channel in found)
@@ -123,7 +123,8 @@ def compared(wanted: Counter[Place], ends: dict[Place, list[int]], heard: Counte
     missing, more = wanted - heard, heard - wanted
     near = 0
     for tick, key, channel in list(more.elements()):
-        beside = next((place for place in ((tick - 1, key, channel), (tick + 1, key, channel)) if missing[place] > 0), None)
+        beside = next((place for place in ((tick - 1, key, channel), (tick + 1, key, channel)) if missing[place] > 0),
+                      None)
         if beside:
             missing[beside] -= 1
             more[tick, key, channel] -= 1
@@ -239,9 +240,8 @@ def tried(text: Text, count: harness.Count, totals: Counter[str]) -> None:
     wanted, ends = begins_of(piece)
     is_moved = any("moved" in what or "too short" in what for what, number in piece.sheet.unsaid.items() if number)
     if not is_moved:
-        problem = "" if by_program(text.text).keys() == wanted.keys() or piece.sheet.unsaid["notes without a length"] else \
-            "what is printed is not what the program plays of the text without its shapes"
-        count.judge(f"{text.name}, printed", problem)
+        is_equal = by_program(text.text).keys() == wanted.keys() or piece.sheet.unsaid["notes without a length"]
+        count.judge(f"{text.name}, printed", "" if is_equal else "the program plays the text without its shapes otherwise")
     totals["scores"] += 1
     totals["scores with notes moved"] += is_moved
     totals["notes"] += sum(wanted.values())
@@ -265,7 +265,8 @@ def tried(text: Text, count: harness.Count, totals: Counter[str]) -> None:
             count.judge(f"{text.name}, by abc2midi", _judged("abc2midi", apart, None if has_sevenths else 0, totals))
         if shutil.which("abcm2ps") and text.is_plain:
             said = by_other(folder, "abcm2ps", "-O", "out.ps", "out.abc")
-            count.judge(f"{text.name}, by abcm2ps", [line for line in said.splitlines() if re.search("(?i)warning|error", line)])
+            problems = [line for line in said.splitlines() if re.search("(?i)warning|error", line)]
+            count.judge(f"{text.name}, by abcm2ps", problems)
 
 
 def _written(text: bytes) -> tuple[Counter[Placed], Counter[Placed]]:
@@ -315,8 +316,9 @@ def demos(count: harness.Count) -> None:
                             for _ in range(number))
             found = Counter((round(begin * 4 * _QUARTER), int(key)) for (begin, _, _, key), number
                             in _written((folder / "demo.score").read_bytes())[0].items() for _ in range(number))
-        print(f"  {path.stem}: {sum(heard.values()):,} notes by MuseScore, {sum((heard - found).values()):,} of them elsewhere "
-              f"where it is read directly, {sum((found - heard).values()):,} more\n    " + "\n    ".join(said.splitlines()[:-1]))
+        print(f"  {path.stem}: {sum(heard.values()):,} notes by MuseScore, {sum((heard - found).values()):,} of them not "
+              f"where it is read directly, {sum((found - heard).values()):,} others there")
+        print("    " + "\n    ".join(said.splitlines()[:-1]))
         if path.stem in _EQUAL:
             count.judge(path.stem, "" if heard == found else "notes differ")
 
@@ -324,7 +326,8 @@ def demos(count: harness.Count) -> None:
 def arguments(parser: argparse.ArgumentParser) -> None:
     """What the verb takes."""
     parser.add_argument("--some", type=int, metavar="N", help="so many texts of each kind alone")
-    parser.add_argument("--from", type=int, default=1, dest="first", metavar="SEED", help="the first seed of random texts")
+    parser.add_argument("--from", type=int, default=1, dest="first", metavar="SEED",
+                        help="the first seed of random texts")
 
 
 def run(program: str, asked: argparse.Namespace) -> harness.Count:
@@ -336,7 +339,7 @@ def run(program: str, asked: argparse.Namespace) -> harness.Count:
             count.not_tried(other, "it is not installed")
     kinds = {"examples and tutorial": list(own_texts()),
              "four voices": [Text("four_voices", (harness.EXAMPLES / "long" / "four_voices.score").read_bytes())],
-             "random texts": [random_text(seed) for seed in range(asked.first, asked.first + min(most or RANDOM, RANDOM))],
+             "random texts": [random_text(seed) for seed in range(asked.first, asked.first + (most or RANDOM))],
              "imports": list(imports(most or IMPORTS))}
     kinds["back again"] = [*own_texts(), *(random_text(seed) for seed in range(asked.first, asked.first + ROUND))]
     for kind, texts in kinds.items():

@@ -8,7 +8,7 @@ from typing import Iterator, NamedTuple
 from xml.etree.ElementTree import Element
 
 from formula_score.making.pitch import Pitch
-from formula_score.reading.playing import counted
+from formula_score.reading.playing import counted, named
 from formula_score.reading.ticks import agreed
 from .xml_file import root_of
 from .xml_notes import Piece, piece_of
@@ -34,8 +34,8 @@ def read(data: bytes, source: str) -> Read:
     wanted, found = Counter(_notes_of(piece)), Counter(_notes_in(text))
     lines = [f"{counted(len(piece.staves), 'part')}, {counted(len(piece.bars), 'bar')}, meter "
              f"{', then '.join(piece.meters) or 'not given'}"]
-    left = [f"{count:,} {what}" for what, count in sorted(piece.left.items()) if count]
-    lines += [f"not played, or not as they are meant: {'; '.join(left)}"] if left else []
+    left = named(piece.left)
+    lines += [f"not played, or not as they are meant: {left}"] if left else []
     apart = sum((wanted - found).values()) + sum((found - wanted).values())
     what = counted(sum(wanted.values()), "note")
     lines.append(f"played and compared: {apart:,} of {what} are elsewhere than in the file" if apart else

@@ -156,7 +156,7 @@ class _Part:
         step, octave = STEPS[at], octave + octaves
         sign = _SIGNS.get(key - 12 * octave - SEMITONES[step])
         if not 0 <= key + 12 <= 127:
-            self.left["pitches below or above all keys"] += 1
+            self.left["notes below or above all keys"] += 1
             return None
         return f"key {key + 12}" if sign is None or not 0 <= octave <= 9 else f"{step.lower()}{sign}{octave}"
 

@@ -8,7 +8,7 @@ from typing import Callable
 from ..reading.branches import Titles
 from ..reading.meter import Meter
 from ..reading.midi_file import save
-from ..reading.playing import counted, must_end_in
+from ..reading.playing import counted, must_end_in, named
 from ..reading.walk import Played
 from . import paper
 from .abc_text import abc_of
@@ -42,5 +42,5 @@ def told(piece: Piece) -> str:
 
 def unsaid(piece: Piece) -> str:
     """What notation does not say of a score."""
-    said = "; ".join(f"{count:,} {what}" for what, count in sorted(piece.sheet.unsaid.items()) if count)
+    said = named(piece.sheet.unsaid)
     return f"; not said in notation: {said}" if said else ""

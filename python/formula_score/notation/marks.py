@@ -8,7 +8,7 @@ from typing import Iterator, NamedTuple, Optional, Sequence
 
 from ..making.expected import outside
 from ..making.shapes import Part
-from ..reading.walk import Level, Played, parts_of
+from ..reading.walk import Happening, Level, Played, parts_of
 from .places import WHOLE
 from .sheet import Sheet
 
@@ -54,31 +54,29 @@ def _has(places: Sequence[int], place: int) -> bool:
     return at < len(places) and places[at] == place
 
 
-def _outermost(walk: Played) -> list[Level]:
-    """The outermost warps that follow one another; of those that are played side by side the one with most notes."""
-    notes: dict[Level, int] = {}
-    ends: dict[Level, int] = {}
+def _outermost(walk: Played) -> list[tuple[Level, list[Happening]]]:
+    """The outermost warps one after another, with what is in them; of those side by side the one with most notes."""
+    inside: dict[Level, list[Happening]] = {}
     for happening in walk.happenings:
         if happening.levels:
-            level = happening.levels[0]
-            notes[level] = notes.get(level, 0) + len(happening.values)
-            ends[level] = max(ends.get(level, 0), happening.end)
+            inside.setdefault(happening.levels[0], []).append(happening)
+    notes = {level: sum(len(happening.values) for happening in own) for level, own in inside.items()}
+    ends = {level: max(happening.end for happening in own) for level, own in inside.items()}
     taken: list[Level] = []
-    for level in sorted(notes, key=lambda level: (-notes[level], level.written)):
+    for level in sorted(inside, key=lambda level: (-notes[level], level.written)):
         if all(ends[level] <= other.written or ends[other] <= level.written for other in taken):
             taken.append(level)
-    return sorted(taken, key=lambda level: level.written)
+    return [(level, inside[level]) for level in sorted(taken, key=lambda level: level.written)]
 
 
-def _inside(walk: Played, level: Level) -> list[tuple[int, int]]:
+def _rows(level: Level, happenings: Sequence[Happening]) -> list[tuple[int, int]]:
     """Positions of a level beside the places at which they are written; both rise."""
     found = {0: level.written}
-    for happening in walk.happenings:
-        if happening.levels and happening.levels[0] == level:
-            inner = parts_of(happening.levels[1:])
-            length = happening.end - happening.begin
-            found.setdefault(outside(inner, happening.position, True), happening.begin)
-            found.setdefault(outside(inner, happening.position + length, True), happening.end)
+    for happening in happenings:
+        inner = parts_of(happening.levels[1:])
+        length = happening.end - happening.begin
+        found.setdefault(outside(inner, happening.position, True), happening.begin)
+        found.setdefault(outside(inner, happening.position + length, True), happening.end)
     rows, last = [], -1
     for position in sorted(found):
         if found[position] > last:
@@ -154,8 +152,8 @@ def marks_of(walk: Played, sheet: Sheet) -> Marks:
     found: list[Mark] = []
     pauses: list[int] = []
     breaths: list[int] = []
-    for level in _outermost(walk):
-        own, parts = _OfLevel(_inside(walk, level), walk.reading.whole), level.shape.parts
+    for level, happenings in _outermost(walk):
+        own, parts = _OfLevel(_rows(level, happenings), walk.reading.whole), level.shape.parts
         found += own.marks(parts)
         pauses += own.holds(parts, "pause")
         breaths += own.holds(parts, "breath")

@@ -86,12 +86,12 @@ class _Staff:
         dynamics = dynamics_of(part, breaks_of(piece.bars))
         slurs = [slurs_of(voice, piece.bars) for voice in part.voices]
         self.notes = Notes(piece, number, part, fifths, unit, dynamics.accents, slurs)
-        #: what stands above and below the staff, in rising order: where, what is printed, and what is heard
-        self.waiting = sorted([*((mark.place, *row) for mark in piece.marks.tempos for row in _tempo(mark)),
-                               *((bar.begin, _times(bar.backward), "") for bar in piece.bars
-                                 if bar.backward > 2)] if number == 1 else [], key=lambda row: row[0])
-        self.waiting += [(loudness.place, _loudness(loudness), "") for loudness in dynamics.words]
-        self.waiting.sort(key=lambda row: row[0])
+        #: what is above and below the staff, the first one last: where, what is printed, and what is heard
+        waiting = [(loudness.place, _loudness(loudness), "") for loudness in dynamics.words]
+        if number == 1:
+            waiting = [*(row for mark in piece.marks.tempos for row in _tempo(mark)), *waiting, *(
+                (bar.begin, _times(bar.backward), "") for bar in piece.bars if bar.backward > 2 and not bar.closes)]
+        self.waiting = sorted(waiting, key=lambda row: row[0])
         self.waiting.reverse()
 
     def lines(self, bars: _Bars) -> Iterator[str]:
@@ -100,11 +100,13 @@ class _Staff:
         before: Optional[Bar] = None
         for bar, voices in zip(self.piece.bars, bars):
             yield f'<measure number="{bar.number}"' + (' implicit="yes">' if bar.number == 0 else ">")
+            if self.number > 1:  # endings are printed above the first staff alone
+                bar = bar._replace(opens=(), closes=())
             if bar.forward or bar.opens:
                 yield _left(bar)
             yield from self._attributes(bar, before)
             yield from self._voices(bar, voices)
-            yield from _right(bar, bar is self.piece.bars[-1])
+            yield from _right(bar, bar.end == self.piece.bars[-1].end)
             yield "</measure>"
             before = bar
         yield "</part>"
@@ -124,7 +126,7 @@ class _Staff:
     def _voices(self, bar: Bar, voices: list[list[Value]]) -> Iterator[str]:
         """The voices one after another; from the second on one that is silent is not printed."""
         length = (bar.end - bar.begin) // self.unit
-        accidentals = self.notes.accidentals(voices)
+        self.notes.begin_bar(voices)
         for number, values in enumerate(voices, 1):
             if number > 1 and values:
                 yield f"<backup><duration>{length}</duration></backup>"
@@ -134,7 +136,7 @@ class _Staff:
             for value in values:
                 if number == 1:
                     yield from self._pending(value.begin, value.end)
-                yield from self.notes.value(number, value, accidentals)
+                yield from self.notes.value(number, value)
 
     def _pending(self, begin: int, end: int) -> Iterator[str]:
         """What stands before the end of a sign, each behind its beginning by an offset."""
@@ -172,19 +174,21 @@ def _times(times: int) -> str:
     return _direction("above", f"<words>{times}x</words>")
 
 
-def _tempo(mark: Mark) -> Iterator[tuple[str, str]]:
-    """What is printed of a tempo, and what is heard; a word goes on as dashes."""
+def _tempo(mark: Mark) -> Iterator[tuple[int, str, str]]:
+    """Where something is printed of a tempo, what, and what is heard; a word has dashes to the end of its slope."""
     if mark.word:
-        yield _direction("above", f"<words>{mark.word}</words>"), ""
+        inside = f'<words>{mark.word}</words></direction-type><direction-type><dashes type="start" number="1"/>'
+        yield mark.place, _direction("above", inside), ""
+        yield mark.until - 1, _direction("above", '<dashes type="stop" number="1"/>'), ""
         return
     assert mark.tempo is not None
     sound = f'<sound tempo="{decimal(float(mark.tempo))}"/>'
     if mark.is_printed:
         tempo = decimal(round(mark.tempo * 10) / 10)
         said = f"<beat-unit>quarter</beat-unit><per-minute>{tempo}</per-minute>"
-        yield _direction("above", f"<metronome>{said}</metronome>"), sound
+        yield mark.place, _direction("above", f"<metronome>{said}</metronome>"), sound
     else:
-        yield _direction("above", "<words>&#160;</words>"), sound
+        yield mark.place, _direction("above", "<words>&#160;</words>"), sound
 
 
 def _loudness(loudness: Loudness) -> str:

@@ -54,6 +54,7 @@ class _Content:
 
     def __init__(self, sheet: Sheet, bars: Sequence[Bar], marks: Marks):
         self.bars, self.begins = bars, [bar.begin for bar in bars]
+        self.lines = [*self.begins, bars[-1].end]
         self.rows: list[list[object]] = [[(bar.beats, bar.unit, bar.end - bar.begin)] for bar in bars]
         #: the bars over whose beginning a note sounds
         self.crossed: set[int] = set()
@@ -96,9 +97,8 @@ class _Content:
         first = bisect_left(self.begins, begin)
         bars = bisect_left(self.begins, begin + length) - first
         heads = range(first, first + bars * rounds, bars or 1)
-        lines = [*self.begins, self.bars[-1].end]
-        if bars < 1 or first + bars * rounds >= len(lines) or any(
-                lines[first + bars * number] != begin + length * number for number in range(rounds + 1)):
+        if bars < 1 or first + bars * rounds >= len(self.lines) or any(
+                self.lines[first + bars * number] != begin + length * number for number in range(rounds + 1)):
             return None
         if any(self.tempo[head][0] != self.tempo[first][0] for head in heads):
             return None
@@ -161,8 +161,10 @@ def folded(piece: Piece, most: int = _MOST_ROUNDS) -> Piece:
     content = _Content(piece.sheet, piece.bars, piece.marks)
     folds = filter(None, (content.fold(*loop, most) for loop in piece.loops))
     taken: list[Fold] = []
+    used: set[int] = set()
     for fold in sorted(folds, key=lambda fold: (-fold.saved, fold)):
-        if all(fold.behind <= other.first or other.behind <= fold.first for other in taken):
+        if used.isdisjoint(range(fold.first, fold.behind)):
+            used.update(range(fold.first, fold.behind))
             taken.append(fold)
     return _moved(piece, _Folded(piece.bars, sorted(taken))) if taken else piece
 

@@ -17,6 +17,8 @@ SEMITONES = dict(zip(STEPS, (0, 2, 4, 5, 7, 9, 11)))
 _SHARPS = "FCGDAEB"
 _SIGNS = {"": 0, "s": 1, "b": -1}
 _BASS_BELOW = 57
+#: Bass drum, snare, closed hi-hat, crash and ride have their own places.
+_USUAL = (36, 38, 42, 49, 51)
 
 
 class Spelled(NamedTuple):
@@ -71,13 +73,15 @@ def clef_of(part: Part) -> str:
 
 
 def drum_places(keys: Iterable[int]) -> dict[int, str]:
-    """A place on the staff for each drum, no two at one place: as `F4`."""
-    free = [f"{step}{octave}" for octave in range(20) for step in STEPS]
+    """A place on the staff for each drum, as `F4`: no two at one place, nor where a cross is a sharp at one pitch."""
+    free = {f"{step}{octave}": 12 * octave + SEMITONES[step] for octave in range(20) for step in STEPS}
     found: dict[int, str] = {}
-    for key in sorted(set(keys), key=lambda key: (key not in DRUMS, key)):
-        place = DRUMS.get(key, "B4")
-        found[key] = place if place in free else min(free, key=lambda other: abs(_height(other) - _height(place)))
-        free.remove(found[key])
+    pitches: set[int] = set()
+    for key in sorted(set(keys), key=lambda key: (key not in _USUAL, key not in DRUMS, key)):
+        height, sharp = _height(DRUMS.get(key, "B4")), int(key in CROSSES)
+        found[key] = min((place for place, pitch in free.items() if pitch + sharp not in pitches),
+                         key=lambda place: abs(_height(place) - height))
+        pitches.add(free.pop(found[key]) + sharp)
     return found
 
 

@@ -4,9 +4,10 @@ from __future__ import annotations
 
 import os
 import pathlib
+import re
 import subprocess
 import tempfile
-from typing import Iterable, NamedTuple, Optional, Sequence
+from typing import Iterable, Mapping, NamedTuple, Optional, Sequence
 
 from ..explaining.explain import explanation
 from ..making.errors import CommandError
@@ -15,7 +16,7 @@ from ..running.command import FileEvent as Event
 from ..explaining.kinds import BY_VERBS
 
 __all__ = ["Event", "Failed", "Listing", "Run", "judge", "listed", "listing_of", "listing_of_file", "located",
-           "counted", "must_differ", "must_end_in", "needs", "program", "run", "text_of"]
+           "counted", "must_differ", "must_end_in", "named", "needs", "program", "run", "text_of"]
 
 _TOP = pathlib.Path(__file__).resolve().parents[3]
 
@@ -121,6 +122,12 @@ def located(text: bytes, tick: int, process: int) -> Optional[tuple[int, ...]]:
 def counted(number: int, thing: str) -> str:
     """So many of something, as `1 note` or `2 notes`."""
     return f"{number:,} {thing}{'' if number == 1 else 'es' if thing.endswith('ch') else 's'}"
+
+
+def named(counts: Mapping[str, int]) -> str:
+    """How many of each there are that is named in the plural, as `1 note; 2 bends`; nothing where there is none."""
+    said = {what: re.sub(r"s\b", "", what, count=1) if count == 1 else what for what, count in counts.items()}
+    return "; ".join(f"{count:,} {said[what]}" for what, count in sorted(counts.items()) if count)
 
 
 def must_differ(source: str, target: str) -> None:
