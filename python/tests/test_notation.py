@@ -38,6 +38,13 @@ harness: Any = importlib.import_module("harness")
 #: What is tried by the others, and how many random texts are.
 TRIED = "breath_and_pause", "controls", "legato_line", "melody", "8_end"
 RANDOM, ROUND, IMPORTS = 4, 6, 2
+#: Repeats with endings for two rounds and one, without any, one behind another, and with an ending for each round.
+LOOPS = """formula 1;
+repeat 3 { note c4 1/1; note d4 1/1; if less(n0, 2) { note e4 1/1; } else { note f4 1/1; } }
+repeat 4 { note g4 1/2; note a4 1/2; } repeat 2 { note b4 1/1; } repeat 2 { note a4 1/1; }
+repeat 3 { note c5 2/1; if less(n0, 1) { note d5 1/1; } else { if less(n0, 2) { note e5 1/1; } else { note f5 1/1; } } }
+note c4 1/1;
+"""
 
 
 def piece(text: str, meter: str = "4/4") -> Piece:
@@ -90,15 +97,12 @@ class Others(unittest.TestCase):
         self.tried(texts)
 
     def test_repeats_with_endings_are_played_as_printed(self) -> None:
-        rounds = ("repeat 3 { note c4 1/1; note d4 1/1; if less(n0, 2) { note e4 1/1; } else { note f4 1/1; } } "
-                  "repeat 4 { note g4 1/2; note a4 1/2; } repeat 2 { note b4 1/1; } repeat 2 { note a4 1/1; } "
-                  "repeat 3 { note c5 2/1; if less(n0, 1) { note d5 1/1; } else { "
-                  "if less(n0, 2) { note e5 1/1; } else { note f5 1/1; } } } note c4 1/1;")
-        self.tried([stress.Text("loops", f"formula 1; {rounds}".encode(), is_plain=True)])
+        self.tried([stress.Text("loops", LOOPS.encode(), is_plain=True)])
 
     def test_what_is_written_as_musicxml_comes_back(self) -> None:
         count = harness.Count()
-        for text in [*stress.own_texts(), *(stress.random_text(seed) for seed in range(1, ROUND + 1))]:
+        loops = stress.Text("loops", LOOPS.encode())
+        for text in [loops, *stress.own_texts(), *(stress.random_text(seed) for seed in range(1, ROUND + 1))]:
             stress.came_back(text, count, stress.Counter())
         self.assertEqual(count.failed, 0)
 

@@ -11,12 +11,14 @@ from xml.parsers import expat
 
 from formula_score.reading.playing import Failed
 
-_MOST_BYTES = 50_000_000
+_MOST_BYTES = 30_000_000
 _CONTAINER = "META-INF/container.xml"
 
 
 def root_of(data: bytes) -> Element:
     """The root of a file, as it is or as `.mxl`."""
+    if len(data) > _MOST_BYTES:
+        raise Failed(1, f"it has {len(data):,} bytes, and at most {_MOST_BYTES:,} are read")
     root = parsed(_unpacked(data) if data[:2] == b"PK" else data)
     if root.tag != "score-partwise":
         raise Failed(1, f"it is <{root.tag}>, and what is read is <score-partwise> of MusicXML")

@@ -97,7 +97,7 @@ def _by_xml(path: str, target: str) -> int:
     try:
         found = xml_going.read(text_of(path), os.path.basename(path))
     except Failed as failed:
-        raise failed if failed.status == 2 else Failed(failed.status, f"{path!r}: {failed.why}", failed.said)
+        raise failed if failed.status == 2 else Failed(1, f"{path!r}: {failed.why}", failed.said)
     save(target, found.text.encode())
     for line in found.lines:
         print(line)

@@ -50,7 +50,7 @@ def _mark(mark: Mark) -> str:
 
 def _plain(text: str) -> str:
     """A text that closes no string, and begins no comment."""
-    return text.replace('"', "'").replace("%", "\\%").replace("\\", "/")
+    return text.replace("\\", "/").replace('"', "'").replace("%", "\\%")
 
 
 class _Voice:

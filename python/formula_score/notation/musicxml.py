@@ -31,7 +31,7 @@ _BAR = "heavy-light", "light-heavy"
 _Bars = list[list[list[Value]]]
 
 
-def decimal(number: float) -> str:
+def _decimal(number: float) -> str:
     """A number with at most four digits behind the point."""
     return f"{number:.4f}".rstrip("0").rstrip(".")
 
@@ -41,7 +41,7 @@ def musicxml_of(piece: Piece) -> str:
     piece = folded(piece)
     parts: list[_Bars] = [[list(voices) for voices in zip(*(values_of(voice, piece.bars) for voice in part.voices))]
                           for part in piece.sheet.parts]
-    part_unit = reduce(gcd, {length for part in parts for bar in part for voice in bar for value in voice
+    unit = reduce(gcd, {length for part in parts for bar in part for voice in bar for value in voice
                              for length in (value.begin, value.length)} | {bar.end for bar in piece.bars}, WHOLE // 4)
     fifths = fifths_of(piece.sheet)
     lines = [*_head(piece), "<part-list>"]
@@ -49,7 +49,7 @@ def musicxml_of(piece: Piece) -> str:
         lines += _score_part(number, part, name)
     lines.append("</part-list>")
     for number, (part, bars) in enumerate(zip(piece.sheet.parts, parts), 1):
-        lines += _Staff(piece, number, part, fifths, part_unit).lines(bars)
+        lines += _Staff(piece, number, part, fifths, unit).lines(bars)
     return "\n".join([*lines, "</score-partwise>", ""])
 
 
@@ -182,9 +182,9 @@ def _tempo(mark: Mark) -> Iterator[tuple[int, str, str]]:
         yield mark.until - 1, _direction("above", '<dashes type="stop" number="1"/>'), ""
         return
     assert mark.tempo is not None
-    sound = f'<sound tempo="{decimal(float(mark.tempo))}"/>'
+    sound = f'<sound tempo="{_decimal(float(mark.tempo))}"/>'
     if mark.is_printed:
-        tempo = decimal(round(mark.tempo * 10) / 10)
+        tempo = _decimal(round(mark.tempo * 10) / 10)
         said = f"<beat-unit>quarter</beat-unit><per-minute>{tempo}</per-minute>"
         yield mark.place, _direction("above", f"<metronome>{said}</metronome>"), sound
     else:

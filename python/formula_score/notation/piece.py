@@ -40,7 +40,13 @@ def piece_of(walk: Played, meter: Meter, titles: Titles) -> Piece:
              for part in sheet.parts)
     sheet = sheet._replace(parts=tuple(part for part in parts if part.voices))
     _count_moved(sheet, before, walk.reading.whole)
-    return Piece(sheet, tuple(bars), marks_of(walk, sheet), tuple(_loops(walk)), tuple(_names(walk, sheet)), titles)
+    return Piece(sheet, tuple(bars), marks_of(walk, sheet), tuple(_loops(walk)), tuple(map(_shown, _names(walk, sheet))),
+                 Titles(*map(_shown, titles)))
+
+
+def _shown(text: str) -> str:
+    """A text without what no file of notation may have."""
+    return "".join(sign if sign.isprintable() else "?" for sign in text)
 
 
 def _loops(walk: Played) -> Iterator[tuple[int, int, int]]:

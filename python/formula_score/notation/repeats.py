@@ -180,5 +180,6 @@ def _moved(piece: Piece, paper: _Folded) -> Piece:
                    for shift in [paper.shift(mark.place)] if shift is not None)
     holds = (tuple(place + shift for place in places for shift in [paper.shift(place, True)] if shift is not None)
              for places in (marks.pauses, marks.breaths, marks.caesuras))
-    sheet = piece.sheet._replace(parts=tuple(parts), end=paper.bars[-1].end)
+    left = piece.bars[-1].end - piece.sheet.end
+    sheet = piece.sheet._replace(parts=tuple(parts), end=paper.bars[-1].end - left)
     return piece._replace(sheet=sheet, bars=tuple(paper.bars), marks=Marks(tempos, *holds))
