@@ -195,7 +195,7 @@ def _ending(bar: Bar) -> str:
 def _line(bar: Bar, behind: Optional[Bar]) -> str:
     """The bar line behind a bar: a double one ends the bracket of the last ending."""
     if bar.backward:
-        return " :|" + ":" * (behind is not None and behind.forward)
+        return " ::" if behind is not None and behind.forward else " :|"
     if behind is None:
         return " |]"
     return " |:" if behind.forward else " ||" if bar.closes else " |"

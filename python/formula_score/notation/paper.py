@@ -33,14 +33,14 @@ def run(folder: str, *words: str) -> str:
 
 
 def _by_musescore(piece: Piece, folder: str, suffix: str) -> str:
-    pathlib.Path(folder, "in.musicxml").write_text(musicxml_of(piece), encoding="utf-8")
-    return run(folder, "musescore3", "-o", f"out{suffix}", "in.musicxml")
+    pathlib.Path(folder, "score.musicxml").write_text(musicxml_of(piece), encoding="utf-8")
+    return run(folder, "musescore3", "-o", f"out{suffix}", "score.musicxml")
 
 
 def _by_abcm2ps(piece: Piece, folder: str, suffix: str) -> str:
     pathlib.Path(folder, "in.abc").write_text(abc_of(piece), encoding="utf-8")
     if suffix == ".svg":
-        return run(folder, "abcm2ps", "-g", "-O", "out.svg", "in.abc")
+        return run(folder, "abcm2ps", "-v", "-O", "out.svg", "in.abc")
     said = run(folder, "abcm2ps", "-O", "out.ps", "in.abc")
     return said + run(folder, "ps2pdf", "out.ps", "out.pdf")
 
