@@ -32,7 +32,7 @@ from .companion import Answer, score
 from .program import TOP, needs_program
 
 sys.path[:0] = [str(TOP / "tools"), str(TOP / "tools" / "stress")]
-stress: Any = importlib.import_module("notation")
+stress: Any = importlib.import_module("sheets")
 harness: Any = importlib.import_module("harness")
 
 #: What is tried by the others, and how many random texts are.
