@@ -40,13 +40,15 @@ def by_musescore(path: str) -> Listing:
 
 
 def by_abc2midi(path: str) -> Listing:
-    """A tune of ABC, its voices with their names: abc2midi begins each note a tick late, and ends it in time."""
+    """A tune of ABC, its voices with their names: abc2midi begins each note a tick late, ends it in time, and ends the
+    file behind its notes."""
     listing = _made(path, "abc", ("abc2midi", "{file}", "-NFER", "-o", "{target}"))
     called = voices_of(text_of(path).decode("utf-8", "replace"))
     events = [Event(track, 0, text(3, name.encode())) for track, name in enumerate(called, 1)
               if name and track < listing.tracks]
-    events += [event if is_off(event) else event._replace(tick=max(0, event.tick - 1)) for event in listing.events
-               if event.track == 0 or event.message[:2] != _NAME]
+    end = max((event.tick for event in listing.events if is_off(event)), default=0)
+    events += [event if is_off(event) else event._replace(tick=max(0, min(end, event.tick - 1)))
+               for event in listing.events if event.track == 0 or event.message[:2] != _NAME]
     return listing._replace(events=sorted(events, key=lambda event: event.track))
 
 

@@ -4,6 +4,7 @@ from __future__ import annotations
 
 from fractions import Fraction
 from itertools import groupby
+from operator import itemgetter
 from typing import Iterator, NamedTuple, Sequence
 
 from formula_score.making.lengths import DIVISION, MAX_DIVISION, MIN_DIVISION
@@ -13,6 +14,8 @@ from .xml_notes import Piece, Sound, Staff
 
 _MOST_BY, _MOST_TEMPOS, _LONGEST = 1_000_000, 200, Fraction(250)
 _MOST_PITCHES = 16
+#: The blocks that a statement is in, and what holds without them, in the order of what is said of it.
+_BLOCKS = ("volume", VELOCITY), ("gate", PERCENT)
 
 
 class _Said(NamedTuple):
@@ -39,12 +42,19 @@ def _length(length: Fraction, division: int) -> str:
 
 
 def _line(said: Sequence[_Said]) -> str:
-    """The statements of a bar, those that are struck alike in one block."""
+    """The statements of a bar, those that are struck alike in one block; what changes less often is the outer one."""
+    changes = [sum(1 for _ in groupby(said, key=itemgetter(at))) for at in range(len(_BLOCKS))]
+    return _nested(said, sorted(range(len(_BLOCKS)), key=changes.__getitem__))
+
+
+def _nested(said: Sequence[_Said], kinds: Sequence[int]) -> str:
+    if not kinds:
+        return " ".join(each.text for each in said)
+    word, usual = _BLOCKS[kinds[0]]
     words = []
-    for (velocity, percent), several in groupby(said, key=lambda each: each[:2]):
-        text = " ".join(each.text for each in several)
-        text = text if percent == PERCENT else f"gate {percent} {{ {text} }}"
-        words.append(text if velocity == VELOCITY else f"volume {velocity} {{ {text} }}")
+    for value, several in groupby(said, key=itemgetter(kinds[0])):
+        text = _nested(list(several), kinds[1:])
+        words.append(text if value == usual else f"{word} {value} {{ {text} }}")
     return " ".join(words)
 
 
