@@ -22,11 +22,11 @@ from .making.music import (
 )
 from .making.pitch import CHORDS, MODES, Pitch, PitchLike, Scale, chord
 from .making.short import notes
+from .notation.score import Score
 from .running.command import (
     FileEvent, Large, Listing, Located, audit, find_program, large, listing, locate, play, render,
 )
 from .running.rendering import render_all
-from .running.score import Score
 
 __version__ = "0.1.0"
 

@@ -150,12 +150,12 @@ par { branch { do soprano_1; } branch { channel 1 { note c3 3/4; } } }
 
     def test_a_suffix_that_is_not_written_is_refused(self) -> None:
         with tempfile.TemporaryDirectory() as folder:
-            source, target = pathlib.Path(folder, "in.score"), pathlib.Path(folder, "out.musicxml")
+            source, target = pathlib.Path(folder, "in.score"), pathlib.Path(folder, "out.png")
             source.write_text("formula 1; note c4 1/4;")
             target.write_text("kept")
             answer = score("export", source, target)
             self.assertEqual((answer.status, target.read_text()), (2, "kept"))
-            self.assertIn("ends in '.musicxml': what is written is a MIDI file, .mid or .midi", answer.complaint)
+            self.assertIn("ends in '.png': what is written is .mid, .midi, .musicxml or .abc", answer.complaint)
             self.assertEqual(score("export", source, pathlib.Path(folder, "out.MID")).status, 0)
 
     def test_meters_take_turns_behind_an_upbeat(self) -> None:

@@ -1,11 +1,13 @@
 """The pictures of the pages: piano rolls of the steps of docs/TUTORIAL.md, of two generators of python/COOKBOOK.md, and of
-two examples without their deformations and with them, side by side. Each is drawn by the companion from a listing."""
+two examples without their deformations and with them, side by side. Each is drawn by the companion from a listing. The last
+step of the tutorial is also drawn as notes, by MuseScore 3 where it is installed."""
 
 from __future__ import annotations
 
 import os
 import pathlib
 import re
+import shutil
 import subprocess
 import sys
 import tempfile
@@ -13,6 +15,8 @@ import tempfile
 #: Generators of the cookbook, by their numbers there, and the names of their pictures.
 GENERATORS = {1: "canon", 3: "phases"}
 BESIDE = "breath_and_pause", "nested_deformations"
+#: The part of a page of MuseScore that is shown.
+PAPER = "0 100 2976 1880"
 
 
 class Drawing:
@@ -36,6 +40,16 @@ class Drawing:
         script.write_text(f"{texts[number - 1]}score.save({str(score)!r})\n", encoding="utf-8")
         subprocess.run([sys.executable, "-B", script], check=True, env={**os.environ, "PYTHONPATH": str(self.top / "python")})
         return score
+
+    def on_paper(self, score: pathlib.Path) -> None:
+        """Draws a score as notes, and keeps the upper part of the page, on a white ground."""
+        picture = self.pictures / "paper.svg"
+        subprocess.run([self.top / "bin" / "formula-score", "print", score, picture, "--title", "Ode to Joy",
+                        "--composer", "Ludwig van Beethoven"], check=True)
+        drawn = re.sub(r'<svg [^>]*?\n', f'<svg width="893" height="564" viewBox="{PAPER}"\n', picture.read_text(encoding="utf-8"),
+                       count=1)
+        ground = '</desc>\n<rect width="100%" height="100%" fill="#ffffff"/>'
+        picture.write_text(drawn.replace("</desc>", ground, 1), encoding="utf-8")
 
     def with_and_without(self, name: str) -> None:
         """Draws an example without its deformations and with them, side by side."""
@@ -71,6 +85,8 @@ def draw_all(top: pathlib.Path, program: str) -> None:
         for score in sorted((top / "examples" / "tutorial").glob("*.score")):
             if f"pictures/{score.stem}.svg" in shown:
                 drawing.draw(score, drawing.pictures / f"{score.stem}.svg")
+        if shutil.which("musescore3"):
+            drawing.on_paper(top / "examples" / "tutorial" / "8_end.score")
         for number, name in GENERATORS.items():
             drawing.draw(drawing.generator(number), drawing.pictures / f"cookbook_{name}.svg")
         for name in BESIDE:

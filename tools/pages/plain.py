@@ -24,7 +24,7 @@ MOST_LINES, MOST_OF_A_LINE = 60, 160
 HELD = ("README.md", "docs/INSTALL.md", "CHANGELOG.md", "CONTRIBUTING.md", "docs/PROOF.md", "docs/POSITIONS.md", "docs/MIDI_FILE.md",
         "docs/SCHEDULER.md", "docs/RECORDS.md", "docs/ARCHITECTURE.md", "docs/GUARANTEES.md", "docs/CLAIMS.md",
         "docs/TUTORIAL.md", "docs/BATCH.md", "docs/STUDIO.md", "docs/SLIPS.md", "docs/GLOSSARY.md", "docs/LANGUAGE.md", "python/README.md", "python/COOKBOOK.md", "editors/README.md",
-        "examples/README.md", "examples/releases/README.md")
+        "docs/NOTATION.md", "examples/README.md", "examples/releases/README.md")
 NOT_YET: tuple[str, ...] = ()
 
 #: Pages of which the beginning keeps the limits, each with the heading at which it ends. An entry of DECISIONS is never changed.

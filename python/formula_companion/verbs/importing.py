@@ -1,4 +1,4 @@
-"""The verb `import`: a score from a MIDI file, played and compared with it."""
+"""The verb `import`: a score from a MIDI file, MusicXML or ABC, played and compared with it."""
 
 from __future__ import annotations
 
@@ -11,24 +11,31 @@ import tempfile
 import threading
 from typing import Callable, Iterator
 
+from ..importer import xml_going
 from ..importer.going import Imported, imported
 from ..importer.moved import Choices
+from ..importer.others import OF_HAIRPINS, by_abc2midi, by_musescore
 from formula_score.reading.midi_file import save
 from formula_score.reading.notes import is_on
-from formula_score.reading.playing import Failed, Listing, counted, listing_of_file, must_differ, needs, run as play
+from formula_score.reading.playing import Failed, Listing, counted, listing_of_file, must_differ, needs, run as play, \
+    text_of
 from .options import json_argument, put
 
 #: A file with more bytes or events makes no score, which has at most a mebibyte.
 _MOST_BYTES, _MOST_EVENTS = 8_000_000, 500_000
 _TOO_DEEP = "fault 12"
+_XML = ".musicxml", ".mxl", ".xml"
 #: After so many seconds a terminal is told what is done.
 _PATIENCE = 1.0
 
 
 def arguments(parser: argparse.ArgumentParser) -> None:
     """What the verb takes."""
-    parser.add_argument("file", metavar="FILE.mid", help="the MIDI file that is read")
+    parser.add_argument("file", metavar="FILE", help="the file that is read: MIDI, MusicXML (.musicxml, .mxl, .xml) or ABC "
+                        "(.abc)")
     parser.add_argument("score", metavar="SCORE", help="the score that is written; an older one is replaced")
+    parser.add_argument("--by", choices=("musescore",), help="what MuseScore 3 plays of the file is read, and what was meant by "
+                        "its signs is lost")
     parser.add_argument("--exact", action="store_true", help="no event moves: each note, control change, program change "
                         "and bend is played at its tick")
     parser.add_argument("--grid", type=_grid, metavar="1/16,1/24", help="all onsets go to these parts of a whole note; "
@@ -55,6 +62,10 @@ has its program and is held as long as in the file, or the status is 1 and the f
 A part whose notes lie on no grid stays as it is, and the grid that would move it least is told. With --exact nothing
 moves at all; the tempo is then a shape that is not used.
 
+MusicXML is read directly: notes with names and spelling, ties, repeats with endings, tempos, dynamics and bars. What is
+not played, as grace notes, ornaments and D.S., is counted. ABC goes by abc2midi, and its voices keep their names. With --by
+musescore any file that MuseScore opens goes by what it plays. The options above are for what is read as MIDI.
+
 What a score has no word for is left out, told and counted: texts, pressure, system exclusive messages. A note-off is
 sent with velocity 64; one that ends no note is left out; a note that never ends is ended with the file, or where its key
 is struck again."""
@@ -63,11 +74,17 @@ is struck again."""
 def run(options: argparse.Namespace) -> int:
     """Writes the score, and tells what moved and how it compares."""
     must_differ(options.file, options.score)
+    suffix = os.path.splitext(options.file)[1].lower()
+    if suffix in _XML and not options.by:
+        return _by_xml(options.file, options.score, options.json)
     choices = Choices(options.exact, options.grid, options.velocities, options.ends, not options.no_tempo, not options.no_phrases,
                       options.all_messages, not options.keep_clock, options.without)
     with _progress(options.file) as tell:
         tell("reading it")
-        listing = _listing(options.file)
+        if options.by:
+            listing, choices = by_musescore(options.file), choices._replace(without=choices.without | OF_HAIRPINS)
+        else:
+            listing = by_abc2midi(options.file) if suffix == ".abc" else _listing(options.file)
         found = _imported(listing, os.path.basename(options.file), choices, tell)
     save(options.score, found.text.encode())
     phrases = sum(line.startswith("phrase ") for line in found.text.splitlines())
@@ -80,6 +97,23 @@ def run(options: argparse.Namespace) -> int:
     for line in found.lines:
         print(line)
     print(f"{options.score}: {counted(found.branches, 'branch')}, {counted(phrases, 'phrase')}, {len(found.text):,} bytes")
+    return 0 if found.is_good else 1
+
+
+def _by_xml(path: str, target: str, as_json: bool) -> int:
+    """Writes the score of a MusicXML file, and tells what it has and how it compares."""
+    try:
+        found = xml_going.read(text_of(path), os.path.basename(path))
+    except Failed as failed:
+        raise failed if failed.status == 2 else Failed(1, f"{path!r}: {failed.why}", failed.said)
+    save(target, found.text.encode())
+    if as_json:
+        put({"lines": found.lines, "out": target, "branches": found.branches, "bytes": len(found.text.encode()),
+             "is_good": found.is_good})
+        return 0 if found.is_good else 1
+    for line in found.lines:
+        print(line)
+    print(f"{target}: {counted(found.branches, 'branch')}, {len(found.text):,} bytes")
     return 0 if found.is_good else 1
 
 

@@ -29,6 +29,12 @@ def meter_arguments(parser: argparse.ArgumentParser, otherwise: Optional[str] = 
                         help="what stands before bar 1; it is bar 0")
 
 
+def title_arguments(parser: argparse.ArgumentParser) -> None:
+    """The options --title and --composer."""
+    parser.add_argument("--title", metavar="TEXT", help="the title; else that of a comment `# title: ..`")
+    parser.add_argument("--composer", metavar="TEXT", help="the composer; else that of a comment `# composer: ..`")
+
+
 def process_argument(parser: argparse.ArgumentParser) -> None:
     """The option --process."""
     parser.add_argument("--process", type=int, metavar="P", help="the bars of this process, as the program numbers "

@@ -2,10 +2,10 @@
 
 from __future__ import annotations
 
-import pathlib
 from fractions import Fraction
-from typing import Iterator, NamedTuple
+from typing import Iterator
 
+from ..reading.branches import Titles
 from ..reading.meter import Meter
 from ..reading.midi_file import Timed, file_of, text
 from ..reading.playing import Failed
@@ -17,21 +17,6 @@ from .tracks import Staff
 
 #: The suffixes of files that are written.
 SUFFIXES = ".mid", ".midi"
-
-
-class Titles(NamedTuple):
-    """What a file says of the whole: its title and its composer, each empty where nothing is known."""
-
-    title: str = ""
-    composer: str = ""
-
-
-def must_be_written(path: str) -> None:
-    """Refuses a name whose suffix promises another kind of file."""
-    suffix = pathlib.PurePath(path).suffix.lower()
-    if suffix not in SUFFIXES:
-        raise Failed(2, f"{path!r} ends in {suffix!r}: " * bool(suffix) + f"{path!r} has no suffix: " * (not suffix)
-                     + f"what is written is a MIDI file, {' or '.join(SUFFIXES)}")
 
 
 def made(grid: Grid, tracks: list[Staff], meter: Meter, titles: Titles = Titles()) -> bytes:

@@ -51,6 +51,10 @@ FEATURES: dict[str, Feature] = {
         Package("libjs-codemirror", file="/usr/share/javascript/codemirror/lib/codemirror.js")), verbs=("studio",)),
     "lsp": Feature("`lsp`, for editors", (
         Package("python3-pylsp-jsonrpc", library="pylsp_jsonrpc", pip="python-lsp-jsonrpc"),), verbs=("lsp",)),
+    "notation": Feature("`print`, and `import --by musescore`", (Package("musescore3", command="musescore3"),)),
+    "abc": Feature("`import` of ABC, and `print` in place of MuseScore", (
+        Package("abcmidi", command="abc2midi"), Package("abcm2ps", command="abcm2ps"),
+        Package("ghostscript", command="ps2pdf"))),
     "dask": Feature("`batch --dask`, scores that other machines play too", (
         Package("python3-distributed", library="distributed"),), verbs=("batch --dask",)),
     "vim": Feature("colours, and the place of a refusal, in an editor", (Package("vim", command="vim"),)),

@@ -5,11 +5,12 @@ from __future__ import annotations
 import contextlib
 import os
 import pathlib
+import re
 import subprocess
 import sys
 import tempfile
 from functools import lru_cache
-from typing import Iterable, NamedTuple, Optional, Sequence
+from typing import Iterable, Mapping, NamedTuple, Optional, Sequence
 
 from ..explaining.explain import explanation
 from ..making.errors import CommandError
@@ -19,7 +20,7 @@ from ..explaining.kinds import BY_VERBS
 from ..running.outs import name_of, nameless
 
 __all__ = ["Event", "Failed", "Listing", "Run", "judge", "listed", "listing_of", "listing_of_file", "located",
-           "counted", "must_differ", "needs", "program", "run", "text_of"]
+           "counted", "must_differ", "must_end_in", "named", "needs", "program", "run", "text_of"]
 
 #: The status where there is no program, as `bin/formula` has it.
 NO_PROGRAM = 70
@@ -150,10 +151,25 @@ def counted(number: int, thing: str) -> str:
     return f"{number:,} {thing}{'' if number == 1 else 'es' if thing.endswith(('ch', 'ss')) else 's'}"
 
 
+def named(counts: Mapping[str, int]) -> str:
+    """How many of each there are that is named in the plural, as `1 note; 2 bends`; nothing where there is none."""
+    said = {what: re.sub(r"s\b", "", what, count=1) if count == 1 else what for what, count in counts.items()}
+    return "; ".join(f"{count:,} {said[what]}" for what, count in sorted(counts.items()) if count)
+
+
 def must_differ(source: str, target: str) -> None:
     """Refuses to write a file over what it is made of."""
     if os.path.exists(source) and os.path.exists(target) and os.path.samefile(source, target):
         raise Failed(2, f"{target!r} is the file that is read: give another name to what is written")
+
+
+def must_end_in(path: str, suffixes: Sequence[str]) -> str:
+    """The suffix of a file that is written, in small letters; refuses a name that promises another kind of file."""
+    suffix = pathlib.PurePath(path).suffix
+    if suffix.lower() in suffixes:
+        return suffix.lower()
+    said = f"{path!r} ends in {suffix!r}" if suffix else f"{path!r} has no suffix"
+    raise Failed(2, f"{said}: what is written is {', '.join(suffixes[:-1])} or {suffixes[-1]}")
 
 
 def judge(path: str, refused: Optional[int] = 1) -> bytes:
