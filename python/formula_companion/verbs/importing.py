@@ -56,19 +56,14 @@ def arguments(parser: argparse.ArgumentParser) -> None:
 
 The score is one to go on with: notes that lie near a grid go to it, ends go to the length that one would write, bars
 that are equal are a phrase or a loop, and the tempo of the file is a `warp` round the piece. The program then plays the
-score. A table says what moved and by how much; each event lies within the bounds of the page on MIDI files, each note
-has its program and is held as long as in the file, or the status is 1 and the first that is not so is told.
+score. A table says what moved and by how much. Where an event is past the bounds of the page on MIDI files, or a note
+lacks its program or its pedal, the status is 1 and the first one is told. A part whose notes lie on no grid stays as it
+is. With --exact nothing moves at all.
 
-A part whose notes lie on no grid stays as it is, and the grid that would move it least is told. With --exact nothing
-moves at all; the tempo is then a shape that is not used.
+MusicXML is read directly, and what is not played, as grace notes and ornaments, is counted. ABC goes by abc2midi. With
+--by musescore any file goes by what MuseScore plays of it. The other options are for what is read as MIDI.
 
-MusicXML is read directly: notes with names and spelling, ties, repeats with endings, tempos, dynamics and bars. What is
-not played, as grace notes, ornaments and D.S., is counted. ABC goes by abc2midi, and its voices keep their names. With --by
-musescore any file that MuseScore opens goes by what it plays. The options above are for what is read as MIDI.
-
-What a score has no word for is left out, told and counted: texts, pressure, system exclusive messages. A note-off is
-sent with velocity 64; one that ends no note is left out; a note that never ends is ended with the file, or where its key
-is struck again."""
+What a score has no word for is left out and counted: texts, pressure, system exclusive messages."""
 
 
 def run(options: argparse.Namespace) -> int:
