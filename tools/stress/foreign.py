@@ -38,6 +38,7 @@ BRANCHES, TICKS, BYTES = 0.60, 0.25, 0.90
 #: Of how large a part of the channels with notes there are at most as many branches as notes sound at once, and three.
 CHANNELS = 0.98
 FEW = 8
+SEVENTHS = re.compile(r"/(?:7|14|28|56)\b")
 
 
 class File(NamedTuple):
@@ -194,10 +195,10 @@ def measured(looks: dict[File, Look], is_whole: bool, count: harness.Count) -> N
 
 
 def by_others(program: str, count: harness.Count) -> None:
-    """Files that MuseScore 3 and abc2midi write of the examples: how many come back without a length in ticks."""
-    players = {"musescore3": [["musescore3", "-o", "there.mid", "here.mid"]],
-               "abc2midi": [["midi2abc", "here.mid", "-o", "here.abc"], ["abc2midi", "here.abc", "-o", "there.mid"]]}
-    for player, commands in players.items():
+    """Files that MuseScore 3 and abc2midi write of the examples come back without a length in ticks, but sevenths."""
+    players = {"musescore3": ("here.musicxml", ["musescore3", "-o", "there.mid", "here.musicxml"]),
+               "abc2midi": ("here.abc", ["abc2midi", "here.abc", "-o", "there.mid"])}
+    for player, (name, words) in players.items():
         if not shutil.which(player):
             count.not_tried(player, "it is not installed")
             continue
@@ -205,16 +206,17 @@ def by_others(program: str, count: harness.Count) -> None:
         for path in sorted(harness.EXAMPLES.glob("scores/*.score")) + sorted(harness.EXAMPLES.glob("tutorial/*.score")):
             with tempfile.TemporaryDirectory() as folder, contextlib.redirect_stdout(io.StringIO()):
                 there = pathlib.Path(folder, "there.mid")
-                if path.stem == "long_rests" or companion(["export", str(path), f"{folder}/here.mid"], "formula-score"):
+                if path.stem == "long_rests" or companion(["export", str(path), f"{folder}/{name}"], "formula-score"):
                     continue
-                for words in commands:
-                    subprocess.run(words, cwd=folder, env={**os.environ, "QT_QPA_PLATFORM": "offscreen"}, timeout=120,
-                                   stdout=subprocess.DEVNULL, stderr=subprocess.DEVNULL, check=False)
+                subprocess.run(words, cwd=folder, env={**os.environ, "QT_QPA_PLATFORM": "offscreen"}, timeout=120,
+                               stdout=subprocess.DEVNULL, stderr=subprocess.DEVNULL, check=False)
                 status, said, text = imported(there.read_bytes(), "--without", "2") if there.exists() else (1, "no file", "")
-            count.judge(f"{path.stem} by {player}", f"status {status}: {said}" if status else "")
+            wrong = f"status {status}: {said}" if status else ""
+            if "ticks" in text and not SEVENTHS.search(path.read_text()):
+                wrong = wrong or "a length comes back in ticks"
+            count.judge(f"{path.stem} by {player}", wrong)
             counts["ticks" not in text] += 1
         print(f"  by {player}: {counts[True]} of {sum(counts.values())} scores come back without a length in ticks")
-        count.judge(f"lengths by {player}", "" if 10 * counts[True] >= 9 * sum(counts.values()) else "fewer than nine in ten")
 
 
 def arguments(parser: argparse.ArgumentParser) -> None:
