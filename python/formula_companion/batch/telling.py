@@ -11,6 +11,7 @@ import time
 from typing import Iterator, Mapping, Optional
 
 from formula_score.explaining.explain import explanation, place_of, refusal
+from formula_score.making.values import draw_line
 from formula_score.running.outs import writing
 from .folder import RAW, Batch
 from .playing import NONE, PLAIN
@@ -40,9 +41,11 @@ class Progress:
         self.told = time.monotonic()
         rate = self.done / max(self.told - self.begun, 0.001)
         left = int((self.count - self.done) / rate)
-        line = f"{self.done} of {self.count}, {rate:.3g} a second, {left // 3600}:{left // 60 % 60:02}:{left % 60:02} left"
-        print(f"\r{line}\x1b[K" if self.is_terminal else f"batch: {line}", end="" if self.is_terminal else "\n",
-              file=sys.stderr, flush=True)
+        line = f"{self.done} of {self.count}, {rate:,.{0 if rate >= 10 else 1}f} a second, {left // 3600}:{left // 60 % 60:02}:{left % 60:02} left"
+        if self.is_terminal:
+            draw_line(line)
+        else:
+            print(f"batch: {line}", file=sys.stderr, flush=True)
 
     def end(self) -> None:
         """Nothing more is done."""

@@ -15,6 +15,7 @@ from ..importer import xml_going
 from ..importer.going import Imported, imported
 from ..importer.moved import Choices
 from ..importer.others import OF_HAIRPINS, by_abc2midi, by_musescore
+from formula_score.making.values import draw_line
 from formula_score.reading.midi_file import save
 from formula_score.reading.notes import is_on
 from formula_score.reading.playing import Failed, Listing, counted, listing_of_file, must_differ, needs, run as play, \
@@ -159,7 +160,7 @@ def _progress(path: str) -> Iterator[Callable[[str], None]]:
 
     def show() -> None:
         is_shown.set()
-        print(f"\r\033[K{path}: {now} ..", end="", file=sys.stderr, flush=True)
+        draw_line(f"{path}: {now} ..")
 
     def tell(what: str) -> None:
         nonlocal now
@@ -177,7 +178,7 @@ def _progress(path: str) -> Iterator[Callable[[str], None]]:
         if timer.is_alive():
             timer.join()
         if is_shown.is_set():
-            print("\r\033[K", end="", file=sys.stderr, flush=True)
+            draw_line("")
 
 
 def _grid(words: str) -> tuple[int, ...]:

@@ -11,6 +11,8 @@ import itertools
 import math
 import numbers
 import operator
+import os
+import sys
 from decimal import Decimal
 from typing import Iterable, Iterator, Optional
 
@@ -134,3 +136,9 @@ _ESCAPES = {number: chr(number).encode("unicode_escape").decode() for number in 
 def escaped(text: str) -> str:
     """Lines for a terminal, in which it finds nothing to obey."""
     return text.translate(_ESCAPES)
+
+
+def draw_line(text: str) -> None:
+    """Draws the last line of the terminal that standard error is anew, straight: what is printed there is escaped."""
+    sys.stderr.flush()
+    os.write(2, f"\r{escaped(text)}\x1b[K".encode("utf-8", "backslashreplace"))
