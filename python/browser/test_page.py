@@ -8,6 +8,7 @@ from typing import Any
 
 from formula_score.running.command import listing, render
 from tests.program import PROGRAM, TOP
+from tests.studio import Running
 
 from .page import TUNE, PageTest, example
 
@@ -36,6 +37,27 @@ class Typed(PageTest):
         self.press("up", "end", ";")
         self.shown([60, 64])
         self.assertEqual((self.text("refusal"), self.value("document.querySelector('.refused')")), ("", None))
+
+    def test_a_run_that_is_killed_fades_the_picture_and_says_why(self) -> None:
+        folder, killed = self.downloads / "killed", self.downloads / "is_killed"
+        program = self.downloads / "program"
+        folder.mkdir()
+        (folder / "tune.score").write_text(TUNE)
+        program.write_text(f'#!/bin/sh\nif [ -e {killed} ]; then kill -KILL $$; fi\nexec {PROGRAM} "$@"\n')
+        program.chmod(0o755)
+        studio = Running(folder, program=str(program))
+        self.addCleanup(self.open)
+        self.addCleanup(studio.close)
+        self.browser.get(studio.address)
+        self.waited(lambda: self.value("Boolean(window.studio)") and self.keys() == [60, 64, 67], "the tune")
+        killed.touch()
+        self.write("formula 1; note d4 1/4;")
+        self.waited(lambda: self.value("document.getElementById('seeing').classList.contains('stale')"), "the faded picture")
+        self.waited(lambda: "SIGKILL" in self.value("document.body.innerText"), "the signal")
+        killed.unlink()
+        self.write("formula 1; note e4 1/4;")
+        self.waited(lambda: self.keys() == [64], "the new picture")
+        self.assertNotIn("SIGKILL", self.value("document.body.innerText"))
 
     def test_the_words_that_may_stand_there_are_offered(self) -> None:
         self.write("formula 1;\nphrase tune { note c4 1/4; }\ndo t")
