@@ -143,7 +143,7 @@ fn bytes_have_their_first_fault(rt: HostRuntime) {
 fn a_fault_has_a_text(rt: HostRuntime) -> Result<(), Fail> {
     if let Err(fault) = read(b"RIFF") {
         let text = format!(in rt.alloc(); "{fault}")?;
-        let wanted = b"byte 0: a RIFF wrapper stands around the file";
+        let wanted = b"byte 0: fault 21";
         same_bytes(&rt, text.as_bytes(), wanted);
     }
     Ok(())

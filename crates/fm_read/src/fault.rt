@@ -63,26 +63,12 @@ impl ReadKind {
     }
 }
 
+/// The number of the fault.
 impl fmt::Display for ReadKind {
     ghost output = { λ kind. Some (kind_text kind) };
 
     fn fmt<W: fmt::Write>(&self, f: &mut fmt::Formatter<W>) -> fmt::Result {
-        f.write_str(match self {
-            ReadKind::Wrapped => "a RIFF wrapper stands around the file",
-            ReadKind::NotMidi => "this is no Standard MIDI File",
-            ReadKind::Truncated => "the bytes end too early, or a few follow the last chunk",
-            ReadKind::ShortHeader => "the header is shorter than six bytes",
-            ReadKind::FormatTwo => "format 2 is not read",
-            ReadKind::BadFormat => "there is no such format",
-            ReadKind::Smpte => "the division counts frames of SMPTE time",
-            ReadKind::BadQuantity => "a quantity has more than four bytes",
-            ReadKind::BadStatus => "no event of a file begins with this byte",
-            ReadKind::BadData => "a data byte is above 127",
-            ReadKind::NoStatus => "a data byte stands where no status is in force",
-            ReadKind::NoEnd => "the track ends without End of Track",
-            ReadKind::AfterEnd => "a byte follows End of Track",
-            ReadKind::NoTrack => "the file has no track",
-        })
+        write!(f, "fault {}", self.number())
     }
 }
 

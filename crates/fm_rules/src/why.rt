@@ -59,24 +59,11 @@ impl Why {
     }
 }
 
+/// The number of the fault.
 impl fmt::Display for Why {
     ghost output = { λ why. Some (why_text why) };
 
     fn fmt<W: fmt::Write>(&self, f: &mut fmt::Formatter<W>) -> fmt::Result {
-        f.write_str(match self {
-            Why::DoubleName => "a shape or phrase of this name was defined before",
-            Why::UnknownName => "nothing of this name was defined before",
-            Why::OutOfRange => "a number is outside its range, or an entry is one too many",
-            Why::NotTicks => "the length is no whole number of ticks",
-            Why::ForkInChoice => "a fork may not depend on a computed value",
-            Why::PlayOutsideRhythm => "no rhythm is open",
-            Why::IndexOutsideLoop => "the index is that of no open loop",
-            Why::TooDeep => "the block stands inside too many",
-            Why::TooManyProcesses => "too many processes",
-            Why::TooManyOperations => "too many operations",
-            Why::TooLong => "too long",
-            Why::TooManyEvents => "too many events",
-            Why::TooManySteps => "too many steps",
-        })
+        write!(f, "fault {}", self.number())
     }
 }

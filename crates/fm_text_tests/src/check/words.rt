@@ -33,14 +33,14 @@ const CHECKS: &[(CheckFault, &str)] = &[
             why: Why::NotTicks,
             spot: SPOT,
         },
-        "2:31: the length is no whole number of ticks",
+        "2:31: fault 8",
     ),
     (
         CheckFault::Refused {
             why: Why::TooLong,
             spot: SPOT,
         },
-        "2:31: too long",
+        "2:31: fault 15",
     ),
     (CheckFault::Memory, "out of memory"),
 ];
