@@ -38,6 +38,14 @@ class Typed(PageTest):
         self.shown([60, 64])
         self.assertEqual((self.text("refusal"), self.value("document.querySelector('.refused')")), ("", None))
 
+    def test_a_cure_is_a_button(self) -> None:
+        self.write("formula 1;\nnote c4 1/4\nnote e4 1/4;")
+        self.waited(lambda: self.value("document.querySelectorAll('#refusal button').length") > 1, "the button")
+        self.browser.execute_script("[...document.querySelectorAll('#refusal button')].pop().click()")
+        self.shown([60, 64])
+        self.assertEqual((self.text("refusal"), self.value("studio.writing.text")),
+                         ("", "formula 1;\nnote c4 1/4;\nnote e4 1/4;"))
+
     def test_a_run_that_is_killed_fades_the_picture_and_says_why(self) -> None:
         folder, killed = self.downloads / "killed", self.downloads / "is_killed"
         program = self.downloads / "program"
