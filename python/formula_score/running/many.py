@@ -21,7 +21,7 @@ AHEAD, AHEAD_EACH, MOST_AHEAD = 64, 3, 256 << 20
 #: was sent so many seconds ago does not count: it may be at play, and others wait for the program.
 AT_FIRST, MOST_CARRYING, MOST_SENDS, CARRYING = 8, 8, 3, 0.5
 #: A handful is tried so often. One with which a process died counts ten times, and is then tried text by text.
-TRIES, DEATH = 20, 10
+TRIES, DEATH = 50, 25
 #: Nothing more is tried after so many answers for each place in a row that nothing can be played: `_Asked.is_hopeless`.
 MOST_BROKEN, LAST_BROKEN = 4, 20
 #: Nor is it after so many seconds without an answer, beyond those that a run may take.
