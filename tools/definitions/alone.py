@@ -2,10 +2,11 @@
 
     alone.py FUNCTION CLAUSE FOLDER [--each [FIRST [LAST]] | --some N [SEED]]
 
-The crate has nothing but what scripts/statement prints, with the `use` lines that this needs. With --each every
-definition is left out once, and the check has to refuse what is left: so the list has nothing that is not needed. With
---some N that is tried with N of them, drawn at random. Those that the clause itself names are not left out, since the crate
-does not hold the clause. A check takes some ten seconds of processor, so all of them take more than an hour. The last line
+The crate has nothing but what scripts/statement prints, with the `use` lines that this needs, and the clause itself with
+its premises, as a statement about the values that it reads. With --each every definition is left out once, and the check
+has to refuse what is left: so the list has nothing that is not needed, and its verdict is about the clause. With --some N
+that is tried with N of them, drawn at random. What only the code of the objects names that are handed in is named by the
+module of the clause. A check takes some ten seconds of processor, so all of them take more than an hour. The last line
 tells how many were left out, of how many, and how many of these the rest does not need."""
 from __future__ import annotations
 
@@ -26,6 +27,9 @@ from statement import Statement, statement_of, text_of  # noqa: E402
 TOP = os.path.dirname(os.path.dirname(os.path.dirname(os.path.abspath(__file__))))
 CRATE = "statement"
 KEPT_DERIVES = ("Clone", "Copy", "Drop")
+# The values of the plain types of parameters, and where the types of values are found.
+PLAIN_TYPES = {"[String]": "List (String A)", "u8": "ℕ", "u32": "ℕ", "u64": "ℕ", "usize": "ℕ"}
+LIBRARY_TYPES = (("Rattle.std.specs.Prelude", "List"), ("Rattle.std.specs.Prelude", "ℕ"), ("Rattle.std.specs.Prelude", "String"))
 
 
 def module_of(module: str) -> str:
@@ -144,6 +148,27 @@ class Alone:
                     kept.append(imported.name if imported.name == key else f"{imported.name} as {key}")
         return [f"ghost use {module_of(use.split('.{')[0])}.{{{', '.join(kept)}}};"] if kept else []
 
+    # ---- the clause
+
+    def claim(self) -> str:
+        """The clauses as one statement: for all values that they read, where the premises hold, each of the others."""
+        statement, path = self.statement, self.statement.function.path
+        lines = []
+        for use in self.repository.code_of[path].ghost_uses:
+            lines += [line.removeprefix("ghost ").rstrip(";") for line in self.ghost_use(path, use)]
+        of_code = {name: None for piece in statement.handed for name in piece.names if name.kind == "definition"}
+        lines += [f"use {module_of(name.module)}.{{{name.name}}}" for name in of_code]
+        texts = [re.sub(r"\b(\w+)\.(old|new|now)\b", r"\1_\2", clause.text) for clause in statement.clauses]
+        names = list(dict.fromkeys(re.findall(r"\b\w+_(?:old|new|now)\b|\bresult\b", " ".join(texts))))
+        types = [value_type(statement, name) for name in names]
+        lines += [f"use {module}.{{{name}}}" for module, name in LIBRARY_TYPES if any(name in re.findall(r'\w+', each) for each in types)
+                  and not any(f"{{{name}" in line or f", {name}" in line for line in lines)]
+        premises = [f"({text})" for text, clause in zip(texts, statement.clauses) if clause.word == "requires"]
+        claims = " × ".join(f"({text})" for text, clause in zip(texts, statement.clauses) if clause.word != "requires")
+        lines += ["", f"pub claim : {{A : Type 0}} → {' → '.join(f'({name} : {each})' for name, each in zip(names, types))} → Type 0",
+                  f"claim {' '.join(names)} = {' → '.join([*premises, claims])}"]
+        return "\n".join(lines) + "\n"
+
     # ---- the crate
 
     def write(self, folder: str) -> None:
@@ -151,8 +176,10 @@ class Alone:
         shutil.rmtree(crate, ignore_errors=True)
         for part in ("src", "specs", "proofs"):
             os.makedirs(f"{crate}/{part}")
-        libraries = sorted({module.split(".")[1] for module in self.statement.library if module.startswith("Rattle.")} - {"std", "core"})
-        write(f"{folder}/crates.txt", f"{CRATE}: {' '.join(libraries)}\n")
+        claim = self.claim()
+        libraries = {module.split(".")[1] for module in self.statement.library if module.startswith("Rattle.")}
+        libraries |= set(re.findall(r"^use Rattle\.(\w+)", claim, re.M))
+        write(f"{folder}/crates.txt", f"{CRATE}: {' '.join(sorted(libraries - {'std', 'core', CRATE}))}\n")
         write(f"{folder}/HANDLES", "Handles allowed: none.\n")
         modules, sources = [], []
         for path in dict.fromkeys(definition.path for definition in self.statement.needed):
@@ -168,10 +195,28 @@ class Alone:
             else:
                 sources.append(code_file(path))
                 write(f"{crate}/src/{sources[-1]}.rt", self.source(needed))
+        modules.append("Claim")
+        write(f"{crate}/specs/Claim.antt", claim)
         write(f"{crate}/specs/Lib.antt", "".join(f"pub mod {name}\n" for name in modules))
         write(f"{crate}/proofs/Lib.antt", "")
         write(f"{crate}/src/lib.rt", "//! The definitions of a reading list.\n#![tactic(auto)]\n\n"
               + "".join(f"pub mod {name};\n" for name in sources))
+
+
+def value_type(statement: Statement, name: str) -> str:
+    """The type of a value that clauses read: of the answer, of a parameter with a model, or of plain words or numbers."""
+    if name == "result":
+        return "ℕ"
+    parameter = name.rpartition("_")[0]
+    found = re.search(rf"\b{parameter}: &(?:mut )?(\[String\]|\w+)", statement.function.head)
+    written = found[1] if found else ""
+    if written in PLAIN_TYPES:
+        return PLAIN_TYPES[written]
+    for piece in statement.handed:
+        model = re.search(rf"Model for {written}\b.*?ghost Value = \{{ (.*?) \}};", piece.text, re.DOTALL)
+        if model:
+            return model[1]
+    raise NotRead(f"{statement.function.path}: of what type is the value {name}?")
 
 
 def library_uses(code: str, items: str) -> list[str]:
@@ -225,8 +270,7 @@ def main() -> int:
     if way is None:
         return 0
     numbers = [int(word) for word in sys.argv[sys.argv.index(way) + 1:]]
-    named = {name for definition in statement.needed for name in definition.names}
-    all_of_them = [definition for definition in statement.needed if definition.target in named]
+    all_of_them = statement.needed
     chosen = all_of_them[slice(*numbers) if numbers else slice(None)] if way == "--each" else drawn(all_of_them, *numbers)
     kept = 0
     for definition in chosen:
