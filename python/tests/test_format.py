@@ -133,6 +133,9 @@ class Formats(unittest.TestCase):
         finally:
             os.chdir(home)
         texts += [path.read_text() for path in paths]
+        # one has comments wherever they may be, and all other examples are set already
+        self.assertEqual([path.name for path in paths if formatted(read(path.read_bytes())) != path.read_bytes()],
+                         ["comments.score"])
         texts += [text for text in (Texts(seed).score() for seed in range(12)) if run(text)[0] == 0]
         set_already = 0
         for text in texts:

@@ -79,6 +79,8 @@ class Summaries(unittest.TestCase):
                                      "channel": 0,
                                      "end": 5376, "bar": 2, "beat": 1, "ticks": 0, "process": 1, "line": 5,
                                      "column": 24})
+        done = self.played(self.path, self.folder / "t.mid", "--events")
+        self.assertEqual((done.returncode, json.loads(done.stdout)["events"]), (0, events))
 
     def test_json_of_bars_and_lint(self) -> None:
         status, value = self.json("bars", self.path)

@@ -21,12 +21,12 @@ def _texts() -> dict[str, tuple[bytes, int, int]]:
     small = b"formula 1; " + _NOTE * 58
     large = b"formula 1; " + _NOTE * ((1 << 20) // len(_NOTE) - 3)
     lines = large.replace(b"; ", b";\n") + b"repeat 2 {\n  note c4 1/4;\n"
-    long = b"formula 1; note " + b"c4, " * 8000
+    long = b"formula 1; set r0 = " + b"r1 * 10 + " * 3200
     return {"1 KB": (small + b"note fis4 1/4;", len(small) + 5, MOST_OF_SMALL),
             "1 MiB, the place at its end": (large + b"note fis4 1/4;", len(large) + 5, MOST_OF_LARGE),
             "1 MiB, the place at its beginning": (b"formula 1; note fis4 1/4; " + large[11:], 16, MOST_OF_LARGE),
             "1 MiB, a brace that is missing": (lines, len(lines), MOST_OF_LARGE),
-            "one statement of 32 KB": (long + b"fis4 1/4;", len(long), MOST_OF_LONG)}
+            "one statement of 32 KB": (long + b"(4 x 5);", len(long) + 3, MOST_OF_LONG)}
 
 
 def _best(bench: Bench, call: Callable[[], object]) -> float:

@@ -19,6 +19,7 @@ from formula_score.explaining.words import FLAGS, RANGES, USAGE, Words, read
 from formula_score.making.values import escaped
 from formula_score.reading.meter import Meter, groups_of
 from formula_score.reading.playing import NO_PROGRAM, Failed, program, text_of
+from formula_score.reading.sending import sent_of
 from formula_score.reading.ticks import agreed
 from formula_score.running.command import ends_with_this, environment
 from formula_score.running.outs import (
@@ -27,13 +28,14 @@ from formula_score.running.outs import (
 from .ins import Source, source_of
 from .options import failure, near_option
 from .origin import origin
+from .show import events
 
 #: The statuses of the program that this verb gives by itself, and the program's lines.
 WORDS, READ, UNSAID = 1, 2, 5
 LINES = {WORDS: "formula: words refused", READ: "formula: read fault", WRITE: WRITE_LINE}
 
 #: The options of this verb alone.
-OWN = ("--summary", "--json")
+OWN = ("--summary", "--json", "--events")
 
 ABOUT = """\
 Runs formula on the same words, and is safe in the hand:
@@ -47,10 +49,10 @@ Runs formula on the same words, and is safe in the hand:
 - `-`, /dev/stdin, other open descriptors and FIFOs may be IN, whoever owns them: they are read once, from where they
   are to their end, before anything is played. A file whose name is `-` is `./-`.
 
-The options are those of formula(1), and two more. --summary prints what was played: events, length in bars of 4/4 and
-in seconds, processes, keys by channel. --json prints one line of JSON: `status`, `said`, `why`, of a refused text
-`refused` with its place and the cure, and with --summary the `summary`. Where OUT is standard output both go to
-standard error. --help prints this, --version from what the program was proved.
+The options are those of formula(1), and three more. --summary prints what was played: events, length in bars of 4/4
+and in seconds, processes, keys by channel. --json prints one line of JSON: `status`, `said`, `why`, of a refused text
+`refused` with its place and the cure, with --summary the `summary`, and with --events the `events` as `show` has them.
+Where OUT is standard output all go to standard error. --help prints this, --version from what the program was proved.
 
 example: formula-score play tune.score tune.mid
 
@@ -71,6 +73,8 @@ def main(words: Sequence[str], name: str, version: str) -> int:
     _open_what_is_closed()
     own = {option for option in options if option in OWN}
     asked = read([word for at, word in enumerate(words) if at >= len(options) or word not in own])
+    if "--events" in own:
+        own.add("--json")
     if own and (asked.wrong or asked.task in ("--audit", "--list", "--record", "--locate") or asked.files[0] == "-"):
         asked = asked._replace(wrong=asked.wrong
                                or f"{' and '.join(sorted(own))} need a score in a file, and its MIDI file as OUT")
@@ -136,10 +140,14 @@ def _summed(end: End, source: str, own: set[str], number: int) -> int:
     """Says how the run ended, and what was played, on a descriptor, and gives the status."""
     value = failure(Failed(end.status, end.why, end.said), source)
     lines = []
-    if "--summary" in own and end.status == 0:
+    if own - {"--json"} and end.status == 0:
         walk = agreed(text_of(source))
-        found = of_score(walk, Meter(groups_of("4/4"), Fraction(0), walk.reading.whole))
-        value, lines = {**value, "summary": found.value()}, list(found.lines())
+        meter = Meter(groups_of("4/4"), Fraction(0), walk.reading.whole)
+        if "--summary" in own:
+            found = of_score(walk, meter)
+            value, lines = {**value, "summary": found.value()}, list(found.lines())
+        if "--events" in own:
+            value = {**value, "events": events(sent_of(walk), meter)}
     if "--json" in own:
         return end.status if _put(number, json.dumps(value, ensure_ascii=False)) else UNSAID
     if end.status:

@@ -91,13 +91,18 @@ def _shown(shown: Shown, options: argparse.Namespace) -> int:
     if options.summary:
         return show_summary(shown.summary, options.json)
     if options.json:
-        lines = map(Sounding, shown.listing.events, itertools.repeat(None)) if options.all else paired(shown.listing)
-        put({"head": shown.head, "events": [_value(line, shown.meter) for line in lines]})
+        put({"head": shown.head, "events": events(shown.listing, shown.meter, options.all)})
         return 0
     print(shown.head)
     for line in _told(shown.listing, shown.meter, options.all):
         print(line)
     return 0
+
+
+def events(listing: Listing, meter: Optional[Meter], everything: bool = False) -> list[dict[str, Any]]:
+    """The events for a program; ends of notes among them, or how long each note sounds."""
+    lines = map(Sounding, listing.events, itertools.repeat(None)) if everything else paired(listing)
+    return [_value(line, meter) for line in lines]
 
 
 def _value(line: Sounding, meter: Optional[Meter]) -> dict[str, Any]:

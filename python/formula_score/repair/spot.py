@@ -12,7 +12,7 @@ from .lexing import Lexeme, Line
 #: How many bytes behind the place are looked at.
 BEHIND = 1500
 #: How many bytes a statement may have that is looked at, without blanks and comments.
-LONGEST = 20_000
+LONGEST = 64_000
 _COMMENT = re.compile(rb"#[^\n]*")
 _MARKS = re.compile(rb"#[^\n]*|[;{}]")
 BRACES = re.compile(rb"#[^\n]*|[{}]")

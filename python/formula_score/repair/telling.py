@@ -114,7 +114,9 @@ def _of_ways(spot: Spot, found: list[Way]) -> Told:
         if other.cost <= found[0].cost + BESIDE and 0 < len(other.shown) <= SHOWN and other.shown != found[0].shown:
             second = said(other, spot)
             if "\n" not in first.cure + second.cure:
-                return Told("if", lines(first.cure, f"or write `{other.shown}`"), first.texts + second.texts)
+                whys = [max(way.repair.edits, key=lambda edit: edit.row.cost).row.why for way in (found[0], other)]
+                why = f" ({whys[1]})" if whys[1] and whys[0] != whys[1] else ""
+                return Told("if", lines(first.cure, f"or write `{other.shown}`{why}"), first.texts + second.texts)
     return first
 
 

@@ -54,6 +54,8 @@ FACTS = (
         "set r0 = max(r1);"),
     fact("computed setting", r"\(|[rn][0-9]", "this number is written, and never computed: a list gives each note its "
         "own, as in `loud [60, 70, 80] { .. }`", "setting entry", "volume (60 + 4) { }"),
+    fact("chords by name", r"\\?(?:chordmode|chords|gchord)(?![a-z])", "a chord is written by its pitches, as in "
+        "`note c4, e4, g4, bb4 1/1;`", "statement", "\\chordmode { c1:7 }", first=True),
     fact("velocity of a note", r",? ?(?:vel|velocity|amp|release|attack|sustain)(?![a-z])",
         "a loudness holds for a block, as in `volume 80 { note c4 1/4; }`", "end", "note c4 1/4, release: 2;"),
     fact("loop with a condition", r"(?:while|until|forever|loop)(?![a-z])", "a loop has a count and no condition, as "

@@ -32,6 +32,8 @@ ROWS = (
         "phrase tune { } do ‹\"tune\"→tune›;"),
     row("name in parentheses!", r"\( ?([a-z]\w*) ?\)", r"\1", 0.8, "name", "a name has no parentheses",
         "phrase tune { } do ‹(tune)→tune›;"),
+    row("arguments of a phrase", r"([a-z]\w*) ?\([a-z0-9_ ,=:]+\)(?= ?\{)", r"\1", 0.9, "new", "a phrase has no arguments, "
+        "and a register hands a value over", "phrase tune‹(r1)→› { note key (r1) 1/4; }"),
     row("name with parentheses!", r"([a-z]\w*) ?\( ?\)", r"\1", 0.8, "name new", "a name has no parentheses",
         "phrase tune { } do tune‹()→›;"),
     row("name of other signs", r"([A-Za-z]\w*)(?:[- .]([A-Za-z0-9]\w*))+", lambda f: re.sub(r"\W+", "_", f[0]).lower(),
@@ -63,6 +65,11 @@ ROWS = (
         "a `do` plays one phrase", "phrase a { } phrase b { } do a‹,→; do› b;"),
     row("times of a do", r"(do [a-z]\w*),? ?(?:[x*] ?)?([0-9]+)(?: ?(?:x|times))? ?;", r"repeat \2 { \1; }", 1.2,
         "statement", "a loop plays it more than once", "phrase tune { } ‹do tune 4;→repeat 4 { do tune; }›"),
+    row("times of a do in words", r"(do [a-z]\w*),? (twice|thrice) ?;",
+        lambda f: f"repeat {'2' if f[2] == 'twice' else '3'} {{ {f[1]}; }}", 1.1, "statement",
+        "a loop plays it more than once", "phrase tune { } ‹do tune twice;→repeat 2 { do tune; }›"),
+    row("repeat of LilyPond!", r"\\?repeat ?\\?(?:volta|unfold|percent|tremolo|segno) ([0-9]+)(?= ?\{)", r"repeat \1", 0.9,
+        "statement", "a loop is a `repeat` with its count", "‹\\repeat volta 2→repeat 2› { note c4 1/4; }"),
     row("times of a note", r"((?:note|play|rest) [^;{}*x]*[0-9]) ?[x*] ?([0-9]+)(?: ?times)? ?;", r"repeat \2 { \1; }",
         1.3, "statement", "a loop plays it more than once", "‹note c4 1/4 x4;→repeat 4 { note c4 1/4; }›"),
     row("head of a loop", r"(?:for|repeat|loop)[^;{}0-9]*(?:[a-z]\w* (?:in|=)[^0-9{}]*)?(?<![a-z0-9_])(?:([0-9]+) "
