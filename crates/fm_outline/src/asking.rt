@@ -130,6 +130,7 @@ pub(crate) fn beat_at(spot: Spot) -> Step
 }
 
 /// A statement at its spot, which says what it asks, and whether it forks. None is made elsewhere.
+#[inline(always)]
 pub(crate) fn step_at(spot: Spot, what: Instruction, phrases: &[Needs], tables: &Tables) -> Step
     ensures spot { result.spot ≡ spot }
     ensures what { result.what ≡ what }

@@ -73,6 +73,7 @@ impl<'s> Outliner<'s> {
     }
 
     // A statement at its spot, from what is known so far.
+    #[inline(always)]
     fn step(&self, spot: Spot, what: Instruction) -> Step
         ensures spot { result.spot ≡ spot }
         ensures what { result.what ≡ what }
