@@ -63,6 +63,7 @@ fn branches_ask(branches: &[Vec<Step>]) -> Needs
 }
 
 // What those inside a statement ask, as they say.
+#[inline(always)]
 fn inside_asks(what: &Instruction, phrases: &[Needs]) -> Needs
     ensures { (t : PlainTables) (look : Look) → CanMark phrases.now t look what.now →
         InsideAsks t (instruction_view look what.now) result }

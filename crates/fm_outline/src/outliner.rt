@@ -73,7 +73,6 @@ impl<'s> Outliner<'s> {
     }
 
     // A statement at its spot, from what is known so far.
-    #[inline(always)]
     fn step(&self, spot: Spot, what: Instruction) -> Step
         ensures spot { result.spot ≡ spot }
         ensures what { result.what ≡ what }
@@ -226,7 +225,8 @@ impl<'s> Maker<'s> for Outliner<'s> {
         match opened.shell {
             Some(shell) => {
                 let what = shell.round(body);
-                self.step(opened.spot, what)
+                let walk = &self.sketch.walk;
+                step_at(opened.spot, what, &walk.known.needs, &walk.tables)
             }
             None => beat_at(opened.spot),
         }
@@ -258,7 +258,8 @@ impl<'s> Maker<'s> for Outliner<'s> {
         match tested.expr {
             Some(expr) => {
                 let what = Instruction::Choice { expr, yes, no };
-                self.step(tested.spot, what)
+                let walk = &self.sketch.walk;
+                step_at(tested.spot, what, &walk.known.needs, &walk.tables)
             }
             None => beat_at(tested.spot),
         }
