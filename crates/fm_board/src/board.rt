@@ -180,7 +180,6 @@ impl Board {
         let new = word_of_floor(floor);
         seat.token.store::<PublishPlay>(&self.table.shared, 0, new);
         seat.looks.clear();
-        seat.idle = false;
     }
 
     /// Settles what was taken, which is the next part of the piece, and counts it as released. It

@@ -1,4 +1,4 @@
-use Rattle.std.proofs.Common.{arith, ap, ◌∙◌, ◌∷◌, Option, Some, refl}
+use Rattle.std.proofs.Common.{arith, ap, sym, ◌∙◌, ◌∷◌, Option, Some, refl}
 use Rattle.atomic_table.specs.Table.{rest}
 use Rattle.fm_buffer.specs.Outbox.{EventQueue}
 use Rattle.fm_strand.specs.declared.strand.Strand.{Strand}
@@ -43,6 +43,8 @@ invariant_of-seat c =
           c.exchange.ensures.is back,
       latest_gave _ _ c.seat.inside.token.me.0.view _ c.seat.invariant.1
           (ap (λ (m : Mind). m.view) back.mind ∙ ap (λ (y : Holder). gave y.0.view) c.exchange.ensures.is),
+      c.seat.invariant.2
+          ∙ sym (ap (λ (m : Mind). m.log.idle) back.mind ∙ ap (λ (y : Holder). y.0.log.idle) c.exchange.ensures.is),
     )
 
 pub returns-clause-gave : goal.returns-clause-gave
