@@ -3,12 +3,16 @@ use Rattle.std.proofs.Common.{◌≡◌, ◌⊎◌, ℕ, zero, suc, ◌+◌, ◌
 use Rattle.std.specs.Prelude.{if◌then◌else◌, nat_eq, ◌&&◌}
 use Rattle.fm_core.proofs.Booleans.{clash}
 use Rattle.fm_core.specs.Sweep.{swept}
-use Rattle.fm_core.specs.Tags.{has_nothing}
+use Rattle.fm_core.specs.Tags.{has_nothing, is_ended}
 use Rattle.fm_core.specs.Taking.{is_due}
 use Rattle.fm_core.specs.declared.floor.Floor.{Floor}
 use Rattle.fm_core.specs.declared.sight.Sight.{Sight as Look}
 use Rattle.fm_core.specs.declared.tag.Tag.{Tag}
+use Rattle.fm_core.specs.declared.step.Step.{Step}
+use Rattle.fm_core.specs.declared.step.Step.TheVariants.{Recall}
+use Rattle.fm_board.specs.Minds.{did, recalled}
 use Rattle.fm_board.specs.Seats.{IsLatest}
+use Rattle.fm_board.specs.declared.view.Mind.{Mind}
 use Rattle.fm_board.specs.View.{InTurn, entered, gave, looked, visits_of}
 use Rattle.fm_board.specs.declared.view.Hold.{Hold}
 use Rattle.fm_board.specs.declared.view.View.{View}
@@ -20,6 +24,14 @@ FoundIn f i v = IsLatest f i v.paced v.number v.visited v.sweep
 -- the view is told by another name
 pub latest_now : (f : Floor) (i : Bool) (v w : View) → FoundIn f i v → w ≡ v → FoundIn f i w
 latest_now f i v w q is = subst (FoundIn f i) (sym is) q
+
+-- a word that is no look leaves what the last look found
+pub recalled_idle : (m : Mind) (p : ℕ) (xs : List Step) (t : Tag) → (recalled m p xs t).idle ≡ m.log.idle
+recalled_idle m p xs t = go (is_ended t)
+  where
+    go : (b : Bool) → (if b then did m (Recall m.view.number p) xs else m.log).idle ≡ m.log.idle
+    go true = refl
+    go false = refl
 
 -- ---- marks
 
@@ -39,7 +51,7 @@ set_apart (x ∷ xs) (suc m) (suc n) a = ap (λ ys. x ∷ ys) (set_apart xs m n 
 
 -- a mark more leaves those that are there
 pub latest_gave : (f : Floor) (i : Bool) (v w : View) → FoundIn f i v → w ≡ gave v → FoundIn f i w
-latest_gave f i v w q is = latest_now f i (gave v) w (record { same = q.same; again = λ idle first. marks v.holds (q.again idle first) }) is
+latest_gave f i v w q is = latest_now f i (gave v) w (record { same = q.same; again = λ idle first some. marks v.holds (q.again idle first some) }) is
   where
     marks : (h : Option Hold) → set v.visited (length v.sweep - 1) true ≡ v.visited
         → set (visits_of v h) (length v.sweep - 1) true ≡ visits_of v h
@@ -70,7 +82,7 @@ swept_last xs p x turn = go (nat_eq p 0) (nat_eq p (length xs)) refl refl turn
 pub latest_looked : (f : Floor) (i b : Bool) (v w : View) (p k : ℕ) (t : Tag) → FoundIn f i v → InTurn v p → b ≡ has_nothing t
     → w ≡ looked v p t k → FoundIn f b w
 latest_looked f i b v w p k t q turn nothing is =
-    latest_now f b (looked v p t k) w (record { same = q.same; again = λ idle first. marked (sym nothing ∙ idle) (eq-eqb v.number 0 first) })
+    latest_now f b (looked v p t k) w (record { same = q.same; again = λ idle first some. marked (sym nothing ∙ idle) (eq-eqb v.number 0 first) })
     is
   where
     last : length (swept v.sweep p (entered v p t k)) - 1 ≡ p

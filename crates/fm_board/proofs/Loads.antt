@@ -19,7 +19,7 @@ use Rattle.fm_board.specs.declared.about.About.{About}
 use Rattle.fm_board.specs.declared.view.Log.{Log}
 use Rattle.fm_board.specs.declared.view.Mind.{Mind}
 use Rattle.fm_board.specs.declared.view.View.{View}
-use Rattle.fm_board.specs.Minds.{did, spotted, stepping}
+use Rattle.fm_board.specs.Minds.{did_look, spotted, stepping}
 use Rattle.fm_board.specs.Plays.{Finds, Holder, looks, paces}
 use Rattle.fm_board.specs.StandsFor.{IsSeat, IsSightOfZero, IsViewOf, StandsForSome, count, setting}
 use Rattle.fm_board.specs.View.{InTurn, looked}
@@ -53,7 +53,7 @@ looks_of a slots id p m near turn s k sized at small =
     let allowed = may_look (setting a) h id p seat.here in_range (turned m.0.view p (desk h id).sweep seat.is.sweep turn) in
     let v : View = looked m.0.view p c.tag c.clock in
     let word : ℕ = get_or s.words (word_at p) 0 in
-    let xs : Log = did m.0 (Look m.0.view.number p) (k.history.steps ++ Look id p ∷ []) in
+    let xs : Log = did_look m.0 p c.tag (k.history.steps ++ Look id p ∷ []) in
     let mine_is = ap (λ (n : ℕ). m.0.log.mine ++ Look n p ∷ []) seat.is.number in
     let w : Mind = spotted m.0 p c.tag c.clock word v xs in
     let h' : State = after (setting a) h (Look id p) in
@@ -86,8 +86,8 @@ looks_of a slots id p m near turn s k sized at small =
             (λ _ _ _. ap (λ (ws : List ℕ). get_or ws (word_at p) 0) (set-get_or s.words (word_at p) 0));
       },
       λ q e. subst (λ (z : ℕ). Finds m z (get_or s.words (word_at p) 0) (looked m.0.view z)
-          (λ t. did m.0 (Look m.0.view.number z) (k.history.steps ++ Look id p ∷ [])) (w, m.1)) (omega (arith, e))
-          (finds a s k id p m.0 m.1 (looked m.0.view p) (λ t. xs) at seat in_range
+          (λ t. did_look m.0 z t (k.history.steps ++ Look id p ∷ [])) (w, m.1)) (omega (arith, e))
+          (finds a s k id p m.0 m.1 (looked m.0.view p) (λ t. did_look m.0 p t (k.history.steps ++ Look id p ∷ [])) at seat in_range
           (extends_on a s.views h k.history id m.0 w at (Look id p) refl mine_is refl m.0.view.number seat.is.number)),
     )
 

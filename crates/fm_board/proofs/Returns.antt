@@ -57,27 +57,24 @@ over_is : (a : About) (v : View) (p : ℕ) (s : Strand) (box : EventQueue) (may 
     → is_over v.holds ≡ (may.h.recorded || may.h.was_ended)
 over_is a v p s box may = ap is_over may.is
 
-some_held : (a : About) (v : View) (p : ℕ) (s : Strand) (box : EventQueue) → MayComeBack a v p s box → v.holds ≢ None
+pub some_held : (a : About) (v : View) (p : ℕ) (s : Strand) (box : EventQueue) → MayComeBack a v p s box → v.holds ≢ None
 some_held a v p s box may none_held = let is = sym may.is ∙ none_held in absurd (cc)
 
-pub gives_at : (key a : About) (slots id i p new left clock n c : ℕ) (o : Bool) (xs : List Look) (tag : Tag) (m m1 : Holder) (s : Strand)
-    (box : EventQueue) (x : SeatState)
-    → key ≡ a → m.0 ≡ x.mind → i ≡ word_at p → MayComeBack a x.mind.view p s box → length box.events ≤ box.room → Tidy n o xs c m
-    → tag ≡ given_tag a.room o left → left ≡ length box.events → clock ≡ clock_of a.plan s → new ≡ spell tag clock 0
+pub gives_at : (key a : About) (slots id i p new : ℕ) (m m1 : Holder) (s : Strand) (box : EventQueue) (x : SeatState)
+    → key ≡ a → m.0 ≡ x.mind → i ≡ word_at p → MayComeBack a x.mind.view p s box → length box.events ≤ box.room
+    → new ≡ spell (given_tag a.room (is_over x.mind.view.holds) (length box.events)) (clock_of a.plan s) 0
     → m1 ≡ (m.0, (p, Some (brought s box)) ∷ rest m.1)
     → Allows (StandsForSome key) slots id m1 i (λ _. new) (λ _. gives_back (step slots i new 0 none) m1 new)
-gives_at key a slots id i p new left clock n c o xs tag m m1 s box x same is at may fits tidy is_tag is_left is_clock is_new now =
-    let at_0 : m1.0 ≡ m.0 = ap (λ (y : Holder). y.0) now in
+gives_at key a slots id i p new m m1 s box x same is at may fits is_new now =
+    let at_0 : m1.0 ≡ x.mind = ap (λ (y : Holder). y.0) now ∙ is in
     let may1 : MayComeBack key m1.0.view p s box =
-    subst (λ (y : About × Mind). MayComeBack y.0 y.1.view p s box) (λ j. (sym same j, sym (at_0 ∙ is) j)) may in
+    subst (λ (y : About × Mind). MayComeBack y.0 y.1.view p s box) (λ j. (sym same j, sym at_0 j)) may in
     let near : p < count key = subst (λ (q : ℕ). q < length key.plan.programs) may1.strand.process may1.strand.course.process in
-    let over : o ≡ (may1.h.recorded || may1.h.was_ended) =
-    tidy.3 (λ e. some_held key m1.0.view p s box may1 (ap (λ (y : Mind). y.view.holds) at_0 ∙ e))
-    ∙ (ap (λ (y : Mind). is_over y.view.holds) (sym at_0) ∙ over_is key m1.0.view p s box may1) in
+    let over : is_over x.mind.view.holds ≡ (may1.h.recorded || may1.h.was_ended) =
+    ap (λ (y : Mind). is_over y.view.holds) (sym at_0) ∙ over_is key m1.0.view p s box may1 in
     subst (λ (j : ℕ). Allows (StandsForSome key) slots id m1 j (λ _. new) (λ _. gives_back (step slots j new 0 none) m1 new)) (sym at)
     (gives_of key slots id p new m1 (rest m.1) s box (ap (λ (y : Holder). y.1) now) may1 fits near
-    (is_new ∙ (λ j. spell ((is_tag ∙ (λ i. given_tag (sym same i).room (over i) (is_left i))) j)
-    ((is_clock ∙ ap (λ (b : About). clock_of b.plan s) (sym same)) j) 0)))
+    (is_new ∙ (λ j. spell (given_tag (sym same j).room (over j) (length box.events)) (clock_of (sym same j).plan s) 0)))
 
 pub gave_tidy : (n p clock c : ℕ) (o : Bool) (xs : List Look) (tag : Tag) (m m1 m2 : Holder) (r : Option Deposit) → Tidy n o xs c m
     → m1 ≡ (m.0, (p, r) ∷ rest m.1)
@@ -94,29 +91,23 @@ gave_tidy n p clock c o xs tag m m1 m2 r tidy now back =
     empty None = refl
     empty (Some h) = refl
 
-pub gave_as : (a : About) (t1 t2 t3 : TableId) (n p clock left c : ℕ) (o : Bool) (xs : List Look) (tag : Tag) (m m1 m2 : Holder)
+pub gave_as : (a : About) (t1 t2 t3 : TableId) (p clock : ℕ) (tag : Tag) (m m1 m2 : Holder)
     (r : Option Deposit) (s : Strand) (box : EventQueue) (x : SeatState)
-    → MayComeBack a x.mind.view p s box → Tidy n o xs c m → m1 ≡ (m.0, (p, r) ∷ rest m.1) → events_in r ≡ length box.events
+    → m1 ≡ (m.0, (p, r) ∷ rest m.1) → events_in r ≡ length box.events
     → ((q : PlanParts) → left_in q r ≡ steps_left q s) → x.mind.view.plan ≡ a.plan → GivesBack m1 p tag clock m2
-    → tag ≡ given_tag a.room o left → left ≡ length box.events → clock ≡ clock_of a.plan s → t3 ≡ t2 → t2 ≡ t1
+    → tag ≡ given_tag a.room (is_over x.mind.view.holds) (length box.events) → clock ≡ clock_of a.plan s → t3 ≡ t2 → t2 ≡ t1
     → record { table = t1; mind = m.0 } ≡ x
     → Gave a x (record { process = p; strand = s; outbox = box }) (record { table = t3; mind = m2.0 })
-gave_as a t1 t2 t3 n p clock left c o xs tag m m1 m2 r s box x may tidy now many came plan back is_tag is_left is_clock k2 k1 seen =
-    let minds : m.0 ≡ x.mind = ap (λ (y : SeatState). y.mind) seen in
+gave_as a t1 t2 t3 p clock tag m m1 m2 r s box x now many came plan back is_tag is_clock k2 k1 seen =
+    let minds : m1.0 ≡ x.mind = ap (λ (y : Holder). y.0) now ∙ ap (λ (y : SeatState). y.mind) seen in
     let brought_in : brings_events m1.1 ≡ length box.events = ap (λ (y : Holder). brings_events y.1) now ∙ many in
     let steps : brings m1.0.view.plan m1.1 ≡ steps_left a.plan s =
-    ap (λ (y : Holder). brings y.0.view.plan y.1) now ∙ (came m.0.view.plan
+    ap (λ (y : Holder). brings m1.0.view.plan y.1) now ∙ (came m1.0.view.plan
     ∙ ap (λ (q : PlanParts). steps_left q s) (ap (λ (y : Mind). y.view.plan) minds ∙ plan)) in
-    let over : o ≡ is_over x.mind.view.holds =
-    tidy.3 (λ e. some_held a x.mind.view p s box may (ap (λ (y : Mind). y.view.holds) (sym minds) ∙ e))
-    ∙ ap (λ (y : Mind). is_over y.view.holds) minds in
     λ i. record {
       table = (k2 ∙ (k1 ∙ ap (λ (y : SeatState). y.table) seen)) i;
-      mind = (back.mind ∙ (λ j. noticed ((ap (λ (y : Holder). y.0) now ∙ minds) j) p
-          ((is_tag ∙ (λ k. given_tag a.room (over k) (is_left k))) j) (is_clock j) (steps j)
-          (gave ((ap (λ (y : Holder). y.0) now ∙ minds) j).view)
-          (did ((ap (λ (y : Holder). y.0) now ∙ minds) j)
-          (giving ((ap (λ (y : Holder). y.0) now ∙ minds) j).view p (brought_in j) (is_clock j)) m2.0.log.seen))) i;
+      mind = (back.mind ∙ (λ j. noticed (minds j) p (is_tag j) (is_clock j) (steps j) (gave (minds j).view)
+          (did (minds j) (giving (minds j).view p (brought_in j) (is_clock j)) m2.0.log.seen))) i;
     }
 
 -- and what the seat knows then

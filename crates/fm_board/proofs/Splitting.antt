@@ -20,7 +20,7 @@ use Rattle.fm_board.proofs.Runs.{runs_still}
 use Rattle.fm_board.proofs.Openings.{fresh_left, none_known, none_over, snoc_cases}
 
 -- a seat that makes no step yet
-runs_apart : (a : About) (views : List Mind) (h : State) → IsRun a views h → (right : Mind) → right.log ≡ record { mine = []; seen = [] }
+runs_apart : (a : About) (views : List Mind) (h : State) → IsRun a views h → (right : Mind) → right.log ≡ record { mine = []; seen = []; idle = false }
     → IsRun a (views ++ right ∷ []) h
 runs_apart a views h q right empty = record {
   steps = q.steps;

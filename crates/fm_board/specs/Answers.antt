@@ -14,9 +14,9 @@ use Rattle.fm_board.specs.Runs.{Extends}
 use Rattle.fm_board.specs.Calls.{IsHold}
 use Rattle.fm_core.specs.Tags.{given_tag}
 use Rattle.fm_strand.specs.Strand.{clock_of, steps_left}
-use Rattle.fm_board.specs.Minds.{did, noticed, spotted, turned}
+use Rattle.fm_board.specs.Minds.{did, did_look, noticed, spotted, turned}
 use Rattle.fm_board.specs.Plays.{Tells}
-use Rattle.fm_core.specs.declared.step.Step.TheVariants.{Claim as Claiming, Look}
+use Rattle.fm_core.specs.declared.step.Step.TheVariants.{Claim as Claiming}
 use Rattle.fm_board.specs.Words.{spell}
 use Rattle.fm_board.specs.Seats.{SeatState}
 use Rattle.fm_board.specs.View.{is_over}
@@ -56,7 +56,7 @@ pub record Found (old : SeatState) (p : ℕ) (s : Seen) (v : View) (l : Log) (ne
 abbrev pub Looks : SeatState → ℕ → Seen → SeatState → Type 0
 Looks old p s new =
     Found old p s (looked old.mind.view p s.tag s.clock)
-    (did old.mind (Look old.mind.view.number p) new.mind.log.seen) new
+    (did_look old.mind p s.tag new.mind.log.seen) new
 
 -- the answer of a claim
 abbrev pub Claims : About → SeatState → ℕ → Seen → Claim → SeatState → Type 0

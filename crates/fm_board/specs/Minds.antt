@@ -1,8 +1,8 @@
 -- What each step makes of what a seat knows, and what a seat of a new board knows.
 use Rattle.std.specs.Prelude.{ℕ, zero, suc, ◌+◌, min, List, [], ◌∷◌, ◌++◌, length, replicate, false, if◌then◌else◌, None, slice_index_or, slice_set}
-use Rattle.fm_core.specs.Tags.{is_ended, is_unborn}
+use Rattle.fm_core.specs.Tags.{has_nothing, is_ended, is_unborn}
 use Rattle.fm_core.specs.declared.step.Step.{Step}
-use Rattle.fm_core.specs.declared.step.Step.TheVariants.{Recall, Release}
+use Rattle.fm_core.specs.declared.step.Step.TheVariants.{Look, Recall, Release}
 use Rattle.fm_core.specs.declared.floor.Floor.TheVariants.{At}
 use Rattle.fm_core.specs.declared.tag.Tag.{Tag}
 use Rattle.fm_core.specs.declared.due.Due.TheVariants.{Nothing}
@@ -16,7 +16,11 @@ use Rattle.fm_strand.specs.Course.{steps_of}
 
 -- the log of a seat that made one step more, and has seen these
 abbrev pub did : Mind → Step → List Step → Log
-did m x xs = record { mine = m.log.mine ++ x ∷ []; seen = xs }
+did m x xs = record m.log { mine = m.log.mine ++ x ∷ []; seen = xs }
+
+-- the log of a seat that looked at the process, found this tag, and has seen these steps
+abbrev pub did_look : Mind → ℕ → Tag → List Step → Log
+did_look m p t xs = record { mine = m.log.mine ++ Look m.view.number p ∷ []; seen = xs; idle = has_nothing t }
 
 -- the seat gave this word of the process, with so many steps left, and has this view and this log
 abbrev pub noticed : Mind → ℕ → Tag → ℕ → ℕ → View → Log → Mind
@@ -107,7 +111,7 @@ fresh p room lead seats number made = record {
   at = length p.programs;
   made = made;
   room = room;
-  log = record { mine = []; seen = [] };
+  log = record { mine = []; seen = []; idle = false };
 }
 
 -- seat 0 of a new board

@@ -7,7 +7,7 @@ use Rattle.fm_core.specs.Floors.{floor_of}
 use Rattle.fm_core.specs.Sweep.{least}
 use Rattle.fm_core.specs.Tags.{is_ended, is_held, is_unborn}
 use Rattle.fm_core.specs.Taking.{due_of, is_due}
-use Rattle.fm_core.specs.declared.step.Step.TheVariants.{Look, Claim, Start, Record, Publish, Pace}
+use Rattle.fm_core.specs.declared.step.Step.TheVariants.{Claim, Start, Record, Publish, Pace}
 use Rattle.fm_core.specs.declared.floor.Floor.{Floor}
 use Rattle.fm_core.specs.declared.floor.Floor.TheVariants.{Done}
 use Rattle.fm_core.specs.declared.tag.Tag.{Tag}
@@ -22,7 +22,7 @@ use Rattle.fm_board.specs.declared.view.Log.{Log}
 use Rattle.fm_board.specs.declared.view.Mind.{Mind}
 use Rattle.fm_board.specs.Calls.{IsHold}
 use Rattle.fm_board.specs.Knowing.{Knows}
-use Rattle.fm_board.specs.Minds.{did, noticed, recalled, spotted, stepping, turned, viewing}
+use Rattle.fm_board.specs.Minds.{did, did_look, noticed, recalled, spotted, stepping, turned, viewing}
 use Rattle.fm_board.specs.Runs.{Extends}
 use Rattle.fm_board.specs.View.{gave, giving, holding, lines_of, looked, noted, process_of, processes, published, was_visited}
 use Rattle.fm_board.specs.Words.{IsLow, IsWord, floor_word, spell, word_at, place_at, place_word}
@@ -62,7 +62,7 @@ pub record Finds (m : Holder) (p r : ℕ) (f : Tag → ℕ → View) (g : Tag �
 -- the load of a process's word
 abbrev pub looks : Step (Option Deposit) → Holder → ℕ → Holder → Type 0
 looks st m r m' = (p : ℕ) → st.word ≡ word_at p
-    → Finds m p r (looked m.0.view p) (λ t. did m.0 (Look m.0.view.number p) m'.0.log.seen) m'
+    → Finds m p r (looked m.0.view p) (λ t. did_look m.0 p t m'.0.log.seen) m'
 
 -- the load of the floor
 pub record Paces (m : Holder) (r : ℕ) (m' : Holder) : Type 0 where

@@ -58,11 +58,11 @@ pub record IsSwept (looks : List Look) (capacity : ℕ) (sweep : List Look) (man
   pub within : length sweep ≤ many
   pub few : many < 2 ^ 32
 
--- a seat keeps the floor that it paced last; and where it says that the last look of seat 0's sweep found nothing to take, a
--- visit by that look visits nothing new
+-- a seat keeps the floor that it paced last; and where the last look of seat 0's sweep found nothing to take, a visit by that
+-- look visits nothing new
 pub record IsLatest (floor : Floor) (idle : Bool) (paced : Floor) (number : ℕ) (visited : List Bool) (sweep : List Look) : Type 0 where
   pub same : floor ≡ paced
-  pub again : idle ≡ true → number ≡ 0 → slice_set visited (length sweep - 1) true ≡ visited
+  pub again : idle ≡ true → number ≡ 0 → 0 < length sweep → slice_set visited (length sweep - 1) true ≡ visited
 
 -- what a contract sees of a seat: its table, and what it knows
 pub record SeatState : Type 0 where

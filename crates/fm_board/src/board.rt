@@ -1,10 +1,10 @@
 //! The board: what seats see on it, take from it and give back to it.
-ghost use Rattle.std.specs.Prelude.{◌≡◌, ◌+◌, ◌*◌, ◌<◌, ℕ, length, None, true};
+ghost use Rattle.std.specs.Prelude.{◌≡◌, ◌+◌, ◌*◌, ◌<◌, ◌≤◌, ℕ, length, None, true};
 ghost use Rattle.std.specs.Prelude.{IsPermutation, IsSorted};
 ghost use Rattle.fm_msg.specs.Event.{event_cmp};
 ghost use Rattle.fm_core.specs.Floors.{floor_of};
 ghost use Rattle.fm_core.specs.Sweep.{least};
-ghost use Rattle.fm_core.specs.Tags.{is_claimable};
+ghost use Rattle.fm_core.specs.Tags.{given_tag, is_claimable};
 ghost use Rattle.fm_core.specs.Taking.{due_of};
 ghost use Rattle.fm_core.specs.declared.due.Due.TheVariants.{Nothing};
 ghost use Rattle.fm_board.specs.Calls.{MayComeBack, Releases};
@@ -14,7 +14,9 @@ ghost use Rattle.fm_board.specs.Answers.{Claims, Gave, Looks};
 ghost use Rattle.fm_board.specs.Knowing.{Knows};
 ghost use Rattle.fm_board.specs.Plays.{MayRelease};
 ghost use Rattle.fm_board.specs.Runs.{Extends};
-ghost use Rattle.fm_board.specs.View.{InTurn, processes, published, released};
+ghost use Rattle.fm_board.specs.View.{InTurn, is_over, processes, published, released};
+ghost use Rattle.fm_board.specs.Words.{spell};
+ghost use Rattle.fm_strand.specs.Strand.{clock_of};
 
 use crate::about::About;
 use crate::berth::Berth;
@@ -145,14 +147,12 @@ impl Board {
         ensures knows { Knows seat.old.mind seat.new.mind }
         ensures extends { Extends seat.old.mind.view.number seat.old.mind.log seat.new.mind.log }
     {
+        let new = self.word_back(seat, &berth);
         let Berth {
             process,
             strand,
             outbox,
         } = berth;
-        let clock = strand.clock();
-        let tag = Tag::given(self.about.room, seat.over, outbox.len());
-        let new = word_of(tag, clock, 0);
         let shared = &self.table.shared;
         let room = Some(Deposit {
             strand: Stall::of(strand),
@@ -163,6 +163,20 @@ impl Board {
             Some(_) => unreachable!(),
         }
         seat.token.store::<GivePlay>(shared, index_of(process), new);
+    }
+
+    // The word of a process that comes back.
+    fn word_back(&self, seat: &BoardSeat, berth: &Berth) -> u64
+        requires { MayComeBack self.now.about seat.now.mind.view
+            berth.now.process berth.now.strand berth.now.outbox }
+        ensures word { result ≡ spell (given_tag self.now.about.room
+            (is_over seat.now.mind.view.holds) (length berth.now.outbox.events))
+            (clock_of self.now.about.plan berth.now.strand) 0 }
+        ensures fits { length berth.now.outbox.events ≤ berth.now.outbox.room }
+    {
+        let clock = berth.strand.clock();
+        let tag = Tag::given(self.about.room, seat.over, berth.outbox.len());
+        word_of(tag, clock, 0)
     }
 
     /// Makes the least clock of seat 0's sweep the floor, and all up to that pair due: one store.
@@ -180,7 +194,6 @@ impl Board {
         let new = word_of_floor(floor);
         seat.token.store::<PublishPlay>(&self.table.shared, 0, new);
         seat.looks.clear();
-        seat.idle = false;
     }
 
     /// Settles what was taken, which is the next part of the piece, and counts it as released. It

@@ -49,6 +49,8 @@ pub struct Log {
     pub mine: LinkedList<Step>,
     /// The steps of all seats up to its last one, in their order.
     pub seen: LinkedList<Step>,
+    /// Whether its last look found nothing to take.
+    pub idle: bool,
 }
 
 /// What a seat knows, with each process as it last saw or gave it, and how many seats seat 0 made.

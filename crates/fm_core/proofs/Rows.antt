@@ -100,6 +100,15 @@ due_and_released : (published.floor ≡ At 7)
     × (refused released (Publish ∷ Pace 0 ∷ Claim 0 2 ∷ Give 0 2 1 1 487 false ∷ []) ≡ None)
 due_and_released = (refl, refl, refl, refl, refl, refl, refl, refl, refl, refl)
 
+-- a release counts what was gathered: no less, and no more
+abbrev gathered_one : State
+gathered_one = left_by released (Publish ∷ Pace 0 ∷ Claim 0 2 ∷ Give 0 2 1 1 487 false ∷ Look 0 0 ∷ Look 0 1 ∷ [])
+
+released_in_full : (gathered_one.gather ≡ first_on ∷ [])
+    × (map (reason three gathered_one) (Release 0 ∷ Release 1 ∷ Release 2 ∷ []) ≡ Some WrongCount ∷ None ∷ Some WrongCount ∷ [])
+    × ((left_by gathered_one (Release 1 ∷ [])).released ≡ first_on ∷ [])
+released_in_full = (refl, refl, refl)
+
 -- ---- where several reasons hold, the first of the table is the answer
 
 -- a seat that is not there, then a process that is not there

@@ -1,6 +1,6 @@
 -- What is left off of a look left its seat's view as it was.
 use Rattle.std.proofs.Common.{◌≡◌, ◌≢◌, ◌⊎◌, ℕ, ◌+◌, ◌-◌, List, [], ◌∷◌, ◌++◌, length, set, Bool, true, false, refl, sym, ap, ◌∙◌, subst, ⊎_elim, inl, inr, arith, eq-eqb, eqb-true, length-append}
-use Rattle.std.specs.Prelude.{if◌then◌else◌, nat_eq, not, ◌&&◌, ◌||◌}
+use Rattle.std.specs.Prelude.{if◌then◌else◌, nat_eq, nat_lt, not, ◌&&◌, ◌||◌}
 use Rattle.fm_core.proofs.Booleans.{both, clash, either_false, false_from, neither, not_false}
 use Rattle.fm_core.specs.Numbers.{bool_eq}
 use Rattle.fm_core.specs.Sweep.{sight, swept}
@@ -45,7 +45,8 @@ sweep_same xs p x many last = go (nat_eq p 0) (nat_eq p (length xs)) xs many las
 module _ (n p k : ℕ) (t : Tag) (v w : View) (b c : Latest) (number : n ≡ v.number) (turn : InTurn v p) (now : w ≡ looked v p t k)
     (looks : b.looks ≡ length v.sweep) (last : b.last ≡ sight v.sweep (length v.sweep - 1))
     (idle : b.idle ≡ true → v.number ≡ 0 → set v.visited (length v.sweep - 1) true ≡ v.visited)
-    (looks_now : c.looks ≡ length w.sweep) (last_now : c.last ≡ sight w.sweep (length w.sweep - 1)) where
+    (looks_now : c.looks ≡ length w.sweep) (last_now : c.last ≡ sight w.sweep (length w.sweep - 1)) (i : Bool)
+    (found : b.idle ≡ (i && nat_lt 0 (length v.sweep))) where
   sweep_now : w.sweep ≡ swept v.sweep p (entered v p t k)
   sweep_now = ap (λ (y : View). y.sweep) now
 
@@ -85,12 +86,13 @@ module _ (n p k : ℕ) (t : Tag) (v w : View) (b c : Latest) (number : n ≡ v.n
       let visits = visits_stay sweep three.1 in
       now ∙ (λ i. record v { sweep = sweep i; visited = visits i })
 
-  -- news changes the sweep, or finds nothing to take
-  news_tells : is_news b c t ≡ true → (w.sweep ≢ v.sweep) ⊎ (has_nothing t ≡ true)
-  news_tells news = go (has_nothing t) refl
+  -- news changes the sweep, or finds nothing to take where the look before found something
+  news_tells : is_news b c t ≡ true → (w.sweep ≢ v.sweep) ⊎ ((has_nothing t && not (i && nat_lt 0 (length v.sweep))) ≡ true)
+  news_tells news = go (has_nothing t && not b.idle) refl
     where
-      go : (bare : Bool) → has_nothing t ≡ bare → (w.sweep ≢ v.sweep) ⊎ (has_nothing t ≡ true)
-      go true is = inr is
+      go : (fresh : Bool) → (has_nothing t && not b.idle) ≡ fresh
+          → (w.sweep ≢ v.sweep) ⊎ ((has_nothing t && not (i && nat_lt 0 (length v.sweep))) ≡ true)
+      go true is = inr (ap (λ (y : Bool). has_nothing t && not y) (sym found) ∙ is)
       go false is = inl (λ same.
           let many : b.looks ≡ c.looks = looks ∙ (ap (λ (l : List Look). length l) (sym same) ∙ sym looks_now) in
           let one : b.last ≡ c.last = last ∙ (ap (λ (l : List Look). sight l (length l - 1)) (sym same) ∙ sym last_now) in
@@ -98,9 +100,9 @@ module _ (n p k : ℕ) (t : Tag) (v w : View) (b c : Latest) (number : n ≡ v.n
           (neither _ _ (false_from _ (eq-eqb b.looks c.looks many))
           (neither _ _ (false_from _ (eq-eqb b.last.clock c.last.clock (ap (λ (y : Look). y.clock) one)))
           (neither _ _ (false_from _ (bool_same b.last.ended c.last.ended (ap (λ (y : Look). y.ended) one)))
-          (ap (λ (y : Bool). y && not b.idle) is)))))
+          is))))
 
-  pub keeps_look : (old new : Recording) → Keeps old (look_step n b c p t) new → KeepsLook p t v w old new
+  pub keeps_look : (old new : Recording) → Keeps old (look_step n b c p t) new → KeepsLook p t i v w old new
   keeps_look old new keeps = record {
     kept = nat_eq n 0 && is_news b c t;
     tape = keeps;

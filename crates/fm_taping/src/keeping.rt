@@ -36,8 +36,8 @@ impl Recorder {
         requires ours { IsOurs board.now.table.shared.table_id board.now.about seat.old }
         requires turn { InTurn seat.old.mind.view process }
         ensures found { Looks seat.old process result seat.new }
-        ensures kept { KeepsLook process result.tag seat.old.mind.view seat.new.mind.view
-            self.old.tape self.new.tape }
+        ensures kept { KeepsLook process result.tag seat.old.mind.log.idle
+            seat.old.mind.view seat.new.mind.view self.old.tape self.new.tape }
     {
         let number = seat.number();
         let before = seat.latest();

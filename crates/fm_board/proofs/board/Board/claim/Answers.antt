@@ -31,6 +31,7 @@ invariant_of-seat c =
           (ap (λ (m : Mind). m.view.number) mind) (ap (λ (m : Mind). m.view.holds) mind) (ap (λ (m : Mind). m.view.sweep) mind)
           (ap (λ (m : Mind). m.view.plan) mind) found.out,
       latest_now _ _ c.seat.inside.token.me.0.view _ c.seat.invariant.1 (ap (λ (m : Mind). m.view) mind),
+      c.seat.invariant.2 ∙ sym (ap (λ (m : Mind). m.log.idle) mind),
     )
 
 pub returns-then-found-old : goal.returns-then-found-old
@@ -77,6 +78,8 @@ invariant_of-seat-2 c =
           c.exchange.ensures.is c.is_ended-seat-inside.ensures,
       latest_now _ _ (holding c.seat.inside.token.me.0.view hit.hold) _ c.seat.invariant.1
           (ap (λ (y : Holder). y.0.view) c.exchange.ensures.is ∙ ap (λ (m : Mind). m.view) hit.mind),
+      c.seat.invariant.2
+          ∙ sym (ap (λ (y : Holder). y.0.log.idle) c.exchange.ensures.is ∙ ap (λ (m : Mind). m.log.idle) hit.mind),
     )
 
 pub returns : goal.returns

@@ -3,9 +3,8 @@ use Rattle.fm_board.specs.Seats.{SeatState}
 use Rattle.fm_board.specs.View.{InTurn, looked}
 use Rattle.fm_board.specs.declared.view.Mind.{Mind}
 use Rattle.fm_board.specs.declared.view.View.{View}
-use Rattle.fm_board.specs.Minds.{did}
+use Rattle.fm_board.specs.Minds.{did_look}
 use Rattle.fm_program.proofs.Lines.{plan-lines-waits}
-use Rattle.fm_core.specs.declared.step.Step.TheVariants.{Look}
 use Rattle.fm_board.proofs.FoundLast.{latest_looked}
 use Rattle.fm_board.proofs.Steps.{found_as, looks_at}
 use Rattle.fm_board.proofs.Sweeping.{looked_tidy}
@@ -33,12 +32,13 @@ invariant_of-seat c =
           c.enter.ensures.items c.enter.ensures.capacity,
       latest_looked _ _ _ c.seat.inside.token.me.0.view _ c.args.process s.clock s.tag c.seat.invariant.1 turn
           c.has_nothing-seat-inside.ensures (ap (λ (m : Mind). m.view) mind),
+      c.has_nothing-seat-inside.ensures ∙ sym (ap (λ (m : Mind). m.log.idle) mind),
     )
 
 pub returns : goal.returns
 returns c =
     found_as _ _ c.args.process _ c.seat.inside.token.me c.load-found.new.self.me
-    (λ (v : View). looked v c.args.process) (λ (m : Mind) t. did m (Look m.view.number c.args.process) c.load-found.new.self.me.0.log.seen)
+    (λ (v : View). looked v c.args.process) (λ (m : Mind) t. did_look m c.args.process t c.load-found.new.self.me.0.log.seen)
     c.seen_of-seen.result _
     (c.load-found.ensures.told c.args.process c.index_of.ensures) c.seen_of-seen.ensures.few c.seen_of-seen.ensures.word
     c.load-found.ensures.kept.0

@@ -1,10 +1,10 @@
-use Rattle.std.proofs.Common.{ap, arith}
+use Rattle.std.proofs.Common.{ap, arith, sym, ◌∙◌}
 use Rattle.fm_board.specs.Seats.{SeatState}
 use Rattle.fm_board.specs.declared.view.Mind.{Mind}
 use Rattle.fm_board.specs.declared.view.View.{View}
 use Rattle.fm_board.specs.Minds.{recalled}
 use Rattle.fm_board.proofs.Findings.{marked_now, ours_seen, seen_found, there_seen}
-use Rattle.fm_board.proofs.FoundLast.{latest_now}
+use Rattle.fm_board.proofs.FoundLast.{latest_now, recalled_idle}
 use Rattle.fm_board.proofs.Steps.{found_as, recalls_at, stays_tidy, widths}
 use Rattle.fm_board.proofs.board.Board.peek.Goals as goal
 
@@ -25,6 +25,9 @@ invariant_of-seat c =
       stays_tidy _ _ _ _ c.seat.inside.token.me c.load-found.new.self.me c.seat.invariant.0 (ap (λ (m : Mind). m.view.number) mind)
           (ap (λ (m : Mind). m.view.holds) mind) (ap (λ (m : Mind). m.view.sweep) mind) (ap (λ (m : Mind). m.view.plan) mind) found.out,
       latest_now _ _ c.seat.inside.token.me.0.view _ c.seat.invariant.1 (ap (λ (m : Mind). m.view) mind),
+      c.seat.invariant.2
+          ∙ sym (ap (λ (m : Mind). m.log.idle) mind
+          ∙ recalled_idle c.seat.inside.token.me.0 c.args.process c.load-found.new.self.me.0.log.seen s.tag),
     )
 
 pub returns-clause-found : goal.returns-clause-found
