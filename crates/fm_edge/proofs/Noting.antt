@@ -1,4 +1,4 @@
--- What the walks of `Noted` cite.
+-- What the walks of `Noted` and `Tally` cite.
 pub use Rattle.std.proofs.Common.{ℕ, List, [], ◌∷◌, ◌++◌, refl, MutBor, length, w64}
 pub use Rattle.std.proofs.raw_atomic.Walks.{proved}
 pub use base.Logic.{id⊢}

@@ -1,7 +1,8 @@
 //! Bytes on their way to a sink, gathered to pieces.
-ghost use Rattle.std.specs.Prelude.{◌≡◌, ◌++◌, ◌<◌, [], ◌∷◌, OnOk, OnErr};
+ghost use Rattle.std.specs.Prelude.{◌≡◌, ◌+◌, ◌++◌, ◌<◌, [], ◌∷◌, length, IsOk, OnOk, OnErr};
 ghost use Rattle.fm_edge.specs.Runs.{Puts, Breaks};
 ghost use Rattle.fm_edge.specs.Gathered.{Passes};
+ghost use Rattle.fm_edge.specs.declared.gatherer.TheConstants.{PIECE_LENGTH};
 
 use crate::{Append, Failed};
 use arrayvec::ArrayVec;
@@ -45,6 +46,9 @@ impl Gatherer {
             sink.old sink.new self.old self.new (byte ∷ [])) }
         ensures err { OnErr result (Breaks K.seen
             sink.old sink.new (self.old ++ byte ∷ [])) }
+
+        ensures keeps { length self.old + 1 < PIECE_LENGTH
+            → IsOk result × (sink.new ≡ sink.old) }
     {
         self.bytes.push(byte);
         if self.bytes.len() < PIECE_LENGTH {
@@ -74,6 +78,8 @@ impl Gatherer {
     pub fn finish<K: Append>(self, sink: &mut K) -> Result<(), Failed>
         ensures ok { OnOk result (Puts K.seen sink.old sink.new self) }
         ensures err { OnErr result (Breaks K.seen sink.old sink.new self) }
+
+        ensures keeps { self ≡ [] → IsOk result × (sink.new ≡ sink.old) }
     {
         if self.bytes.is_empty() {
             Ok(())
