@@ -20,11 +20,12 @@ AHEAD, AHEAD_EACH, MOST_AHEAD = 64, 3, 256 << 20
 #: So many are, where nobody has played yet. So many carry the program, and so often for a place that lacks it. One that
 #: was sent so many seconds ago does not count: it may be at play, and others wait for the program.
 AT_FIRST, MOST_CARRYING, MOST_SENDS, CARRYING = 8, 8, 3, 0.5
-#: A handful is tried so often. One with which a process died counts ten times, and is then tried text by text.
-TRIES, DEATH = 50, 25
-#: Nothing more is tried after so many answers for each place in a row that nothing can be played: `_Asked.is_hopeless`.
-MOST_BROKEN, LAST_BROKEN = 4, 20
-#: Nor is it after so many seconds without an answer, beyond those that a run may take.
+#: A handful is given up, or tried text by text, once so many places that play others could not play it: what is said by
+#: a place that plays nothing says nothing of a handful. One with which a process died counts twice.
+TRIES, DEATH = 4, 2
+#: Nothing more is tried once each place has said so often in a row that it cannot play.
+MOST_BROKEN = 6
+#: Nor is it where nothing was played for so many seconds, beyond those that a run may take.
 PATIENCE = 300.0
 #: How many play is asked again after so many seconds.
 LOOK = 2.0
@@ -88,9 +89,9 @@ class _Asked(Generic[_Key]):
         self.players, self.looked = 0, -LOOK
         #: for each place that lacks the program how often it is still sent
         self.lacking: dict[tuple[str, int], int] = {}
-        #: whether each place said last that it cannot play, and how many answers in a row did
-        self.is_broken: dict[tuple[str, int], bool] = {}
-        self.broken = 0
+        #: how often in a row each place has said that it cannot play, and when one played last
+        self.broken: dict[tuple[str, int], int] = {}
+        self.played_last = time.monotonic()
 
     def next_handful(self) -> Optional[_Handful]:
         """The next texts; None where there is none."""
@@ -111,7 +112,7 @@ class _Asked(Generic[_Key]):
         """Sends what may be under way. Returns whether anything is."""
         if time.monotonic() > self.looked + LOOK:
             self.players, self.looked = self.size(), time.monotonic()
-        ahead = max(AHEAD if False in self.is_broken.values() else AT_FIRST, AHEAD_EACH * self.players)
+        ahead = max(AHEAD if 0 in self.broken.values() else AT_FIRST, AHEAD_EACH * self.players)
         while len(self.under_way) < ahead and self.bytes < MOST_AHEAD:
             handful = self.next_handful()
             if handful is None:
@@ -156,11 +157,11 @@ class _Asked(Generic[_Key]):
             self.again.append(handful)
         elif kind == BROKEN:
             why, (host, thread) = answer
-            self.broken += 1
-            self.is_broken[host, thread] = True
+            before = self.broken.get((host, thread))
+            self.broken[host, thread] = (before or 0) + 1
             if self.is_hopeless():
                 raise NoEngine(f"{host}: {why}")
-            yield from self.failed(handful, f"{host}: {why}", 1)
+            yield from self.failed(handful, f"{host}: {why}", 1 if before == 0 else 0)
         else:
             assert kind == DONE
             yield from self.played(handful, *answer)
@@ -168,7 +169,7 @@ class _Asked(Generic[_Key]):
     def played(self, handful: _Handful, runs: Sequence[Run], seconds: float, where: Sequence[Any]) -> Iterator[tuple[_Key, Played]]:
         """What a task played."""
         host, thread = where
-        self.broken, self.is_broken[host, thread] = 0, False
+        self.broken[host, thread], self.played_last = 0, time.monotonic()
         self.lacking.pop((host, thread), None)
         self.most = min(MOST_SENT, self.most + 1) if seconds < GOOD_SECONDS else max(1, self.most // 2)
         for key, (status, said, data) in zip(handful.keys, runs):
@@ -186,10 +187,10 @@ class _Asked(Generic[_Key]):
             yield handful.keys[0], Unplayed(why)
 
     def is_hopeless(self) -> bool:
-        """Whether nothing is to be expected of the places that answer. One that played and is silent may be at work."""
-        places = self.is_broken.values()
-        is_all = all(places) and len(places) >= self.players
-        return self.broken >= (MOST_BROKEN if is_all else LAST_BROKEN) * max(MOST_BROKEN, len(places))
+        """Whether nothing is to be expected any more. A place that played and is silent may be at work, or have no
+        processor, and so may one that has not answered yet."""
+        is_all = len(self.broken) >= self.players and all(times >= MOST_BROKEN for times in self.broken.values())
+        return is_all or time.monotonic() > self.played_last + self.patience
 
 
 def play_all(texts: Iterable[tuple[_Key, bytes]], program: bytes, options: Sequence[str], executor: Executor,
