@@ -82,6 +82,19 @@ class Nothing(unittest.TestCase):
         found: dict[int, Any] = dict(play_all(enumerate(TEXTS), b"", PLAIN, Answering(answer)))
         self.assertEqual([found[at].data for at in range(6)], TEXTS)
 
+    def test_what_a_place_that_fails_gets_again_and_again_goes_to_others_too(self) -> None:
+        last: list[bytes] = []
+
+        def answer(asked: int, _: object, digest: str, program: object, options: object, texts: list[bytes], *__: object) -> Any:
+            nonlocal last
+            last, before = texts, last
+            return ("done", [(0, "", text) for text in texts], 0.1, ("here", 2)) if asked == 1 or texts == before else BROKEN
+
+        executor = Answering(answer)
+        found: dict[int, Any] = dict(play_all(enumerate(TEXTS), b"", PLAIN, executor))
+        self.assertEqual([found[at].data for at in range(6)], TEXTS)
+        self.assertLess(executor.asked, 20)
+
     def test_a_text_that_no_place_can_play_is_given_up(self) -> None:
         def answer(asked: int, _: object, digest: str, program: object, options: object, texts: list[bytes], *__: object) -> Any:
             place = "here", asked % 5
