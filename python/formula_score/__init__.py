@@ -11,31 +11,22 @@ Lengths are parts of a whole note, and `ticks` counts 480 a quarter note, unless
 read first is `python/README.md`, which a package has as its description; `python/COOKBOOK.md` has generators.
 """
 
-from .making.errors import BarError, CommandError, FileRefused, RecordRefused, Refused, ScoreError
-from .making.expected import Event
-from .making.lengths import LengthLike, dotted, euclid, ticks, triplet
-from .making.midi import DRUMS, DYNAMICS, INSTRUMENTS, drum
-from .making.music import (
-    Meter, Music, Part, Seq, accents, articulations, bend, breath, channel, control, crescendo, drums, dynamics, flat,
-    gate, hits, instrument, melody, note, par, pause, phrase, repeat, rest, seq, slope, stretch_of, swing, tempo,
-    tempo_change, warp,
-)
-from .making.pitch import CHORDS, MODES, Pitch, PitchLike, Scale, chord
-from .making.short import notes
-from .notation.score import Score
-from .running.command import (
-    FileEvent, Large, Listing, Located, audit, find_program, large, listing, locate, play, render,
-)
-from .running.rendering import render_all
+from typing import TYPE_CHECKING
 
 __version__ = "0.1.0"
 
-__all__ = [
-    "BarError", "CHORDS", "CommandError", "DRUMS", "DYNAMICS", "Event", "FileEvent", "FileRefused", "INSTRUMENTS",
-    "Large", "LengthLike", "Listing", "Located", "MODES", "Meter", "Music", "Part", "Pitch", "PitchLike",
-    "RecordRefused", "Refused", "Scale", "Score", "ScoreError", "Seq", "accents", "articulations", "audit", "bend",
-    "breath", "channel", "chord", "control", "crescendo", "dotted", "drum", "drums", "dynamics", "euclid",
-    "find_program", "flat", "gate", "hits", "instrument", "large", "listing", "locate", "melody", "note", "notes",
-    "par", "pause", "phrase", "play", "render", "render_all", "repeat", "rest", "seq", "slope", "stretch_of", "swing",
-    "tempo", "tempo_change", "ticks", "triplet", "warp",
-]
+if TYPE_CHECKING:
+    from .names import *
+    from .names import __all__ as __all__
+else:
+    def __getattr__(name):
+        """All names come with the first that is asked for: a verb of the companion needs few of their modules."""
+        import importlib
+        names = importlib.import_module(".names", __name__)
+        if name not in names.__all__ and name != "__all__":
+            raise AttributeError(f"module {__name__!r} has no attribute {name!r}")
+        globals().update({each: getattr(names, each) for each in ("__all__", *names.__all__)})
+        return globals()[name]
+
+    def __dir__():
+        return [*globals(), *__getattr__("__all__")]

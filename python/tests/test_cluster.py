@@ -49,6 +49,35 @@ class Faults(unittest.TestCase):
 
 @needs_program
 @needs_dask
+class Workers(unittest.TestCase):
+    def files(self, host: Any) -> dict[str, set[str]]:
+        """The files in the places where each worker of a host could leave one, and those that it has open."""
+        seen: dict[str, set[str]] = {}
+        for worker in host.workers():
+            home = pathlib.Path("/proc", str(worker))
+            places = [home / "cwd", *([home / "root/tmp", home / "root/dev/shm"] if host.network else [])]
+            for place in places:
+                seen[f"{place}"] = {f"{path.relative_to(place)}" for path in place.rglob("*") if path.suffix != ".log"}
+            seen[f"{home}/fd"] = {os.readlink(path) for path in (home / "fd").iterdir() if os.path.lexists(path)}
+        return seen
+
+    def test_nothing_is_left_there(self) -> None:
+        assert PROGRAM is not None
+        with tempfile.TemporaryDirectory(dir="/var/tmp") as folder, batches.trial_of(PROGRAM, 300) as trial, \
+                cluster.cluster_of(pathlib.Path(folder), 1, is_alone=True) as found:
+            (host,) = found.hosts
+            if not host.network:
+                print("NOT TRIED: /tmp and /dev/shm of a worker, which root alone can give it")
+            before = self.files(host)
+            self.assertEqual(len([name for name in before if name.endswith("/cwd")]), 2)
+            trial.is_whole(trial.run("--dask", found.address))
+            for name, files in self.files(host).items():
+                self.assertEqual({file for file in files - before[name] if not file.startswith("socket:")},
+                                 {"/memfd:formula (deleted)"} if name.endswith("/fd") else set(), name)
+
+
+@needs_program
+@needs_dask
 class Certificates(unittest.TestCase):
     """The page's lines make an authority of one's own, and certificates by it."""
 

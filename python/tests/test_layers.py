@@ -39,8 +39,8 @@ def imported(module: str) -> Iterator[str]:
 
 
 def package(module: str) -> str:
-    """The package of a module, directly below that of its distribution; this one has its own name."""
-    return ".".join(module.split(".")[:2])
+    """The package of a module, directly below that of its distribution; this one has its own name, and so have its names."""
+    return ".".join(module.removesuffix(".names").split(".")[:2])
 
 
 def layers() -> dict[str, int]:

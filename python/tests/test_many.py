@@ -74,6 +74,39 @@ class Nothing(unittest.TestCase):
         found: dict[int, Any] = dict(play_all(enumerate(TEXTS), b"", PLAIN, Answering(answer)))
         self.assertEqual([found[at].data for at in range(6)], TEXTS)
 
+    def test_a_place_that_fails_uses_up_no_tries(self) -> None:
+        def answer(asked: int, _: object, digest: str, program: object, options: object, texts: list[bytes], *__: object) -> Any:
+            is_played = asked == 1 or asked > 1000
+            return ("done", [(0, "", text) for text in texts], 0.1, ("here", 2)) if is_played else BROKEN
+
+        found: dict[int, Any] = dict(play_all(enumerate(TEXTS), b"", PLAIN, Answering(answer)))
+        self.assertEqual([found[at].data for at in range(6)], TEXTS)
+
+    def test_what_a_place_that_fails_gets_again_and_again_goes_to_others_too(self) -> None:
+        last: list[bytes] = []
+
+        def answer(asked: int, _: object, digest: str, program: object, options: object, texts: list[bytes], *__: object) -> Any:
+            nonlocal last
+            last, before = texts, last
+            return ("done", [(0, "", text) for text in texts], 0.1, ("here", 2)) if asked == 1 or texts == before else BROKEN
+
+        executor = Answering(answer)
+        found: dict[int, Any] = dict(play_all(enumerate(TEXTS), b"", PLAIN, executor))
+        self.assertEqual([found[at].data for at in range(6)], TEXTS)
+        self.assertLess(executor.asked, 20)
+
+    def test_a_text_that_no_place_can_play_is_given_up(self) -> None:
+        def answer(asked: int, _: object, digest: str, program: object, options: object, texts: list[bytes], *__: object) -> Any:
+            place = "here", asked % 5
+            return ("broken", "no memory", place) if TEXTS[3] in texts else ("done", [(0, "", b"") for _ in texts], 0.1, place)
+
+        found: dict[int, Any] = dict(play_all(enumerate(100 * TEXTS[:3] + TEXTS), b"", PLAIN, Answering(answer)))
+        self.assertEqual([at for at in found if isinstance(found[at], Unplayed)], [303])
+
+    def test_where_nothing_is_played_for_long_it_ends(self) -> None:
+        with mock.patch.object(many, "PATIENCE", 0.0), self.assertRaisesRegex(NoEngine, "there: no memory"):
+            dict(play_all(enumerate(TEXTS), b"", PLAIN, Answering(lambda *_: BROKEN), 0.01, size=lambda: 5))
+
     def test_texts_are_taken_as_they_are_sent(self) -> None:
         taken = 0
 

@@ -54,25 +54,27 @@ class Needs(unittest.TestCase):
 
 
 class Libraries(unittest.TestCase):
-    def restarted(self, words: list[str], here: Iterable[str], debians: Iterable[str], verb: str = "") -> list[Any]:
+    def restarted(self, words: list[str], here: Iterable[str], debians: Iterable[str]) -> list[Any]:
         """How often and with which words Debian's Python is begun."""
         with mock.patch.object(libraries, "has", lambda name: name in here), \
                 mock.patch.object(libraries, "debian_has", lambda names: {*names} <= {*debians}), \
                 mock.patch.object(libraries, "is_other_python", lambda: True), \
                 mock.patch.object(os, "execve") as begun:
-            libraries.restart(words, verb)
+            libraries.restart(words)
         return [call.args[1][4:] for call in begun.call_args_list]
 
     def test_debians_python_goes_on_where_it_has_more(self) -> None:
         self.assertEqual(self.restarted(["studio", "a b", "--port", "0"], (), ("aiohttp",)), [["studio", "a b", "--port", "0"]])
         self.assertEqual(self.restarted(["lsp"], (), ("pylsp_jsonrpc",)), [["lsp"]])
         batch = ["batch", "--dask", "127.0.0.1:8786", "a", "b"]
-        self.assertEqual(self.restarted(batch, (), ("distributed",), "batch --dask"), [batch])
+        self.assertEqual(self.restarted(batch, (), ("distributed",)), [batch])
 
     def test_else_this_python_goes_on(self) -> None:
         self.assertEqual(self.restarted(["studio"], ("aiohttp",), ("aiohttp",)), [])
         self.assertEqual(self.restarted(["studio"], (), ()), [])
-        self.assertEqual(self.restarted(["bars", "x"], (), ("aiohttp",)), [])
+        self.assertEqual(self.restarted([], (), ("aiohttp",)), [])
+        for words in (["bars", "x"], ["batch", "a", "b"]):
+            self.assertEqual(self.restarted(words, (), ("aiohttp", "distributed")), [])
 
     def test_the_package_is_named_where_neither_has_it(self) -> None:
         with mock.patch.object(libraries, "has", lambda _: False):

@@ -87,7 +87,9 @@ class Host:
         if cluster.has_networks:
             address = self._network(number)
             self.name = self.network
-            before = ["ip", "netns", "exec", self.network, "unshare", "--uts", "sh", "-c", 'hostname "$0"; exec "$@"', self.name]
+            own = "mount -t tmpfs none /tmp && mount -t tmpfs none /dev/shm &&" if cluster.is_alone else ""
+            before = ["ip", "netns", "exec", self.network, "unshare", "--uts", "--mount", "sh", "-c",
+                      f'hostname "$0"; {own} exec "$@"', self.name]
         words = [cluster.python, "-m", "distributed.cli.dask_worker", f"{cluster.protocol}://{address}:{cluster.port}",
                  "--nworkers", "2", "--nthreads", "1", "--no-dashboard", "--name", self.name,
                  "--death-timeout", f"{LONGEST:g}", "--local-directory", str(cluster.folder / self.name), *cluster.certificates]
@@ -136,12 +138,13 @@ def _words_of(process: int) -> bytes:
 
 
 class Cluster:
-    """A scheduler, and the hosts that have joined it."""
+    """A scheduler, and the hosts that have joined it. Where they are alone, each that has a network of its own has a
+    /tmp and a /dev/shm of its own, too, and the folder is elsewhere."""
 
-    def __init__(self, folder: pathlib.Path, certificates: Sequence[str] = ()):
+    def __init__(self, folder: pathlib.Path, certificates: Sequence[str] = (), is_alone: bool = False):
         found = python()
         assert found is not None
-        self.folder, self.python, self.certificates = folder, found, certificates
+        self.folder, self.python, self.certificates, self.is_alone = folder, found, certificates, is_alone
         self.protocol = "tls" if certificates else "tcp"
         self.has_networks = not certificates and can_have_networks()
         self.port = free_port()
@@ -185,9 +188,9 @@ class Cluster:
 
 
 @contextlib.contextmanager
-def cluster_of(folder: pathlib.Path, hosts: int = 2, certificates: Sequence[str] = ()) -> Iterator[Cluster]:
+def cluster_of(folder: pathlib.Path, hosts: int = 2, certificates: Sequence[str] = (), is_alone: bool = False) -> Iterator[Cluster]:
     """A cluster with so many hosts, whose workers have joined."""
-    cluster = Cluster(folder, certificates)
+    cluster = Cluster(folder, certificates, is_alone)
     try:
         for _ in range(hosts):
             cluster.host()

@@ -3,6 +3,7 @@
 from __future__ import annotations
 
 import contextlib
+import gc
 import importlib
 import logging
 import multiprocessing
@@ -11,7 +12,6 @@ import pathlib
 import re
 import signal
 import sys
-import tempfile
 import warnings
 from concurrent.futures import Executor, Future, ProcessPoolExecutor
 from typing import Any, Callable, Iterator, NamedTuple
@@ -81,10 +81,27 @@ def judge(address: str) -> None:
                      "certificates and a tls:// address, or reach it as 127.0.0.1:PORT, by ssh -L")
 
 
+def _library(name: str) -> Any:
+    """A library of many modules. It comes and goes a third sooner where nobody looks for garbage in it."""
+    gc.disable()
+    try:
+        return importlib.import_module(name)
+    finally:
+        gc.freeze()
+        gc.enable()
+
+
+def _bringer(distributed: Any, name: str, text: bytes) -> Any:
+    """What lets each worker have the module of the task, in its memory alone: it goes there by its value."""
+    module_of = child.module_of
+    _library("cloudpickle").register_pickle_by_value(child)
+    return type("Bringer", (distributed.WorkerPlugin,), {"setup": lambda *_, **__: module_of(name, text) and None})()
+
+
 @contextlib.contextmanager
 def dask(address: str) -> Iterator[Engine]:
     """A cluster of Dask, by the address of its scheduler. Its certificates are those of Dask's configuration."""
-    distributed: Any = importlib.import_module("distributed")
+    distributed = _library("distributed")
     logging.disable(logging.CRITICAL)  # what has to be said of faults is said here
     warnings.filterwarnings("ignore", "Large object")
     if address.startswith("tls:") and not distributed.Security().tls_ca_file:
@@ -96,11 +113,9 @@ def dask(address: str) -> Iterator[Engine]:
     with client:
         name, text = source()
         module = child.module_of(name, text)
-        with tempfile.TemporaryDirectory() as folder:
-            path = pathlib.Path(folder, f"{name}.py")
-            path.write_bytes(text)
-            plugin = distributed.diagnostics.plugin.UploadFile(str(path))
-        getattr(client, "register_plugin", client.register_worker_plugin)(plugin, name=name)
+        # newer versions have this name for it, and warn of the older one
+        register = getattr(client, "register_plugin", None) or client.register_worker_plugin
+        register(_bringer(distributed, name, text), name=name)
         last = 0
 
         def slots() -> int:

@@ -17,7 +17,7 @@ from ..batch.folder import RAW, Batch, Failed
 from ..batch.results import Results
 from ..batch.running import INTERRUPTED, Ended, run
 from ..batch.telling import report, write_csv, write_json
-from .libraries import needs, restart
+from .libraries import needs
 from .options import near_option
 
 USAGE = "[-j N | --dask ADDRESS] [--audit] [--seeds A-B] [--seconds S] [--csv FILE] [--json] [--program FILE] FOLDER OUT"
@@ -163,7 +163,6 @@ def main(words: Sequence[str], name: str, version: str) -> int:
     try:
         if options.dask:
             engines.judge(options.dask)
-            restart(["batch", *words], "batch --dask")
             needs("batch --dask")
         return play(options)
     except Failed as failed:

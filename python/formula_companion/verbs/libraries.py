@@ -8,7 +8,6 @@ import sys
 from typing import Sequence
 
 from formula_score.host.packages import DEBIAN, FEATURES, Package, debian_has, has, install_line, is_other_python
-from formula_score.reading.playing import Failed
 
 _PACKAGE = str(pathlib.Path(__file__).resolve().parents[2])
 
@@ -19,10 +18,11 @@ def of_verb(verb: str) -> list[Package]:
             for package in feature.packages if package.library]
 
 
-def restart(words: Sequence[str], verb: str = "") -> None:
-    """Goes on where this Python has the libraries of the verb. Else Debian's Python does the whole once more, where that
-    has them. `words` are those of the companion, and `verb` is the first of them, if it is not given."""
-    libraries = [package.library for package in of_verb(verb or words[0])]
+def restart(words: Sequence[str]) -> None:
+    """Goes on where this Python has the libraries of the verb. Else Debian's Python does the whole, where that has them.
+    `words` are those of the companion."""
+    needing = [word.partition("=")[0] for word in words if word[:6] == "--dask"] if words[:1] == ["batch"] else []
+    libraries = [package.library for package in of_verb(" ".join([*words[:1], *needing[:1]]))]
     if all(map(has, libraries)) or not is_other_python() or not debian_has(libraries):
         return
     path = os.pathsep.join(filter(None, [_PACKAGE, os.environ.get("PYTHONPATH")]))
@@ -34,6 +34,7 @@ def restart(words: Sequence[str], verb: str = "") -> None:
 
 def needs(verb: str) -> None:
     """Goes on where all libraries of a verb are there, else names the package."""
+    from formula_score.reading.playing import Failed  # not at the head: a restart would load it for nothing
     for package in of_verb(verb):
         if not has(package.library):
             raise Failed(1, f"the library {package.library} is missing: {install_line([package.name])}, or python3 -m pip "

@@ -8,14 +8,16 @@ import json
 import os
 import re
 from fractions import Fraction
-from typing import Any, Iterable, Optional
+from typing import TYPE_CHECKING, Any, Iterable, Optional
 
-from formula_score.checks.summary import Summary
 from formula_score.explaining.explain import file_place_of, place_of
 from formula_score.language.tokens import tokens
 from formula_score.reading.meter import groups_of, part_of
 from formula_score.reading.playing import Failed, text_of
 from ..editing.refusal import refused as refusal
+
+if TYPE_CHECKING:
+    from formula_score.checks.summary import Summary
 
 
 def meter_arguments(parser: argparse.ArgumentParser, otherwise: Optional[str] = "4/4") -> None:

@@ -17,7 +17,6 @@ from formula_score import __version__
 from formula_score.making.values import escaped
 from formula_score.reading.playing import Failed
 from formula_score.running.outs import descriptor_of
-from .libraries import restart
 from .options import failure, near, near_option, put
 
 VERSION = f"formula-score {__version__}"
@@ -215,7 +214,6 @@ def main(words: Optional[Sequence[str]] = None, name: str = "formula-score") -> 
     options: Optional[argparse.Namespace] = None
     try:
         options = None if verb.takes_words else _options(module, verb, f"{name} {given[0]}", given[1:])
-        restart(given)
         with _ends_in_order(), _said_beside(options):
             ended: int = module.run(options) if options else module.main(given[1:], f"{name} {given[0]}", VERSION)
         if sys.stdout:

@@ -7,10 +7,6 @@ from __future__ import annotations
 
 from typing import NamedTuple, Optional
 
-from .headings import heading, is_over_line
-from .spot import Spot
-from .telling import told_of
-
 __all__ = ["Told", "told"]
 
 
@@ -27,6 +23,9 @@ class Told(NamedTuple):
 
 def told(data: bytes, line: int, column: int, number: int) -> Optional[Told]:
     """What is told of a text that is refused at a place with a fault of this number; None for what the fault says."""
+    from .headings import heading, is_over_line  # rows and grammar come with the first text that is refused
+    from .spot import Spot
+    from .telling import told_of
     place = _byte_of(data, line, column)
     if place is None:
         return None

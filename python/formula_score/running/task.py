@@ -21,7 +21,7 @@ MOST_BYTES, MOST_SECONDS = 32 << 20, 30.0
 #: A run may take so many seconds, where nothing else is said.
 SECONDS = 600.0
 #: A thread that cannot play waits before it says so, each time twice as long, or it would take what others can play.
-PAUSE, LONGEST_PAUSE = 1.0, 8.0
+PAUSE, LONGEST_PAUSE = 0.1, 8.0
 #: The status of a run that took too long, and the least one of a run that was ended by a signal, as shells have them.
 LATE, SIGNALLED = 124, 128
 #: Descriptors of ours are from this number on, and a child has them as 0 to 5: the text is 3, the file 4, the program 5.
