@@ -1,0 +1,64 @@
+"""Sees which runs make a thread or wait for one, by strace: those that one thread does make none.
+
+Each of these runs is traced: without workers, of a score of one process with workers and in rounds, and each task but to
+play and to record, with workers. None may call clone or wait on a futex. Runs with workers, in rounds and on record are
+traced too, and have to make as many threads as were asked for at least once, so that the trace is seen to see them. On
+Debian: apt-get install strace."""
+
+from __future__ import annotations
+
+import argparse
+import re
+import shutil
+import subprocess
+import tempfile
+from pathlib import Path
+
+import harness
+
+#: What a run with several threads calls.
+THREADS = re.compile(r"\bclone3?\(")
+WAITS = re.compile(r"\bfutex\([^,]*, FUTEX_WAIT")
+
+ONE, MANY = harness.SCORES / "one_note.score", harness.SCORES / "canon.score"
+#: Runs of one thread: the input, and the words.
+ALONE: tuple[tuple[Path, str], ...] = (
+    (MANY, "--workers 0"), (MANY, "--workers 0 --rounds"), (ONE, "--workers 4"), (ONE, "--workers 4 --rounds"),
+    (MANY, "--parts"), (MANY, "--parts --rounds"), (MANY, "--from 480"), (MANY, "--to 960"), (MANY, "--locate 480"))
+#: Runs of several threads, and how many they ask for.
+TOGETHER: tuple[tuple[str, int], ...] = (("--workers 2", 2), ("--workers 2 --rounds", 1), ("--workers 2 --record", 2))
+
+
+def arguments(parser: argparse.ArgumentParser) -> None:
+    """The verb takes nothing but the program."""
+    del parser
+
+
+def traced(program: str, source: Path, target: Path, words: str) -> tuple[int, int]:
+    """How many threads a run makes, and how often one waits on a futex."""
+    log = target.with_suffix(".trace")
+    subprocess.run(["strace", "-f", "-e", "trace=clone,clone3,futex", "-o", log, program, source, target, *words.split()],
+                   stdout=subprocess.DEVNULL, stderr=subprocess.DEVNULL, check=True)
+    lines = log.read_text(errors="replace")
+    return len(THREADS.findall(lines)), len(WAITS.findall(lines))
+
+
+def run(program: str, asked: argparse.Namespace) -> harness.Count:
+    """Traces each run."""
+    del asked
+    count = harness.Count()
+    if shutil.which("strace") is None:
+        count.not_tried("which runs make threads", "strace is not installed (apt-get install strace)")
+        return count
+    with tempfile.TemporaryDirectory() as folder:
+        target = Path(folder, "out.mid")
+        traced(program, MANY, Path(folder, "in.mid"), "--workers 0")
+        traced(program, MANY, Path(folder, "in.run"), "--workers 2 --record")
+        files = ((Path(folder, "in.mid"), "--list"), (Path(folder, "in.run"), "--audit"))
+        for source, words in (*ALONE, *files):
+            threads, waits = traced(program, source, target, words)
+            count.judge(f"{source.name} {words}", f"{threads} threads, {waits} waits" if threads or waits else None)
+        for words, least in TOGETHER:
+            threads, _ = traced(program, MANY, target, words)
+            count.judge(f"{MANY.name} {words}", None if threads >= least else f"{threads} threads")
+    return count
