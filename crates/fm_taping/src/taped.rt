@@ -1,8 +1,8 @@
 //! A board whose steps are kept on a tape.
 use crate::recorder::Recorder;
-use crate::{Calls, Work};
 use fm_board::{Berth, Board, BoardSeat, Claim, Seen, Started};
 use fm_buffer::Gather;
+use fm_calls::{Calls, Work};
 use fm_core::Floor;
 use fm_strand::Plan;
 use std::sync::{Mutex, Wait};

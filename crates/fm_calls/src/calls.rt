@@ -16,7 +16,7 @@ ghost use Rattle.fm_board.specs.Seats.{IsOurs, making, seeing};
 ghost use Rattle.fm_board.specs.Starting.{Starts};
 ghost use Rattle.fm_board.specs.View.{InTurn, noted, processes, published, released};
 ghost use Rattle.fm_board.specs.declared.about.About.{About};
-ghost use Rattle.fm_taping.specs.Works.{IsWorkOf};
+ghost use Rattle.fm_calls.specs.Works.{IsWorkOf};
 
 use fm_board::{Berth, Board, BoardSeat, Claim, Seen, Started};
 use fm_buffer::Gather;
