@@ -19,7 +19,7 @@ use Rattle.fm_way.specs.declared.taped.Setup.{Setup}
 use Rattle.fm_words.specs.Settings.{Settings}
 use Rattle.fm_top.specs.Begins.{Begins, BreaksRecord, IsToPlay, IsToRecord, PutsRecord, StopsRecord, line_of}
 use Rattle.fm_top.specs.Outcome.{Does, Holds, Stops}
-use Rattle.fm_top.specs.Seen.{SourceSeen, SinkSeen}
+use Rattle.fm_top.specs.Seen.{SinkSeen, SourceSeen, of_sink, of_source}
 use Rattle.fm_top.specs.Summing.{totals}
 use Rattle.fm_top.specs.Taking.{IsTaken, TakesPlan}
 use Rattle.fm_top.specs.Tasks.{task_of}
@@ -55,12 +55,12 @@ puts_record to sink sink' setup text head steps is are puts =
 -- a score that is to be put on record was not taken
 pub record_not_taken : {S K : Type 0} (from : SourceSeen S) (source source' : S) (to : SinkSeen K) (sink : K) (number : Option ℕ)
     (t : Task) (setup : Setup) (fault : RunFault) → t ≡ task.Record number setup → IsTaken from number source source' fault
-    → Stops from source source' to sink sink t fault
+    → Stops (of_source from source source') (of_sink to sink sink) t fault
 record_not_taken from source source' to sink number t setup fault is taken =
-    subst (λ u. Stops from source source' to sink sink u fault) (sym is) (stopped fault taken)
+    subst (λ u. Stops (of_source from source source') (of_sink to sink sink) u fault) (sym is) (stopped fault taken)
   where
     stopped : (f : RunFault) → IsTaken from number source source' f
-        → Stops from source source' to sink sink (task.Record number setup) f
+        → Stops (of_source from source source') (of_sink to sink sink) (task.Record number setup) f
     stopped run.Words none = absurd none
     stopped run.Read taken = (taken.0, taken.1, refl)
     stopped (run.Score spot n) taken = (taken, refl)
@@ -74,11 +74,11 @@ module _ {S K : Type 0} (from : SourceSeen S) (source source' : S) (to : SinkSee
     (plays : PlansPlay) (last : LastLinesEnd) (asked : Option Task) (t : Task) (is : asked ≡ Some t)
     (same : middle ≡ sink) where
   -- the file of a score that was left is written
-  pub left_does : (s : Settings) (p : Playing) → IsToPlay from source source' s t p → (line : Option (List ℕ))
+  pub left_does : (s : Settings) (p : Playing) → IsToPlay (of_source from source source') s t p → (line : Option (List ℕ))
       → line ≡ line_of p.number p.performance.plan
       → IsFinished to middle sink' p.performance.plan.profile (piece (plan_lines p.performance.plan))
       (piece_end (plan_lines p.performance.plan))
-      → (u : Task) × (asked ≡ Some u) × Does from source source' to sink sink' u line
+      → (u : Task) × (asked ≡ Some u) × Does (of_source from source source') (of_sink to sink sink') u line
   left_does s p left line told finished = (
     task.Play p.number,
     is ∙ ap Some left.task,
@@ -88,17 +88,17 @@ module _ {S K : Type 0} (from : SourceSeen S) (source source' : S) (to : SinkSee
   )
 
   -- or it was not
-  pub left_stops : (s : Settings) (p : Playing) → IsToPlay from source source' s t p → (fault : RunFault)
-      → StopsAt to middle sink' p.performance.plan fault → Holds from source source' to sink sink' asked fault
+  pub left_stops : (s : Settings) (p : Playing) → IsToPlay (of_source from source source') s t p → (fault : RunFault)
+      → StopsAt to middle sink' p.performance.plan fault → Holds (of_source from source source') (of_sink to sink sink') asked fault
   left_stops s p left fault stops =
-      subst (λ a. Holds from source source' to sink sink' a fault) (sym (is ∙ ap Some left.task))
+      subst (λ a. Holds (of_source from source source') (of_sink to sink sink') a fault) (sym (is ∙ ap Some left.task))
       (play_stopped from source source' to sink sink' p.number plays last p.performance.plan left.taken fault
       (subst (λ (m : K). StopsAt to m sink' p.performance.plan fault) same stops))
 
   -- the record of a score that was left is put
-  pub record_does : (r : Recording) → IsToRecord from source source' t r → (line : Option (List ℕ))
+  pub record_does : (r : Recording) → IsToRecord (of_source from source source') t r → (line : Option (List ℕ))
       → line ≡ line_of r.number r.plan → PutsRecord to middle sink' r.setup r.text.items
-      → (u : Task) × (asked ≡ Some u) × Does from source source' to sink sink' u line
+      → (u : Task) × (asked ≡ Some u) × Does (of_source from source source') (of_sink to sink sink') u line
   record_does r left line told put = (
     task.Record r.number r.setup,
     is ∙ ap Some left.task,
@@ -108,13 +108,14 @@ module _ {S K : Type 0} (from : SourceSeen S) (source source' : S) (to : SinkSee
   )
 
   -- or it was not
-  pub record_stops : (r : Recording) → IsToRecord from source source' t r → (fault : RunFault)
-      → StopsRecord to middle sink' r.setup r.text.items fault → Holds from source source' to sink sink' asked fault
+  pub record_stops : (r : Recording) → IsToRecord (of_source from source source') t r → (fault : RunFault)
+      → StopsRecord to middle sink' r.setup r.text.items fault → Holds (of_source from source source') (of_sink to sink sink') asked fault
   record_stops r left fault stops =
-      subst (λ a. Holds from source source' to sink sink' a fault) (sym (is ∙ ap Some left.task)) (stopped fault stops)
+      subst (λ a. Holds (of_source from source source') (of_sink to sink sink') a fault) (sym (is ∙ ap Some left.task))
+      (stopped fault stops)
     where
       stopped : (f : RunFault) → StopsRecord to middle sink' r.setup r.text.items f
-          → Stops from source source' to sink sink' (task.Record r.number r.setup) f
+          → Stops (of_source from source source') (of_sink to sink sink') (task.Record r.number r.setup) f
       stopped run.Words none = absurd none
       stopped run.Read none = absurd none
       stopped (run.Score spot n) none = absurd none
@@ -134,13 +135,13 @@ module _ {S K : Type 0} (from : SourceSeen S) (source source' : S) (to : SinkSee
   -- it has come to this
   abbrev pub HasBegun : Begun → Type 0
   HasBegun b =
-      (s : Settings) × (settings ≡ Some s) × Begins from source source' to sink middle s (task_of s) b
+      (s : Settings) × (settings ≡ Some s) × Begins (of_source from source source') (of_sink to sink middle) s (task_of s) b
 
   pub file_does : (b : Begun) (p : Playing) → HasBegun b → b ≡ begun.File p → (line : Option (List ℕ))
       → line ≡ line_of p.number p.performance.plan
       → IsFinished to middle sink' p.performance.plan.profile (piece (plan_lines p.performance.plan))
       (piece_end (plan_lines p.performance.plan))
-      → (u : Task) × (option_map task_of settings ≡ Some u) × Does from source source' to sink sink' u line
+      → (u : Task) × (option_map task_of settings ≡ Some u) × Does (of_source from source source') (of_sink to sink sink') u line
   file_does b p has is line told finished =
       let h = subst (λ x. HasBegun x) is has in
       left_does from source source' to sink middle sink' plays last (option_map task_of settings) (task_of h.0)
@@ -148,7 +149,7 @@ module _ {S K : Type 0} (from : SourceSeen S) (source source' : S) (to : SinkSee
 
   pub file_stops : (b : Begun) (p : Playing) → HasBegun b → b ≡ begun.File p → (fault : RunFault)
       → StopsAt to middle sink' p.performance.plan fault
-      → Holds from source source' to sink sink' (option_map task_of settings) fault
+      → Holds (of_source from source source') (of_sink to sink sink') (option_map task_of settings) fault
   file_stops b p has is fault stops =
       let h = subst (λ x. HasBegun x) is has in
       left_stops from source source' to sink middle sink' plays last (option_map task_of settings) (task_of h.0)
@@ -156,7 +157,7 @@ module _ {S K : Type 0} (from : SourceSeen S) (source source' : S) (to : SinkSee
 
   pub recording_does : (b : Begun) (r : Recording) → HasBegun b → b ≡ begun.Record r → (line : Option (List ℕ))
       → line ≡ line_of r.number r.plan → PutsRecord to middle sink' r.setup r.text.items
-      → (u : Task) × (option_map task_of settings ≡ Some u) × Does from source source' to sink sink' u line
+      → (u : Task) × (option_map task_of settings ≡ Some u) × Does (of_source from source source') (of_sink to sink sink') u line
   recording_does b r has is line told put =
       let h = subst (λ x. HasBegun x) is has in
       record_does from source source' to sink middle sink' plays last (option_map task_of settings) (task_of h.0)
@@ -164,7 +165,7 @@ module _ {S K : Type 0} (from : SourceSeen S) (source source' : S) (to : SinkSee
 
   pub recording_stops : (b : Begun) (r : Recording) → HasBegun b → b ≡ begun.Record r → (fault : RunFault)
       → StopsRecord to middle sink' r.setup r.text.items fault
-      → Holds from source source' to sink sink' (option_map task_of settings) fault
+      → Holds (of_source from source source') (of_sink to sink sink') (option_map task_of settings) fault
   recording_stops b r has is fault stops =
       let h = subst (λ x. HasBegun x) is has in
       record_stops from source source' to sink middle sink' plays last (option_map task_of settings) (task_of h.0)

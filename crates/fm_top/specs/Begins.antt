@@ -1,5 +1,5 @@
--- What a run has come to before another thread runs: what is asked for is done, or a score was read that several threads
--- play. And what these leave in the sink then.
+-- What a run has come to before another thread runs: what is asked for is done, or a score was read that several
+-- threads play. And what these leave in the sink then.
 use Rattle.std.specs.Prelude.{◌≡◌, ℕ, ◌+◌, ◌<◌, List, ◌++◌, length, Option, option_map}
 use Rattle.fm_edge.specs.Runs.{Puts, Breaks}
 use Rattle.fm_gen.specs.SummaryLine.{summary_line}
@@ -15,7 +15,7 @@ use Rattle.fm_way.specs.Ways.{CanPlay, CanRecord}
 use Rattle.fm_way.specs.declared.taped.Setup.{Setup}
 use Rattle.fm_words.specs.Settings.{Settings}
 use Rattle.fm_top.specs.Outcome.{Does}
-use Rattle.fm_top.specs.Seen.{SourceSeen, SinkSeen}
+use Rattle.fm_top.specs.Seen.{SinkChange, SinkSeen, SourceChange}
 use Rattle.fm_top.specs.Summing.{told_text, totals}
 use Rattle.fm_top.specs.Taking.{TakesAll, TakesPlan, offered, remaining}
 use Rattle.fm_top.specs.declared.begun.Begun.{Begun}
@@ -25,18 +25,20 @@ use Rattle.fm_top.specs.declared.begun.Recording.{Recording}
 use Rattle.fm_top.specs.declared.task.Task.{Task}
 use Rattle.fm_top.specs.declared.task.Task.TheVariants as task
 
-module _ {S : Type 0} (from : SourceSeen S) (source source' : S) where
+module _ {S : Type 0} (from : SourceChange S) where
   -- a score of several processes was taken, where some workers are asked for, and is to be played
   pub record IsToPlay (s : Settings) (t : Task) (p : Playing) : Type 0 where
     pub task : t ≡ task.Play p.number
-    pub taken : TakesPlan (offered p.number (from.flow source)) (remaining p.number (from.flow source')) p.performance.plan
+    pub taken : TakesPlan (offered p.number (from.seen.flow from.old)) (remaining p.number (from.seen.flow from.new))
+        p.performance.plan
     pub can : CanPlay p.performance.way p.performance.room p.performance.lead
     pub some : s.workers ≡ 0 → ⊥
     pub many : length p.performance.plan.programs < 2 → ⊥
 
   -- a text was taken to its end, and this is the plan of what it means
   pub record IsRead (r : Recording) : Type 0 where
-    pub all : TakesAll MAX_TEXT (offered r.number (from.flow source)) (remaining r.number (from.flow source')) r.text.items
+    pub all : TakesAll MAX_TEXT (offered r.number (from.seen.flow from.old)) (remaining r.number (from.seen.flow from.new))
+        r.text.items
     pub planned : IsPlanned r.text.items r.plan
 
   -- it is to be played on record
@@ -45,12 +47,12 @@ module _ {S : Type 0} (from : SourceSeen S) (source source' : S) where
     pub read : IsRead r
     pub can : CanRecord r.setup.workers r.setup.room r.setup.lead
 
-  module _ {K : Type 0} (to : SinkSeen K) (sink sink' : K) where
+  module _ {K : Type 0} (to : SinkChange K) where
     -- what is asked for is done, or it is left to several threads and the sink is as it was
     abbrev pub Begins : Settings → Task → Begun → Type 0
-    Begins s t (begun.Done told) = Does from source source' to sink sink' t (told_text told)
-    Begins s t (begun.File playing) = IsToPlay s t playing × (sink' ≡ sink)
-    Begins s t (begun.Record recording) = IsToRecord t recording × (sink' ≡ sink)
+    Begins s t (begun.Done told) = Does from to t (told_text told)
+    Begins s t (begun.File playing) = IsToPlay s t playing × (to.new ≡ to.old)
+    Begins s t (begun.Record recording) = IsToRecord t recording × (to.new ≡ to.old)
 
 -- ---- what several threads leave
 

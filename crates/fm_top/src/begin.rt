@@ -9,6 +9,7 @@ ghost use Rattle.fm_top.specs.Taking.{Takes, TakesFor, IsLeftAlone};
 ghost use Rattle.fm_top.specs.Tasks.{CanDo, asked, most_of, number_asked, number_of};
 ghost use Rattle.fm_top.specs.Tasks.{task_of as task_for};
 ghost use Rattle.fm_top.specs.Outcome.{Holds, Stops};
+ghost use Rattle.fm_top.specs.Seen.{of_sink, of_source};
 
 use crate::audits::audit_record;
 use crate::begun::Begun;
@@ -41,9 +42,10 @@ pub fn begin<S: Source, K: Sink, G: Gate>(
     ensures unread { IsLeftAlone (number_asked (asked words.now)) source.old source.new }
     ensures ok { IfOk result (λ begun. (s : Settings)
         × (settings_by_rules (map string_bytes words.now) ≡ Some s)
-        × Begins S.seen source.old source.new K.seen sink.old sink.new s (task_for s) begun) }
-    ensures err { IfErr result
-        (Holds S.seen source.old source.new K.seen sink.old sink.new (asked words.now)) }
+        × Begins (of_source S.seen source.old source.new)
+        (of_sink K.seen sink.old sink.new) s (task_for s) begun) }
+    ensures err { IfErr result (Holds (of_source S.seen source.old source.new)
+        (of_sink K.seen sink.old sink.new) (asked words.now)) }
 {
     words_obey_rules(words);
     let options = match read_options(alloc, words) {
@@ -71,10 +73,10 @@ fn begin_task<S: Source, K: Sink, G: Gate>(
     ensures calm { (IsErrOf result RunFault.Read → ⊥)
         → S.seen.faults source.new ≡ S.seen.faults source.old }
     ensures unread { IsLeftAlone (number_of task) source.old source.new }
-    ensures ok { IfOk result (Begins S.seen source.old source.new K.seen sink.old sink.new
-        (options_view options.now) task) }
-    ensures err { IfErr result (Stops S.seen source.old source.new K.seen sink.old sink.new
-        task) }
+    ensures ok { IfOk result (Begins (of_source S.seen source.old source.new)
+        (of_sink K.seen sink.old sink.new) (options_view options.now) task) }
+    ensures err { IfErr result (Stops (of_source S.seen source.old source.new)
+        (of_sink K.seen sink.old sink.new) task) }
 {
     match task {
         Task::Play { generate } => perform(alloc, generate, options, source, sink, gate),
