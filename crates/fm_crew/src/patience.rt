@@ -27,11 +27,10 @@ pub(crate) trait Patience {
         conductor: &mut Conductor,
         process: u32,
     ) -> Option<u64>
-        requires passing { Attends (B.table board.now) (B.about board.now)
-            conductor.old pass process }
+        requires passing { Attends (B.shared board.now) conductor.old pass process }
         requires turn { InTurn conductor.old.seat.mind.view process }
         ensures waited { waits self.now ≡ true → IsSome result }
-        ensures visited { IfSome result (Visited (B.table board.now) (B.about board.now)
+        ensures visited { IfSome result (Visited (B.shared board.now)
             pass process conductor.old conductor.new) };
 }
 
@@ -85,10 +84,9 @@ fn look_until_visited<R: Wait, B: Calls, G: Gate>(
     conductor: &mut Conductor,
     process: u32,
 ) -> u64
-    requires passing { Attends (B.table board.now) (B.about board.now) conductor.old pass process }
+    requires passing { Attends (B.shared board.now) conductor.old pass process }
     requires turn { InTurn conductor.old.seat.mind.view process }
-    ensures { Visited (B.table board.now) (B.about board.now) pass process
-        conductor.old conductor.new result }
+    ensures { Visited (B.shared board.now) pass process conductor.old conductor.new result }
 {
     let mut idle = Idle::new(1);
     let bell = Bell::new();
