@@ -1,5 +1,5 @@
 -- The work that is told of a give is what the seat did.
-use Rattle.std.proofs.Common.{◌≡◌, ℕ, suc, ◌+◌, ◌-◌, ◌<◌, ◌≤◌, Bool, true, false, List, [], ◌∷◌, length, drop, Option, Some, None, refl, sym, ap, ◌∙◌, arith, ne_eqb}
+use Rattle.std.proofs.Common.{◌≡◌, ℕ, ◌+◌, ◌-◌, ◌<◌, ◌≤◌, Bool, true, false, List, [], length, drop, Option, Some, None, refl, sym, ap, ◌∙◌, arith, ne_eqb}
 use Rattle.std.specs.Prelude.{◌&&◌, ◌||◌, not, nat_eq, if◌then◌else◌}
 use Rattle.std.proofs.lemmas.List.{length-drop}
 use Rattle.fm_msg.specs.Event.{TimedMessage}
@@ -14,8 +14,8 @@ use Rattle.fm_board.specs.Seats.{SeatState}
 use Rattle.fm_board.specs.declared.seen.Seen.{Seen}
 use Rattle.fm_board.specs.declared.berth.Berth.{Berth}
 use Rattle.fm_board.specs.View.{holding, is_over, must_take, noted, noted_hold, takes_of, waiting, waits_of, was_visited}
-use Rattle.fm_taping.specs.Works.{IsWorkOf}
-use Rattle.fm_taping.specs.declared.calls.Work.{Work}
+use Rattle.fm_calls.specs.Works.{IsWorkOf}
+use Rattle.fm_calls.specs.declared.calls.Work.{Work}
 use Rattle.fm_crew.specs.Crew.{TakesFresh}
 
 -- no more are taken than wait

@@ -15,7 +15,7 @@ use Rattle.fm_board.specs.Answers.{HasClaimed, Looks}
 use Rattle.fm_board.specs.Knowing.{IsWide, Knows}
 use Rattle.fm_board.specs.Plays.{Marked}
 use Rattle.fm_board.specs.Seats.{SeatState}
-use Rattle.fm_board.specs.View.{gave, holding, lines_of, looked, processes}
+use Rattle.fm_board.specs.View.{InTurn, gave, holding, lines_of, looked, processes}
 use Rattle.fm_board.specs.declared.about.About.{About}
 use Rattle.fm_board.specs.declared.berth.Berth.{Berth}
 use Rattle.fm_board.specs.declared.seen.Seen.{Seen}
@@ -24,10 +24,11 @@ use Rattle.fm_board.specs.declared.view.Mind.{Mind}
 use Rattle.fm_board.specs.declared.view.View.{View}
 use Rattle.fm_board.proofs.Knowing.{found_knows, hands_knows}
 use Rattle.fm_crew.specs.declared.conductor.Conductor.{Conductor}
+use Rattle.fm_crew.specs.Conduct.{Stays}
 use Rattle.fm_crew.specs.Onward.{Advances, Brings, BringsHeld, GoesOn, Grows, HoldsBack, IsFull, Moves}
-use Rattle.fm_crew.specs.Visiting.{Rests}
-use Rattle.fm_crew.proofs.Looking.{seated}
-use Rattle.fm_crew.proofs.Onward.{goes_back, goes_front, moves_back, moves_front, still_back}
+use Rattle.fm_crew.specs.Visiting.{LooksAt, Rests}
+use Rattle.fm_crew.proofs.Looking.{look_stays, look_swept, seated, stays_rests}
+use Rattle.fm_crew.proofs.Onward.{goes_back, goes_front, grows_then, moves_back, moves_front, still_back}
 use Rattle.fm_crew.proofs.Startings.{seen_unborn}
 
 -- ---- what a visit brings on comes behind what was learned before
@@ -221,3 +222,33 @@ rests_given v h v' is =
       stays = record { plan = refl; paced = refl; released = refl; published = refl; halted = refl };
       sweep = refl;
     })
+
+-- ---- what a look leaves
+
+-- a pass that stays as it was, and stays on
+pub stays_then : (a b c : View) → Stays a b → Stays b c → Stays a c
+stays_then a b c p q = record {
+  plan = q.plan ∙ p.plan;
+  paced = q.paced ∙ p.paced;
+  released = q.released ∙ p.released;
+  published = q.published ∙ p.published;
+  halted = q.halted ∙ p.halted;
+}
+
+-- a look, and another one at the same process
+pub looks_then : (p : ℕ) (a b c : Conductor) → LooksAt p a b → LooksAt p b c → LooksAt p a c
+looks_then p a b c first second = record {
+  stays = stays_then a.seat.mind.view b.seat.mind.view c.seat.mind.view first.stays second.stays;
+  swept = second.swept;
+  grows = grows_then a b c first.grows second.grows;
+}
+
+-- a look, and what leaves the sweep as it was
+pub looks_rested : (p : ℕ) (old new : Conductor) (seen : Seen) (seat : SeatState) → Looks old.seat p seen seat
+    → InTurn old.seat.mind.view p → Rests seat.mind.view new.seat.mind.view → Grows (seated old seat) new
+    → LooksAt p old new
+looks_rested p old new seen seat look turn rests grows = record {
+  stays = stays_rests old.seat.mind.view seat.mind.view new.seat.mind.view (look_stays p old.seat seat seen look) rests;
+  swept = ap length rests.sweep ∙ look_swept p old.seat seat seen look turn;
+  grows = grows_then old (seated old seat) new (looked_grows old p seen seat look) grows;
+}

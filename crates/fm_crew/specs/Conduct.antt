@@ -1,6 +1,5 @@
 -- What a conductor's passes need and leave.
 use Rattle.std.specs.Prelude.{◌≡◌, ℕ, ◌-◌, ◌*◌, ◌<◌, ◌≤◌, List, [], length, true, false, Option, IfSome}
-use Rattle.atomic_table.specs.Seated.{TableId}
 use Rattle.fm_edge.specs.Seen.{SinkSeen}
 use Rattle.fm_msg.specs.Event.{TimedMessage}
 use Rattle.fm_line.specs.Line.{line}
@@ -23,6 +22,7 @@ use Rattle.fm_board.specs.Seats.{IsIdle, SeatState}
 use Rattle.fm_board.specs.View.{lines_of, processes, published, released, was_visited}
 use Rattle.fm_board.specs.declared.about.About.{About}
 use Rattle.fm_board.specs.declared.view.View.{View}
+use Rattle.fm_calls.specs.Shared.{Shared}
 use Rattle.fm_play.specs.Ends.{CanFollow}
 use Rattle.fm_crew.specs.Onward.{IsFull}
 use Rattle.fm_crew.specs.declared.conductor.Conductor.{Conductor}
@@ -55,9 +55,9 @@ pub record Passing (a : About) (v : View) (gather : EventGather) (due : Due) (li
   pub gathers : HasGathered a v gather due n
 
 -- a conductor in a pass, after so many processes: its seat holds nothing
-pub record Attends (t : TableId) (a : About) (c : Conductor) (p : Pass) (n : ℕ) : Type 0 where
-  pub idle : IsIdle t a c.seat
-  pub passing : Passing a c.seat.mind.view c.gather p.due p.limit n
+pub record Attends (w : Shared) (c : Conductor) (p : Pass) (n : ℕ) : Type 0 where
+  pub idle : IsIdle w.table w.about c.seat
+  pub passing : Passing w.about c.seat.mind.view c.gather p.due p.limit n
 
 -- what a pass leaves as it was
 pub record Stays (old new : View) : Type 0 where
@@ -81,8 +81,8 @@ first_pass a = record { due = Nothing; limit = a.lead }
 
 -- a conductor as it begins: before the first pass, with nothing released, and an empty gather with room for all that
 -- the outboxes can hold
-pub record MayConduct (t : TableId) (a : About) (c : Conductor) : Type 0 where
-  pub attends : Attends t a c (first_pass a) 0
+pub record MayConduct (w : Shared) (c : Conductor) : Type 0 where
+  pub attends : Attends w c (first_pass w.about) 0
   pub paced : c.seat.mind.view.paced ≡ At 0
   pub released : c.seat.mind.view.released ≡ 0
   pub running : c.seat.mind.view.halted ≡ false
@@ -90,12 +90,12 @@ pub record MayConduct (t : TableId) (a : About) (c : Conductor) : Type 0 where
 
 -- a conductor's seat after an Ok: it has released every event of the piece, its last floor says that all is done, and a
 -- run of the core, in which its steps are those that it made, has played the whole piece
-pub record HasConducted (t : TableId) (a : About) (s : SeatState) : Type 0 where
-  pub idle : IsIdle t a s
+pub record HasConducted (w : Shared) (s : SeatState) : Type 0 where
+  pub idle : IsIdle w.table w.about s
   pub conductor : s.mind.view.number ≡ 0
   pub running : s.mind.view.halted ≡ false
   pub published : s.mind.view.published ≡ Done
-  pub released : s.mind.view.released ≡ length (piece (plan_lines a.plan))
+  pub released : s.mind.view.released ≡ length (piece (plan_lines w.about.plan))
   pub plays : PlaysWhole s.mind
 
 -- looks alone: another sweep, and what they visit
@@ -109,8 +109,8 @@ pub record MovesFloor (old new : View) (paced : Floor) (due : Due) : Type 0 wher
   pub view : new ≡ record (published old (floor_of pair) due) { paced = paced }
 
 -- a conductor's seat that holds nothing
-pub record IsConductor (t : TableId) (a : About) (s : SeatState) : Type 0 where
-  pub idle : IsIdle t a s
+pub record IsConductor (w : Shared) (s : SeatState) : Type 0 where
+  pub idle : IsIdle w.table w.about s
   pub conductor : s.mind.view.number ≡ 0
 
 -- the next events were released
@@ -141,9 +141,9 @@ module _ {K : Type 0} (seen : SinkSeen K) where
     pub at_end : IfSome (seen.content begin) (λ c. length c ≡ writer.put)
 
   -- a conductor that has visited what is due, and can put what comes next into the sink
-  pub record CanRelease (t : TableId) (a : About) (c : Conductor) (due : Due) (begin : K) (writer : Written)
+  pub record CanRelease (w : Shared) (c : Conductor) (due : Due) (begin : K) (writer : Written)
       : Type 0 where
-    pub conductor : IsConductor t a c.seat
+    pub conductor : IsConductor w c.seat
     pub due_is : due ≡ c.seat.mind.view.due
     pub visited : is_due due ≡ true → (p : ℕ) → p < processes c.seat.mind.view
         → was_visited c.seat.mind.view p ≡ true

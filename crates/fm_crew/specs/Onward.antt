@@ -1,5 +1,5 @@
 -- What goes on in a pass: which process holds the floor back, and how it is brought on.
-use Rattle.std.specs.Prelude.{◌≡◌, ◌⊎◌, ℕ, ◌-◌, ◌<◌, ◌≤◌, length, map, true, false, not, Some, slice_index_or}
+use Rattle.std.specs.Prelude.{◌≡◌, ◌⊎◌, ℕ, ◌<◌, ◌≤◌, length, map, true, false, Some, slice_index_or}
 use Rattle.fm_line.specs.Line.{greatest, line}
 use Rattle.fm_core.specs.Sweep.{sight}
 use Rattle.fm_core.specs.declared.due.Due.{Due}

@@ -1,16 +1,15 @@
 //! How a conductor waits for a process that another seat holds.
-ghost use Rattle.std.specs.Prelude.{◌≡◌, ◌+◌, Bool, true, false, length, IfSome, IsSome};
+ghost use Rattle.std.specs.Prelude.{◌≡◌, Bool, true, false, IfSome, IsSome};
 ghost use Rattle.fm_board.specs.View.{InTurn};
-ghost use Rattle.fm_crew.specs.Conduct.{Attends, Stays};
-ghost use Rattle.fm_crew.specs.Onward.{Grows};
+ghost use Rattle.fm_crew.specs.Conduct.{Attends};
 ghost use Rattle.fm_crew.specs.Visiting.{Visited};
 
 use crate::conductor::Conductor;
 use crate::limits::Pass;
 use crate::pass::attend;
+use fm_calls::Calls;
 use fm_edge::Gate;
 use fm_rest::{Bell, Idle};
-use fm_taping::Calls;
 use std::sync::Wait;
 
 /// What a conductor does while a process is in other hands.
@@ -28,17 +27,11 @@ pub(crate) trait Patience {
         conductor: &mut Conductor,
         process: u32,
     ) -> Option<u64>
-        requires passing { Attends (B.table board.now) (B.about board.now)
-            conductor.old pass process }
+        requires passing { Attends (B.shared board.now) conductor.old pass process }
         requires turn { InTurn conductor.old.seat.mind.view process }
         ensures waited { waits self.now ≡ true → IsSome result }
-        ensures visited { IfSome result (Visited (B.table board.now) (B.about board.now)
-            pass process conductor.old conductor.new) }
-        ensures stays { IfSome result
-            (λ _. Stays conductor.old.seat.mind.view conductor.new.seat.mind.view) }
-        ensures swept { IfSome result
-            (λ _. length conductor.new.seat.mind.view.sweep ≡ process + 1) }
-        ensures grows { IfSome result (λ _. Grows conductor.old conductor.new) };
+        ensures visited { IfSome result (Visited (B.shared board.now)
+            pass process conductor.old conductor.new) };
 }
 
 /// A conductor beside other seats, which yields to them, and rests after a while.
@@ -91,13 +84,9 @@ fn look_until_visited<R: Wait, B: Calls, G: Gate>(
     conductor: &mut Conductor,
     process: u32,
 ) -> u64
-    requires passing { Attends (B.table board.now) (B.about board.now) conductor.old pass process }
+    requires passing { Attends (B.shared board.now) conductor.old pass process }
     requires turn { InTurn conductor.old.seat.mind.view process }
-    ensures visited { Visited (B.table board.now) (B.about board.now) pass process
-        conductor.old conductor.new result }
-    ensures stays { Stays conductor.old.seat.mind.view conductor.new.seat.mind.view }
-    ensures swept { length conductor.new.seat.mind.view.sweep ≡ process + 1 }
-    ensures grows { Grows conductor.old conductor.new }
+    ensures { Visited (B.shared board.now) pass process conductor.old conductor.new result }
 {
     let mut idle = Idle::new(1);
     let bell = Bell::new();

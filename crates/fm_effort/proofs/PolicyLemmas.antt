@@ -1,10 +1,11 @@
 -- When an estimate is made, and what comes of it.
-use Rattle.std.proofs.Common.{◌≡◌, ◌∙◌, ℕ, ◌/◌, ◌<◌, ◌≤◌, max, nat_le, true, false, List, length, refl, sym, ap, arith}
-use Rattle.std.proofs.lemmas.Bool.{lt-leb, le-leb, leb-true, and_left, and_right, and_from, and_parts}
+use Rattle.std.proofs.Common.{◌≡◌, ◌∙◌, ℕ, ◌/◌, ◌<◌, ◌≤◌, max, nat_le, Bool, true, false, List, length, refl, sym, ap, arith}
+use Rattle.std.proofs.lemmas.Bool.{lt-leb, le-leb, lt-ltb, leb-true, and_left, and_right, and_from, and_parts}
 use Rattle.fm_program.specs.Parts.{ProgramParts, PlanParts}
 use Rattle.fm_effort.specs.declared.load.Load.{Load}
 use Rattle.fm_effort.specs.declared.load.TheConstants.{MOST_OPERATIONS, MANY_EVENTS}
-use Rattle.fm_effort.specs.Effort.{counted, all_effort, all_operations, is_too_many, is_estimated, busy, workers_of}
+use Rattle.fm_effort.specs.declared.useful.TheConstants.{LEAST_FOR_AN_EVENT}
+use Rattle.fm_effort.specs.Effort.{counted, all_effort, all_operations, is_too_many, is_estimated, busy, event_work, workers_of}
 use Rattle.fm_effort.specs.Kept.{load_for}
 
 -- not for long programs
@@ -72,3 +73,13 @@ unfolding workers_of
 some_estimated p room most count load is few made loaded =
     let all = ap (λ (n : ℕ). is_too_many n room) (sym is) ∙ few in
     rw (all, sym made, loaded, some_events p.programs made) refl
+
+-- none where an event takes little to compute
+pub none_where_cheap : (p : PlanParts) (room most result : ℕ) → result ≡ workers_of p room most
+    → is_estimated p.programs ≡ true → event_work (all_effort p.programs) < LEAST_FOR_AN_EVENT → result ≡ 0
+unfolding workers_of
+none_where_cheap p room most result is made cheap = is ∙ none (is_too_many (length p.programs) room) refl
+  where
+    none : (b : Bool) → is_too_many (length p.programs) room ≡ b → workers_of p room most ≡ 0
+    none true many = rw many refl
+    none false few = rw (few, made, lt-ltb (event_work (all_effort p.programs)) LEAST_FOR_AN_EVENT cheap) refl

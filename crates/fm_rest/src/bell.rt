@@ -13,6 +13,12 @@ const SILENT: u32 = 0;
 /// The word after that.
 const RUNG: u64 = 1;
 
+/// Shows that a bell was rung: only [`Bell::ring`] makes one. Who has to return it has to ring.
+#[derive(Drop)]
+pub struct Rung {
+    _made: (),
+}
+
 /// A bell by which threads rest until it is rung. They share it by reference.
 #[derive(Drop)]
 pub struct Bell {
@@ -37,9 +43,10 @@ impl Bell {
     }
 
     /// Wakes all that rest, and lets nobody rest from now on.
-    pub fn ring(&self) {
+    pub fn ring(&self) -> Rung {
         self.word.store(RUNG, Ordering::SeqCst);
         self.word.wake_all();
+        Rung { _made: () }
     }
 }
 

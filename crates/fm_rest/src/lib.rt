@@ -9,5 +9,5 @@
 mod bell;
 mod idle;
 
-pub use bell::Bell;
+pub use bell::{Bell, Rung};
 pub use idle::Idle;

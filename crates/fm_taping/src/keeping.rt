@@ -18,14 +18,14 @@ ghost use Rattle.fm_board.specs.Runs.{Extends};
 ghost use Rattle.fm_board.specs.Seats.{IsOurs, making};
 ghost use Rattle.fm_board.specs.Starting.{Starts};
 ghost use Rattle.fm_board.specs.View.{InTurn, giving, noted, processes, published, released};
-ghost use Rattle.fm_taping.specs.Works.{IsWorkOf};
+ghost use Rattle.fm_calls.specs.Works.{IsWorkOf};
 ghost use Rattle.fm_taping.specs.Keeping.{Keeps, KeepsLook, claim_step, look_step, pace_step, start_step};
 ghost use Rattle.fm_taping.specs.Keeping as words;
 
-use crate::Work;
 use crate::recorder::Recorder;
 use fm_board::{Berth, Board, BoardSeat, Claim, Latest, Seen, Started};
 use fm_buffer::Gather;
+use fm_calls::Work;
 use fm_core::{Floor, Step, Tag};
 use fm_record::Tape;
 

@@ -1,8 +1,10 @@
 //! A board whose steps are kept on a tape.
+ghost use Rattle.fm_calls.specs.Shared.{of_board};
+
 use crate::recorder::Recorder;
-use crate::{Calls, Work};
 use fm_board::{Berth, Board, BoardSeat, Claim, Seen, Started};
 use fm_buffer::Gather;
+use fm_calls::{Calls, Work};
 use fm_core::Floor;
 use fm_strand::Plan;
 use std::sync::{Mutex, Wait};
@@ -17,9 +19,7 @@ pub struct Taped<'a, R> {
 }
 
 impl<R: Wait> Calls for Taped<'_, R> {
-    ghost table = { λ taped. taped.board.now.table.shared.table_id };
-
-    ghost about = { λ taped. taped.board.now.about };
+    ghost shared = { λ taped. of_board taped.board.now };
 
     fn plan(&self) -> &Plan {
         self.board.plan()

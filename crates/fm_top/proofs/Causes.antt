@@ -5,18 +5,18 @@ use Rattle.fm_tell.specs.declared.status.TheConstants.{DONE, CONSOLE_FAULT, OUT_
 use Rattle.fm_tell.specs.declared.run_fault.RunFault.{RunFault}
 use Rattle.fm_tell.specs.declared.run_fault.RunFault.TheVariants as run
 use Rattle.fm_top.specs.declared.task.Task.{Task}
-use Rattle.fm_top.specs.Seen.{SourceSeen, SinkSeen, ConsoleSeen}
+use Rattle.fm_top.specs.Seen.{ConsoleSeen, SinkSeen, SourceSeen, of_sink, of_source}
 use Rattle.fm_tell.specs.Telling.{Tells, fault_status, fault_text, told, untold}
 use Rattle.fm_top.specs.Summing.{TellsEnd}
-use Rattle.fm_top.specs.Outcome.{Does, Holds, IsRefused, StatusCause, Stops}
+use Rattle.fm_top.specs.Outcome.{Does, Holds, IsCaused, IsRefused, Stops}
 
 module _ {S K C : Type 0} (from : SourceSeen S) (source source' : S) (to : SinkSeen K) (sink sink' : K)
     (on : ConsoleSeen C) (console console' : C) (asked : Option Task) where
   abbrev Cause : ℕ → Type 0
-  Cause status = StatusCause from source source' to sink sink' on console console' asked status
+  Cause status = IsCaused (of_source from source source') (of_sink to sink sink') (of_sink on console console') asked status
 
   done_cause : (status : ℕ) (t : Task) (line : Option (List ℕ)) → asked ≡ Some t
-      → Does from source source' to sink sink' t line → status ≡ DONE → Cause status
+      → Does (of_source from source source') (of_sink to sink sink') t line → status ≡ DONE → Cause status
   done_cause status t line given d is = record {
     known = omega (arith, is);
     done = λ _. (t, line, given, d);
@@ -44,7 +44,7 @@ module _ {S K C : Type 0} (from : SourceSeen S) (source source' : S) (to : SinkS
 
   -- what is asked for is done, and its line is told, or the console failed
   pub cause_of_done : (status : ℕ) (t : Task) (line : Option (List ℕ)) → asked ≡ Some t
-      → Does from source source' to sink sink' t line
+      → Does (of_source from source source') (of_sink to sink sink') t line
       → TellsEnd on console console' line status → Cause status
   cause_of_done status t None given d end = done_cause status t None given d end.0
   cause_of_done status t (Some text) given d (told is all) = done_cause status t (Some text) given d is
@@ -77,7 +77,7 @@ module _ {S K C : Type 0} (from : SourceSeen S) (source source' : S) (to : SinkS
   }
 
   refused_cause : (status : ℕ) (t : Task) (f : RunFault) → asked ≡ Some t
-      → IsRefused from source source' to sink sink' t f → fault_status f ≡ status
+      → IsRefused (of_source from source source') (of_sink to sink sink') t f → fault_status f ≡ status
       → status ≡ SCORE_REFUSED → Cause status
   refused_cause status t f given refused same is = record {
     known = omega (arith, is);
@@ -93,7 +93,7 @@ module _ {S K C : Type 0} (from : SourceSeen S) (source source' : S) (to : SinkS
 
   -- a task stops with a fault, which is told
   stop_cause : (status : ℕ) (t : Task) (f : RunFault) → asked ≡ Some t
-      → Stops from source source' to sink sink' t f → status ≡ fault_status f → Cause status
+      → Stops (of_source from source source') (of_sink to sink sink') t f → status ≡ fault_status f → Cause status
   stop_cause status t run.Words given h is = absurd h
   stop_cause status t (run.Score spot n) given h is = refused_cause status t (run.Score spot n) given h.0 (sym is) is
   stop_cause status t (run.File at n) given h is = refused_cause status t (run.File at n) given h.0 (sym is) is
@@ -135,7 +135,7 @@ module _ {S K C : Type 0} (from : SourceSeen S) (source source' : S) (to : SinkS
 
   -- a fault holds, and is told, or the console failed
   pub cause_of_stop : (status : ℕ) (a : Option Task) (f : RunFault) → asked ≡ a
-      → Holds from source source' to sink sink' a f
+      → Holds (of_source from source source') (of_sink to sink sink') a f
       → Tells on console console' (fault_text f) (fault_status f) status → Cause status
   cause_of_stop status a f given h (untold is breaks) = untold_cause status breaks.rose is
   cause_of_stop status (Some t) f given h (told is all) = stop_cause status t f given h is

@@ -1,8 +1,13 @@
 -- Worked tasks: what settings ask for, and which of them counts first.
-use Rattle.std.proofs.Common.{◌≡◌, [], ◌∷◌, Some, None, true, false, map, codes, refl}
+use Rattle.std.proofs.Common.{◌≡◌, ℕ, [], ◌∷◌, Some, None, true, false, map, codes, refl}
+use Rattle.fm_way.specs.declared.taped.Setup.{Setup}
 use Rattle.fm_words.specs.Settings.{Settings}
 use Rattle.fm_top.specs.declared.task.Task.TheVariants.{Play, Split, Excerpt, List, Record, Audit, Locate}
 use Rattle.fm_top.specs.Tasks.{task_of}
+
+-- so many workers, with the room and the lead of the rows
+abbrev on_record : ℕ → Setup
+on_record n = record { workers = n; room = 5; lead = 4 }
 
 -- settings that ask for everything
 abbrev everything : Settings
@@ -49,7 +54,7 @@ whole = record to_an_end { to = None }
 -- the first that is asked for counts; without a begin an excerpt begins at 0
 tasks_in_turn :
     map task_of (everything ∷ unaudited ∷ unlisted ∷ unrecorded ∷ unlocated ∷ unparted ∷ to_an_end ∷ whole ∷ [])
-    ≡ Audit ∷ List ∷ Record (Some 6) 3 5 4 ∷ Locate (Some 6) 7 8 ∷ Split (Some 6) ∷ Excerpt (Some 6) 9 (Some 10)
+    ≡ Audit ∷ List ∷ Record (Some 6) (on_record 3) ∷ Locate (Some 6) 7 8 ∷ Split (Some 6) ∷ Excerpt (Some 6) 9 (Some 10)
     ∷ Excerpt (Some 6) 0 (Some 10) ∷ Play (Some 6) ∷ []
 tasks_in_turn = refl
 
@@ -59,5 +64,5 @@ to_the_end = refl
 
 -- on record there is one worker at least
 one_worker_on_record : map (λ workers. task_of (record unlisted { workers = workers })) (0 ∷ 1 ∷ 2 ∷ [])
-    ≡ Record (Some 6) 1 5 4 ∷ Record (Some 6) 1 5 4 ∷ Record (Some 6) 2 5 4 ∷ []
+    ≡ Record (Some 6) (on_record 1) ∷ Record (Some 6) (on_record 1) ∷ Record (Some 6) (on_record 2) ∷ []
 one_worker_on_record = refl

@@ -156,7 +156,7 @@ one_verdict one once = record { made = made; apart = apart; fault = fault; longe
     made (task.Split number) input m n single a b = score_made one (split number) input m n a b
     made (task.Excerpt number begin until) input m n single a b = score_made one (part_of number begin until) input m n a b
     made (task.Locate number tick process) input m n single a b = position_made one once tick process input m n a b
-    made (task.Record number workers room lead) input m n single a b = absurd single
+    made (task.Record number setup) input m n single a b = absurd single
     made task.Audit input m n single a b = record_made one input m n a b
     made task.List input m n single a b =
         let same : ◌≡◌ {A = Read Contents} (Ok a.found) (Ok b.found) = sym a.is_read ∙ b.is_read in
@@ -168,7 +168,7 @@ one_verdict one once = record { made = made; apart = apart; fault = fault; longe
     apart (task.Split number) input m f a b = text_apart one input a.score f a.means b
     apart (task.Excerpt number begin until) input m f a b = text_apart one input a.score f a.means b
     apart (task.Locate number tick process) input m f a b = position_apart one tick process input m f a b
-    apart (task.Record number workers room lead) input m f a b = text_apart one input a.score f a.means b
+    apart (task.Record number setup) input m f a b = text_apart one input a.score f a.means b
     apart task.Audit input m f a b = record_apart one input m f a b
     apart task.List input m f a b = file_apart input a.found f a.short a.is_read b
 
@@ -177,7 +177,7 @@ one_verdict one once = record { made = made; apart = apart; fault = fault; longe
     fault (task.Split number) input f g a b = text_fault one input f g a b
     fault (task.Excerpt number begin until) input f g a b = text_fault one input f g a b
     fault (task.Locate number tick process) input f g a b = position_same one process input f g a b
-    fault (task.Record number workers room lead) input f g a b = text_fault one input f g a b
+    fault (task.Record number setup) input f g a b = text_fault one input f g a b
     fault task.Audit input f g a b = record_same one input f g a b
     fault task.List input f g a b = file_same input f g a b
 
@@ -187,6 +187,6 @@ one_verdict one once = record { made = made; apart = apart; fault = fault; longe
     longer (task.Split number) input told f long le refuses = text_longer input told f long le refuses
     longer (task.Excerpt number begin until) input told f long le refuses = text_longer input told f long le refuses
     longer (task.Locate number tick process) input told f long le refuses = position_longer process input told f long le refuses
-    longer (task.Record number workers room lead) input told f long le refuses = text_longer input told f long le refuses
+    longer (task.Record number setup) input told f long le refuses = text_longer input told f long le refuses
     longer task.Audit input told f long le refuses = record_longer input told f long le refuses
     longer task.List input told f long le refuses = file_longer input told f long le refuses

@@ -7,6 +7,7 @@ use Rattle.fm_position.specs.PositionLine.{position_text}
 use Rattle.fm_tell.specs.declared.status.TheConstants.{DONE}
 use Rattle.fm_tell.specs.Seen.{ConsoleSeen}
 use Rattle.fm_tell.specs.Telling.{Tells}
+use Rattle.fm_top.specs.Seen.{ConsoleSeen}
 use Rattle.fm_top.specs.declared.told.Told.{Told}
 use Rattle.fm_top.specs.declared.told.Told.TheVariants.{Nothing, Totals, Place}
 

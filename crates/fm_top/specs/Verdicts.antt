@@ -8,7 +8,7 @@ use Rattle.fm_top.specs.declared.task.Task.TheVariants as task
 
 -- an input makes one product at most; of records there are many
 abbrev pub HasOneProduct : Task → Type 0
-HasOneProduct (task.Record number workers room lead) = ⊥
+HasOneProduct (task.Record number setup) = ⊥
 HasOneProduct t = Unit {0}
 
 -- the verdict of a task is one; and of more bytes than are read it is the same, whatever follows

@@ -11,25 +11,22 @@ ghost use Rattle.fm_words.specs.View.{HasRanges, options_view};
 ghost use Rattle.fm_tell.specs.declared.run_fault.RunFault.TheVariants.{Memory};
 
 use crate::growing::GrowingSink;
-use fm_edge::Gate;
+use fm_edge::OpenGate;
 use fm_play::Played;
 use fm_program::Plan;
 use fm_read::{File, read};
 use fm_tell::RunFault;
-use fm_way::play;
+use fm_way::{Performance, play_alone};
 use fm_words::Options;
 use std::alloc::Global;
-use std::sync::Wait;
-use std::thread::Threads;
 
-/// The file of the plan's piece in memory, played in the way that the options ask for, and its
-/// size. Memory is taken as the file grows; a sink in memory fails only where it finds none.
-pub fn play_in_memory<R: Threads + Wait + Sync, G: Gate + Sync>(
-    rt: &R,
+/// The file of the plan's piece in memory, played by this thread with the room and the lead of the
+/// options, and its size. Memory is taken as the file grows; a sink in memory fails only where it
+/// finds none.
+pub fn play_in_memory(
     alloc: Global,
     plan: Plan,
     options: &Options,
-    gate: &G,
 ) -> Result<(GrowingSink, Played), RunFault>
     requires ranges { HasRanges (options_view options.now) }
     ensures file { IfOk result (λ r. r.0.bytes.items
@@ -38,7 +35,8 @@ pub fn play_in_memory<R: Threads + Wait + Sync, G: Gate + Sync>(
     ensures err { IfErr result (λ fault. fault ≡ Memory) }
 {
     let mut memory = GrowingSink::new(alloc);
-    match play(rt, alloc, plan, options, gate, &mut memory) {
+    let performance = Performance::alone(plan, options);
+    match play_alone(alloc, performance, &OpenGate, &mut memory) {
         Ok(played) => Ok((memory, played)),
         Err(_) => Err(RunFault::Memory),
     }

@@ -1,14 +1,15 @@
 //! What a run is asked to do.
 ghost use Rattle.std.specs.Prelude.{◌≡◌};
-ghost use Rattle.fm_words.specs.View.{options_view};
-ghost use Rattle.fm_top.specs.Tasks.{task_of};
+ghost use Rattle.fm_words.specs.View.{HasRanges, options_view};
+ghost use Rattle.fm_top.specs.Tasks.{CanDo, setup_of, task_of};
 
+use fm_way::Setup;
 use fm_words::Options;
 
 /// What a run is asked to do. Where several of the later options stand, the first counts of
 /// `--audit`, `--list`, `--record`, `--locate`, `--parts`, and `--from` with `--to`; where none
 /// does, a score is played.
-#[derive(Clone, Copy, Debug, PartialEq, Eq)]
+#[derive(Clone, Copy, Debug)]
 pub enum Task {
     /// A score is played: that of the source, or the large score of a number.
     Play {
@@ -26,12 +27,10 @@ pub enum Task {
     },
     /// A Standard MIDI File is listed.
     List,
-    /// A score is played on record, by so many workers, with this room and lead.
+    /// A score is played on record.
     Record {
         generate: Option<u32>,
-        workers: u32,
-        room: u32,
-        lead: u64,
+        setup: Setup,
     },
     /// A record of a run is audited, and the file of its score is written.
     Audit,
@@ -45,7 +44,9 @@ pub enum Task {
 
 /// The task that options ask for.
 pub fn task_of(options: &Options) -> Task
-    ensures { result ≡ task_of (options_view options.now) }
+    requires ranges { HasRanges (options_view options.now) }
+    ensures value { result ≡ task_of (options_view options.now) }
+    ensures can { CanDo result }
 {
     let generate = options.generate;
     if options.audited {
@@ -57,13 +58,7 @@ pub fn task_of(options: &Options) -> Task
     if options.recorded {
         return Task::Record {
             generate,
-            workers: if options.workers == 0 {
-                1
-            } else {
-                options.workers
-            },
-            room: options.room,
-            lead: options.lead,
+            setup: setup_of(options),
         };
     }
     if let Some(tick) = options.locate {
@@ -88,5 +83,20 @@ pub fn task_of(options: &Options) -> Task
             begin,
             until,
         },
+    }
+}
+
+// With what a score is played on record: by one worker at least.
+fn setup_of(options: &Options) -> Setup
+    ensures { result ≡ setup_of (options_view options.now) }
+{
+    Setup {
+        workers: if options.workers == 0 {
+            1
+        } else {
+            options.workers
+        },
+        room: options.room,
+        lead: options.lead,
     }
 }

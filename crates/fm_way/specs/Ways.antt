@@ -1,7 +1,8 @@
--- What playing a plan leaves in a new sink, in whatever way, and which limits a performance on record has.
-use Rattle.std.specs.Prelude.{◌≡◌, ℕ, ◌<◌, ◌≤◌, Result, MatchResult}
+-- In which way a plan is played, what that leaves in a new sink, whatever the way, and the limits of a performance.
+use Rattle.std.specs.Prelude.{◌≡◌, ℕ, ◌<◌, ◌≤◌, nat_eq, nat_lt, if◌then◌else◌, Bool, true, false, length, Result, MatchResult}
 use Rattle.fm_buffer.specs.declared.outbox.TheConstants.{MAX_ROOM}
 use Rattle.fm_core.specs.declared.limits.TheConstants.{MAX_LEAD, MAX_SEATS}
+use Rattle.fm_effort.specs.Effort.{workers_of}
 use Rattle.fm_edge.specs.Seen.{SinkSeen}
 use Rattle.fm_line.specs.Piece.{piece}
 use Rattle.fm_play.specs.Ends.{piece_end}
@@ -12,6 +13,46 @@ use Rattle.fm_program.specs.Process.{plan_lines}
 use Rattle.fm_smf.specs.Writing.{IsBroken}
 use Rattle.fm_tell.specs.declared.run_fault.RunFault.{RunFault}
 use Rattle.fm_tell.specs.declared.run_fault.RunFault.TheVariants as run
+use Rattle.fm_words.specs.Settings.{Settings}
+use Rattle.fm_way.specs.declared.way.Way.{Way}
+use Rattle.fm_way.specs.declared.way.Way.TheVariants.{Alone, Conductor, Rounds, Crew}
+
+-- by so many workers that are worth their cost, or alone where none is
+abbrev pub crew_of : ℕ → Way
+crew_of useful = if nat_eq useful 0 then Alone else Crew useful
+
+-- in which way so many processes are played, of so many workers that are asked for and so many that are useful
+abbrev pub way_for : (workers processes useful : ℕ) → (rounds : Bool) → Way
+way_for workers processes useful rounds =
+    if nat_eq workers 0 then Alone
+    else if nat_lt processes 2 then Conductor
+    else if rounds then Rounds workers
+    else crew_of useful
+
+-- in which way a plan is played where the words ask for these settings
+abbrev pub way_of : Settings → PlanParts → Way
+way_of s plan = way_for s.workers (length plan.programs) (workers_of plan s.room s.workers) s.rounds
+
+-- how many threads a way asks for beside the calling one
+abbrev pub threads_of : Way → ℕ
+threads_of Alone = 0
+threads_of Conductor = 0
+threads_of (Rounds threads) = threads
+threads_of (Crew workers) = workers
+
+-- whether the calling thread does all
+abbrev pub is_alone : Way → Bool
+is_alone Alone = true
+is_alone Conductor = true
+is_alone (Rounds threads) = false
+is_alone (Crew workers) = false
+
+-- the limits of a performance, in whatever way
+pub record CanPlay (way : Way) (room lead : ℕ) : Type 0 where
+  pub few : threads_of way < MAX_SEATS
+  pub some : 1 ≤ room
+  pub small : room ≤ MAX_ROOM
+  pub short : lead ≤ MAX_LEAD
 
 module _ {K : Type 0} (to : SinkSeen K) (sink sink' : K) where
   -- what a fault says of the sink, where a plan was to be played: a call failed before its file was in the sink, or

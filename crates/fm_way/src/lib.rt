@@ -6,8 +6,12 @@
 //! order threads run is left out.
 #![tactic(auto)]
 
+mod performance;
 mod playing;
 mod taped;
+mod way;
 
-pub use playing::play;
+pub use performance::Performance;
+pub use playing::{play, play_alone};
 pub use taped::{Setup, Tapes, play_on_record};
+pub use way::{Way, way_of};

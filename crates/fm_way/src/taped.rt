@@ -1,6 +1,7 @@
 //! A plan that is played on record.
 ghost use Rattle.std.specs.Prelude.{◌≡◌, ◌+◌, ◌≤◌, [], false, length, IfOk, IfErr};
 ghost use Rattle.fm_board.specs.Seats.{IsBoardOf};
+ghost use Rattle.fm_calls.specs.Shared.{of_board};
 ghost use Rattle.fm_crew.specs.Conduct.{HasConducted, MayConduct};
 ghost use Rattle.fm_crew.specs.Onward.{IsLone};
 ghost use Rattle.fm_crew.specs.Workers.{AreWorkers};
@@ -107,8 +108,7 @@ fn play_on_tape<R: Threads + Wait + Sync, G: Gate + Sync>(
     ensures whole { IfOk result (λ r. r.steps.short ≡ false) }
     ensures board { IfOk result (λ r. IsBoardOf r.board.about plan
         setup.room setup.lead (setup.workers + 1)) }
-    ensures conducted { IfOk result (λ r. HasConducted r.board.table.shared.table_id
-        r.board.about r.conductor.seat) }
+    ensures conducted { IfOk result (λ r. HasConducted (of_board r.board) r.conductor.seat) }
     ensures played { IfOk result (λ r. r.played ≡ played_of plan) }
     ensures err { IfErr result (λ fault. fault ≡ Memory) }
 {
@@ -144,12 +144,10 @@ fn play_unheard<R: Threads + Wait + Sync, G: Gate + Sync>(
     gate: &G,
     recorder: &Mutex<Recorder>,
 ) -> Played
-    requires opened { MayConduct board.now.table.shared.table_id board.now.about
-        conductor.old }
-    requires workers { AreWorkers board.now.table.shared.table_id board.now.about others.items }
+    requires opened { MayConduct (of_board board.now) conductor.old }
+    requires workers { AreWorkers (of_board board.now) others.items }
     requires lone { length others.items ≡ 0 → IsLone conductor.old.seat.mind }
-    ensures conducted { HasConducted board.now.table.shared.table_id board.now.about
-        conductor.new.seat }
+    ensures conducted { HasConducted (of_board board.now) conductor.new.seat }
     ensures played { result ≡ played_of board.now.about.plan }
 {
     let mut nowhere = NullSink::new();

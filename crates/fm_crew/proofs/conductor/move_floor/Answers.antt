@@ -27,7 +27,7 @@ returns-clause-back g c =
     ∙ ap (λ (x : SeatState). making x (Pace x.mind.view.number) (record x.mind.view { paced = c.pace.result }) c.pace.new.seat.mind.log.seen)
     c.publish.ensures.seat) in
     let many : processes m.view ≡ processes c.args.seat.now.mind.view = ap processes c.look_again.ensures.looked in
-    let r = held_back (g.B.Calls.about c.args.board.now) m tick p c.look_again.ensures.conductor.idle.ours.plan
+    let r = held_back (g.B.Calls.shared c.args.board.now).about m tick p c.look_again.ensures.conductor.idle.ours.plan
     (c.look_again.ensures.swept ∙ sym many) (subst (AreSeen m) (sym many) (c.look_again.ensures.seen full))
     (ap due_of (sym c.sweep-least.ensures.least) ∙ (sym c.next_due.ensures ∙ is)) in (
       subst (λ (y : Mind). HoldsBack y tick p) (sym minds)

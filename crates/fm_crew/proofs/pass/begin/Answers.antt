@@ -11,13 +11,13 @@ use Rattle.fm_crew.proofs.pass.begin.Goals as goal
 
 pub advance-requires-clause-told : goal.advance-requires-clause-told
 advance-requires-clause-told g c =
-    takes_fresh (g.B.Calls.about c.args.board.now) c.args.conductor.now.seat c.args.process c.start_process.new.seat _
+    takes_fresh (g.B.Calls.shared c.args.board.now).about c.args.conductor.now.seat c.args.process c.start_process.new.seat _
     c.requires.passing.idle.ours.plan c.in-Some.ensures.some
 
 pub returns-in-Some-clause-passed : goal.returns-in-Some-clause-passed
 returns-in-Some-clause-passed g c =
-    let a = g.B.Calls.about c.args.board.now in
-    let t = g.B.Calls.table c.args.board.now in
+    let a = (g.B.Calls.shared c.args.board.now).about in
+    let t = (g.B.Calls.shared c.args.board.now).table in
     let old = c.args.conductor.now in
     let fresh = c.in-Some.ensures.some in
     let ours = c.requires.passing.idle.ours in

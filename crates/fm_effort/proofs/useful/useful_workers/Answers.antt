@@ -1,5 +1,5 @@
 use Rattle.std.proofs.Common.{◌∙◌, sym}
-use Rattle.fm_effort.proofs.PolicyLemmas.{none_where_crowded, all_unestimated, some_estimated}
+use Rattle.fm_effort.proofs.PolicyLemmas.{none_where_cheap, none_where_crowded, all_unestimated, some_estimated}
 use Rattle.fm_effort.proofs.useful.useful_workers.Goals as goal
 
 pub returns-then-is_crowded-clause-value : goal.returns-then-is_crowded-clause-value
@@ -18,3 +18,11 @@ pub returns-in-None-clause-value : goal.returns-in-None-clause-value
 returns-in-None-clause-value c =
     all_unestimated c.args.plan.now c.args.room c.args.most c.processes.result c.processes.ensures.value
     (sym c.is_crowded.ensures ∙ c.if-is_crowded.false) c.in-None.ensures.exact
+
+pub returns-in-Some-clause-cheap : goal.returns-in-Some-clause-cheap
+returns-in-Some-clause-cheap c made cheap =
+    none_where_cheap c.args.plan.now c.args.room c.args.most _ (returns-in-Some-clause-value c) made cheap
+
+pub returns-in-None-clause-cheap : goal.returns-in-None-clause-cheap
+returns-in-None-clause-cheap c made cheap =
+    none_where_cheap c.args.plan.now c.args.room c.args.most _ (returns-in-None-clause-value c) made cheap
