@@ -17,6 +17,18 @@ sys.path[:0] = [str(TOP / "tools" / name) for name in ("definitions", "jobs", "s
 running: Any = importlib.import_module("running")
 plain_values: Any = importlib.import_module("plain_values")
 beside: Any = importlib.import_module("beside")
+library: Any = importlib.import_module("library")
+page: Any = importlib.import_module("page")
+repository: Any = importlib.import_module("repository")
+statement: Any = importlib.import_module("statement")
+
+
+class Libraries(unittest.TestCase):
+    def test_each_name_has_its_meaning_and_none_is_spare(self) -> None:
+        used: set[str] = set()
+        for function in ("formula", "formula_over"):
+            used |= page.library_names(statement.statement_of(repository.Repository(str(TOP)), function, None))
+        self.assertEqual({name for _, name, _ in library.table()}, used)
 
 
 class Lists(unittest.TestCase):
