@@ -63,6 +63,7 @@ fn branches_ask(branches: &[Vec<Step>]) -> Needs
 }
 
 // What those inside a statement ask, as they say.
+#[inline(always)]
 fn inside_asks(what: &Instruction, phrases: &[Needs]) -> Needs
     ensures { (t : PlainTables) (look : Look) → CanMark phrases.now t look what.now →
         InsideAsks t (instruction_view look what.now) result }
@@ -130,6 +131,7 @@ pub(crate) fn beat_at(spot: Spot) -> Step
 }
 
 /// A statement at its spot, which says what it asks, and whether it forks. None is made elsewhere.
+#[inline(always)]
 pub(crate) fn step_at(spot: Spot, what: Instruction, phrases: &[Needs], tables: &Tables) -> Step
     ensures spot { result.spot ≡ spot }
     ensures what { result.what ≡ what }

@@ -225,7 +225,8 @@ impl<'s> Maker<'s> for Outliner<'s> {
         match opened.shell {
             Some(shell) => {
                 let what = shell.round(body);
-                self.step(opened.spot, what)
+                let walk = &self.sketch.walk;
+                step_at(opened.spot, what, &walk.known.needs, &walk.tables)
             }
             None => beat_at(opened.spot),
         }
@@ -257,7 +258,8 @@ impl<'s> Maker<'s> for Outliner<'s> {
         match tested.expr {
             Some(expr) => {
                 let what = Instruction::Choice { expr, yes, no };
-                self.step(tested.spot, what)
+                let walk = &self.sketch.walk;
+                step_at(tested.spot, what, &walk.known.needs, &walk.tables)
             }
             None => beat_at(tested.spot),
         }

@@ -18,7 +18,7 @@ ghost use Rattle.fm_parse.specs.Statements.{has_block, begins, stmt_syms, placed
 use crate::reading::Reading;
 use crate::words::{braces_of, ends_with_block, starter_of};
 use fm_lex::{Keyword, Kind};
-use fm_terms::{ParseFault, make_room, push};
+use fm_terms::{ParseFault, append, make_room, push};
 use std::alloc::Global;
 
 /// The most braces that are open at one time.
@@ -77,6 +77,7 @@ fn read_else<W: Reading>(alloc: Global, w: &mut W, depth: u32) -> Result<Vec<W::
 
 // A choice.
 #[cycle(item)]
+#[inline(never)]
 fn read_if<W: Reading>(alloc: Global, w: &mut W, depth: u32) -> Result<W::Made, ParseFault>
     requires { depth < 64 }
     ensures text { IfOk result (λ m. Made W.is_made stmt_text placed_tree
@@ -92,6 +93,7 @@ fn read_if<W: Reading>(alloc: Global, w: &mut W, depth: u32) -> Result<W::Made, 
 
 // A statement that ends with its one block.
 #[cycle(item)]
+#[inline(never)]
 fn read_opened<W: Reading>(
     alloc: Global,
     w: &mut W,
@@ -136,6 +138,7 @@ fn read_branches<W: Reading>(
 
 // A fork.
 #[cycle(item)]
+#[inline(never)]
 fn read_par<W: Reading>(alloc: Global, w: &mut W, depth: u32) -> Result<W::Made, ParseFault>
     requires { depth + 2 ≤ 64 }
     ensures text { IfOk result (λ m. Made W.is_made stmt_text placed_tree
@@ -151,6 +154,7 @@ fn read_par<W: Reading>(alloc: Global, w: &mut W, depth: u32) -> Result<W::Made,
 
 // A statement with this word, where its braces may be opened.
 #[cycle(item)]
+#[inline(always)]
 fn read_worded<W: Reading>(
     alloc: Global,
     w: &mut W,
@@ -213,7 +217,7 @@ fn read_statements<W: Reading>(
         // Room first, so that a block lies before what is inside it.
         make_room(&mut items)?;
         let item = read_statement(alloc, w, word, depth)?;
-        push(&mut items, item)?;
+        append(&mut items, item)?;
     }
     Ok(items)
 }

@@ -53,10 +53,12 @@ impl<'s, M: Maker<'s>> Reading for Relay<'s, M> {
         check_limit(&self.rest, needed, most)
     }
 
+    #[inline(always)]
     fn expect(&mut self, kind: Kind) -> Result<Spot, ParseFault> {
         expect(&mut self.rest, kind)
     }
 
+    #[inline(never)]
     fn plain(&mut self, alloc: Global, word: Keyword) -> Result<M::Made, ParseFault> {
         read_plain(alloc, self, word)
     }

@@ -21,7 +21,7 @@ pub use count::Count;
 pub use expr::read_expr;
 pub use fault::ParseFault;
 pub use lists::{read_lengths, read_numbers, read_parts, read_pitches};
-pub use pushes::{make_room, push};
+pub use pushes::{append, make_room, push};
 pub use reader::Reader;
 pub use token::{check_limit, expect, read_name, read_number, read_register};
 pub use value::{read_amount, read_count, read_duration};
