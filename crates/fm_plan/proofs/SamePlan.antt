@@ -1,5 +1,5 @@
 -- The plan of an outline is that of the score that has it.
-use Rattle.std.proofs.Common.{◌≡◌, Result, Ok, Err, ap, ap₂, ◌∙◌, List, [], ◌∷◌, ◌++◌, Some, ⊥, absurd}
+use Rattle.std.proofs.Common.{◌≡◌, Result, Ok, Err, ap, ap₂, ◌∙◌, List, [], ◌∷◌, ◌++◌, None, Some, ⊥}
 use Rattle.std.specs.Prelude.{IfOk}
 use Rattle.fm_grammar.specs.Score.{Score}
 use Rattle.fm_expansion.specs.Expansion.{expansion}
@@ -26,5 +26,11 @@ same_plan o s is =
 
 -- where there is no fault, none is the first of the first walk
 pub none_found : (fs gs : List NumberedFault) (f : NumberedFault) → fs ++ gs ≡ [] → first_found fs ≡ Some f → ⊥
-none_found [] gs f none found = absurd found
-none_found (x ∷ fs) gs f none found = absurd none
+none_found [] gs f none found = nothing_there found
+  where
+    nothing_there : None ≡ Some f → ⊥
+    nothing_there e = cc
+none_found (x ∷ fs) gs f none found = one_there none
+  where
+    one_there : x ∷ fs ++ gs ≡ [] → ⊥
+    one_there e = cc
