@@ -5,7 +5,7 @@ use Rattle.fm_program.specs.Parts.{ProgramParts, PlanParts}
 use Rattle.fm_effort.specs.declared.load.Load.{Load}
 use Rattle.fm_effort.specs.declared.load.TheConstants.{MOST_OPERATIONS, MANY_EVENTS}
 use Rattle.fm_effort.specs.declared.useful.TheConstants.{LEAST_FOR_AN_EVENT}
-use Rattle.fm_effort.specs.Effort.{counted, all_effort, all_operations, is_too_many, is_estimated, busy, event_work, workers_of}
+use Rattle.fm_effort.specs.Effort.{counted, all_effort, all_operations, is_too_many, IsCheap, is_estimated, busy, event_work, workers_of}
 use Rattle.fm_effort.specs.Kept.{load_for}
 
 -- not for long programs
@@ -76,10 +76,11 @@ some_estimated p room most count load is few made loaded =
 
 -- none where an event takes little to compute
 pub none_where_cheap : (p : PlanParts) (room most result : ℕ) → result ≡ workers_of p room most
-    → is_estimated p.programs ≡ true → event_work (all_effort p.programs) < LEAST_FOR_AN_EVENT → result ≡ 0
+    → IsCheap p.programs → result ≡ 0
 unfolding workers_of
-none_where_cheap p room most result is made cheap = is ∙ none (is_too_many (length p.programs) room) refl
+none_where_cheap p room most result is cheap = is ∙ none (is_too_many (length p.programs) room) refl
   where
     none : (b : Bool) → is_too_many (length p.programs) room ≡ b → workers_of p room most ≡ 0
     none true many = rw many refl
-    none false few = rw (few, made, lt-ltb (event_work (all_effort p.programs)) LEAST_FOR_AN_EVENT cheap) refl
+    none false few =
+        rw (few, cheap.estimated, lt-ltb (event_work (all_effort p.programs)) LEAST_FOR_AN_EVENT cheap.little) refl

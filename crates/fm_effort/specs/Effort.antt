@@ -1,6 +1,6 @@
 -- How many workers are worth their cost for a plan, told from its operations alone. It is a policy with rough figures.
 -- Times are in nanoseconds. Sums are exact, and a sum above the greatest number of 64 bits counts as that at the end.
-use Rattle.std.specs.Prelude.{ℕ, ◌+◌, ◌-◌, ◌*◌, ◌/◌, ◌^◌, min, max, List, [], ◌∷◌, length, Bool, ◌&&◌, nat_le, nat_lt, if◌then◌else◌}
+use Rattle.std.specs.Prelude.{◌≡◌, ℕ, ◌+◌, ◌-◌, ◌*◌, ◌/◌, ◌^◌, ◌<◌, min, max, List, [], ◌∷◌, length, Bool, true, ◌&&◌, nat_le, nat_lt, if◌then◌else◌}
 use Rattle.fm_program.specs.declared.op.Span.{Span}
 use Rattle.fm_program.specs.declared.op.Span.TheVariants as span
 use Rattle.fm_program.specs.declared.op.Count.{Count}
@@ -151,6 +151,11 @@ is_estimated ps = nat_le (all_operations ps) MOST_OPERATIONS && nat_le MANY_EVEN
 -- how long an event takes to compute
 abbrev pub event_work : Effort → ℕ
 event_work e = counted e.work / counted e.events
+
+-- an estimate is made, and an event takes too little to compute for one worker
+pub record IsCheap (ps : List ProgramParts) : Type 0 where
+  pub estimated : is_estimated ps ≡ true
+  pub little : event_work (all_effort ps) < LEAST_FOR_AN_EVENT
 
 -- how many of at most so many workers are kept busy by events that take so long
 abbrev pub busy : (share most : ℕ) → ℕ

@@ -1,7 +1,6 @@
 //! How many workers are worth their cost.
-ghost use Rattle.std.specs.Prelude.{◌≡◌, ◌*◌, ◌/◌, ◌<◌, ◌≤◌, length, max, true};
-ghost use Rattle.fm_effort.specs.Effort.{all_effort, busy, event_work, is_estimated, is_too_many};
-ghost use Rattle.fm_effort.specs.Effort.{workers_of};
+ghost use Rattle.std.specs.Prelude.{◌≡◌, ◌*◌, ◌/◌, ◌<◌, ◌≤◌, length, max};
+ghost use Rattle.fm_effort.specs.Effort.{IsCheap, busy, is_too_many, workers_of};
 
 use crate::load::{Load, load_of};
 use fm_program::Plan;
@@ -24,8 +23,7 @@ pub fn useful_workers(plan: &Plan, room: u32, most: u32) -> u32
     ensures value { result ≡ workers_of plan.now room most }
     ensures most { result ≤ most }
     ensures crowded { MOST_FOR_AN_EVENT * room < length plan.now.programs → result ≡ 0 }
-    ensures cheap { is_estimated plan.now.programs ≡ true
-        → event_work (all_effort plan.now.programs) < LEAST_FOR_AN_EVENT → result ≡ 0 }
+    ensures cheap { IsCheap plan.now.programs → result ≡ 0 }
 {
     if is_crowded(plan.processes(), room) {
         return 0;

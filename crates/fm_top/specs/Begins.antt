@@ -37,8 +37,8 @@ module _ {S : Type 0} (from : SourceChange S) where
 
   -- a text was taken to its end, and this is the plan of what it means
   pub record IsRead (r : Recording) : Type 0 where
-    pub all : TakesAll MAX_TEXT (offered r.number (from.seen.flow from.old)) (remaining r.number (from.seen.flow from.new))
-        r.text.items
+    pub all : TakesAll MAX_TEXT (offered r.number (from.seen.flow from.old))
+        (remaining r.number (from.seen.flow from.new)) r.text.items
     pub planned : IsPlanned r.text.items r.plan
 
   -- it is to be played on record

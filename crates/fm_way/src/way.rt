@@ -1,7 +1,6 @@
 //! In which way a plan is played.
 ghost use Rattle.std.specs.Prelude.{◌≡◌, ◌<◌, ◌≤◌, false, true, length};
-ghost use Rattle.fm_effort.specs.Effort.{all_effort, event_work, is_estimated, workers_of};
-ghost use Rattle.fm_effort.specs.declared.useful.TheConstants.{LEAST_FOR_AN_EVENT};
+ghost use Rattle.fm_effort.specs.Effort.{IsCheap, workers_of};
 ghost use Rattle.fm_words.specs.View.{options_view};
 ghost use Rattle.fm_way.specs.Ways.{crew_of, is_alone, threads_of, way_of};
 ghost use Rattle.fm_way.specs.declared.way.Way.TheVariants.{Rounds};
@@ -35,8 +34,7 @@ pub fn way_of(options: &Options, plan: &Plan) -> Way
         → result ≡ Rounds options.now.workers }
     ensures useful { options.now.rounds ≡ false
         → threads_of result ≤ workers_of plan.now options.now.room options.now.workers }
-    ensures cheap { options.now.rounds ≡ false → is_estimated plan.now.programs ≡ true
-        → event_work (all_effort plan.now.programs) < LEAST_FOR_AN_EVENT
+    ensures cheap { options.now.rounds ≡ false → IsCheap plan.now.programs
         → is_alone result ≡ true }
 {
     let workers = options.workers;

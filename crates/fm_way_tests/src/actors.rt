@@ -99,7 +99,13 @@ fn check_next<R: Abort + Threads + Wait + Sync>(
 #[test]
 fn one_thread_lists_a_file_and_audits_a_record(rt: HostRuntime) -> Result<(), Fail> {
     let alloc = rt.alloc();
-    check_next(&rt, alloc, "a.txt b.mid --workers 0", "b.mid c.txt --list", 0)?;
+    check_next(
+        &rt,
+        alloc,
+        "a.txt b.mid --workers 0",
+        "b.mid c.txt --list",
+        0,
+    )?;
     let words = "a.txt b.rec --record --workers 2";
     check_next(&rt, alloc, words, "b.rec c.mid --audit --workers 4", 7)?;
     Ok(())

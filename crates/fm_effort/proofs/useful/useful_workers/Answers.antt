@@ -20,9 +20,9 @@ returns-in-None-clause-value c =
     (sym c.is_crowded.ensures ∙ c.if-is_crowded.false) c.in-None.ensures.exact
 
 pub returns-in-Some-clause-cheap : goal.returns-in-Some-clause-cheap
-returns-in-Some-clause-cheap c made cheap =
-    none_where_cheap c.args.plan.now c.args.room c.args.most _ (returns-in-Some-clause-value c) made cheap
+returns-in-Some-clause-cheap c cheap =
+    none_where_cheap c.args.plan.now c.args.room c.args.most _ (returns-in-Some-clause-value c) cheap
 
 pub returns-in-None-clause-cheap : goal.returns-in-None-clause-cheap
-returns-in-None-clause-cheap c made cheap =
-    none_where_cheap c.args.plan.now c.args.room c.args.most _ (returns-in-None-clause-value c) made cheap
+returns-in-None-clause-cheap c cheap =
+    none_where_cheap c.args.plan.now c.args.room c.args.most _ (returns-in-None-clause-value c) cheap
