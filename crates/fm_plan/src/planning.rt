@@ -15,7 +15,7 @@ ghost use Rattle.fm_check.specs.Reached.{totals_of};
 ghost use Rattle.fm_plan.specs.Seen.{outline_plan};
 
 use crate::expanding::{Expanded, expand};
-use fm_check::{Bounds, CheckFault};
+use fm_check::Bounds;
 use fm_fidelity::{plans_fit, plans_play_the_score};
 use fm_grammar::Score;
 use fm_outline::{Outline, Tables, outline_of};
@@ -79,10 +79,9 @@ pub fn plan(alloc: Global, score: &Score, bounds: &Bounds) -> Result<Plan, Alloc
     ensures steps { IfOk result (λ p.
         all_steps (plan_played p) ≤ (score_bounds (resolved (score_view score.now))).steps) }
 {
+    // A score that is accepted has no fault.
     match outline_of(alloc, score) {
         Ok(outline) => plan_outline(alloc, outline, bounds),
-        Err(CheckFault::Memory) => Err(AllocError),
-        // A score that is accepted has no fault.
-        Err(CheckFault::Refused { .. }) => unreachable!(),
+        Err(_) => Err(AllocError),
     }
 }
