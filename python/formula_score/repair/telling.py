@@ -138,7 +138,7 @@ def _fact(spot: Spot, only_first: bool) -> str:
 
 def _musical(spot: Spot, at: int) -> str:
     lexeme = spot.line.lexemes[at]
-    if lexeme.kind not in ("NAME", "OTHER") or not re.match(r"[^\W\d_]{2}", lexeme.text):
+    if lexeme.kind not in ("NAME", "OTHER", "breath", "pause") or not re.match(r"[^\W\d_]{2}", lexeme.text):
         return ""
     line = musical(lexeme.text.lower())
     return lines(f"if `{lexeme.text}` means {line.words}, write it as in `{line.write}`",

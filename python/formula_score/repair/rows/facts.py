@@ -6,7 +6,7 @@ from ...language.index import musical
 from ..row import fact
 from .helpers import tempo_outside
 
-COMMAND = "commands of LilyPond are none here: if nothing is meant by it, take it away"
+COMMAND = "commands of LilyPond are none here: write by the words of the language what it does, or leave it out"
 
 FACTS = (
     fact("seed in another place", r"seed\b", "`seed` is once, directly after the head of the score or its division: "
@@ -118,6 +118,12 @@ FACTS = (
     fact("broken rhythm", r"[<>]{1,2}(?= ?note)", "a dotted rhythm is written by its lengths, as in `note c4 3/16; "
         "note d4 1/16;`, and an accent is an entry of `loud [100, 64]`", "end", "note a4 1/8 > note b4 1/8;",
         first=True),
+    fact("swell of LilyPond", r"\\\\?[<>!]", "a crescendo is a `loud` list with an entry for each note, as in `loud [50, 60, "
+        "70] { .. }`", "here", "note c4 1/4\\<;", first=True),
+    fact("staccato of ABC", r"\.(?=[A-Ga-g][sb]?[0-9])", "marks are not in the file: short notes are in a `gate`, as in "
+        "`gate 50 { note c4 1/4; }`", "pitch", "note .c4 1/4;", first=True),
+    fact("voices by a sign", r"&(?= ?(?:note|play|rest)\b)", "voices are branches, as in `par { branch { .. } branch { "
+        "channel 1 { .. } } }`", "end statement", "note c5 1/1 & note e4 1/2;", first=True),
     fact("mark before a note", r"[.~^_!+](?= ?note)", "marks are not in the file: short notes are in a `gate`, as in "
         "`gate 50 { note c4 1/4; }`", "statement", ".note g4 1/8;", first=True),
     fact("long number", r"[0-9]{10,}", "a number has at most nine digits", "here", "seed 20261201093000;", first=True),

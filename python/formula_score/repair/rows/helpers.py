@@ -47,7 +47,7 @@ def instrument(found: "re.Match[str]") -> Optional[str]:
     name = found[1].lower().replace("_", " ").strip("'\" ")
     fitting = [each for each in INSTRUMENTS if name == each] or [each for each in INSTRUMENTS if re.search(
         rf"\b{re.escape(name)}\b", each)]
-    return f"program {INSTRUMENTS.index(fitting[0])};" if fitting and len(name) > 3 else None
+    return f"program {INSTRUMENTS.index(fitting[0])};" if fitting and len(name) > 3 and name != "breath" else None
 
 
 def tempo(found: "re.Match[str]") -> Optional[str]:

@@ -13,11 +13,17 @@ A, M, N = r"[\^_=]{0,2}[A-Ha-h]", r"['’]+|,+(?! ?[a-hA-Hk])", r"(?![A-Za-z0-9'
 
 ROWS = (
     row("pitch spelled otherwise!",
-        r"(?![A-Ga-g][sb#]?-1(?![0-9]))(?:[\^_=]{0,2}[A-Ha-h]"
+        r"(?![A-Ga-g]-[0-9]|[A-Ga-g][sb#]-1(?![0-9]))(?:[\^_=]{0,2}[A-Ha-h]"
         r"(?:[-_]?(?:isis|eses|is|es|sharp|flat|natural|nat|[sb#x♯♭♮nf]{1,2}))?"
         rf"[-_]?(?:[0-9]|{M})?[#♯♭sb]?){N}",
         by_digit, 0.6, "pitch pitches", "a pitch is a letter a to g, `s` or `b` for a sharp or a flat, then the octave",
         "note ‹fis4→fs4› 1/4;"),
+    row("flat by a minus", r"([A-Ga-g])-([02-9])(?![0-9])", lambda f: f"{f[1].lower()}b{f[2]}", 0.7, "pitch pitches",
+        "a flat is a `b`", "note ‹e-4→eb4› 1/4;"),
+    row("dash in a pitch", r"([A-Ga-g])-([02-9])(?![0-9])", lambda f: f"{f[1].lower()}{f[2]}", 0.75, "pitch pitches",
+        "no dash is in a pitch", "note ‹e-4→e4› 1/4;"),
+    row("letter twice!", r"([A-Ga-g])\1([sb]?[0-9])(?![a-z0-9])", lambda f: f"{f[1].lower()}{f[2]}", 0.8, "pitch pitches",
+        "the letter is there once", "note ‹cc4→c4› 1/4;"),
     row("pitch without an octave", rf"{A}(?:isis|eses|is|es|sharp|flat|[sb#♯♭])?{N}", spell(pitch), 0.8,
         "pitch pitches", "a pitch has its octave, and `c4` is middle C", "note ‹c→c4› 1/4;"),
     row("octave by marks", rf"{A}(?:isis|eses|is|es|[sb#♯♭])?(?:{M}){N}", spell(pitch), 0.7, "pitch pitches",

@@ -69,7 +69,7 @@ ROWS = (
         r"\1 \2", 0.7, "", "a blank is after the word", "‹notec4→note c4› 1/4;"),
     row("comment in marks", r"/\*.*?\*/|<!--.*?-->|\{-.*?-\}", "", 1.4, "", "a comment begins with `#`",
         "‹/* a tune */ →›note c4 1/4;"),
-    row("text in quotes", r"[\"“„«'][^\"”“»';{}]*[\"”“»']", "", 1.3, "", "text is not in the file",
+    row("text in quotes", r"[\^_]?[\"“„«'][^\"”“»';{}]*[\"”“»']", "", 1.3, "", "text is not in the file",
         "‹\"A tune\" →›note c4 1/4;"),
     row("bar line", r"\|[|\]]?(?! ?:)", "", 1.0, "", "a bar line is not in the file", "‹| →›note c4 1/4;"),
     row("head of others!", r"(?:[Ff]ormul[ae]?|version|score|language)[ :=]*v?([12])(?:\.[0-9]+)? ?;?", r"formula \1;",
