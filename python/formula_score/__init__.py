@@ -29,4 +29,4 @@ else:
         return globals()[name]
 
     def __dir__():
-        return [*globals(), *__getattr__("__all__")]
+        return {*globals(), *__getattr__("__all__")}

@@ -26,12 +26,14 @@ SCORE = Score(repeat(20, note("c4", "1/16")))
 #: Each verb that writes a file: its words, in which a name with the suffix of OUT is OUT.
 VERBS = {
     "play": "play in.score out.mid", "roll": "roll in.score out.html", "excerpt": "excerpt in.score out.mid",
-    "import": "import in.mid out.score", "listen": "listen in.score --to out.ogg --font in.mid", "print": "print in.score out.svg",
+    "import": "import in.mid out.score", "listen": "listen in.score --to out.ogg --font in.mid",
+    "print": "print in.score out.svg",
     "transpose": "transpose out.score 2", "transpose --to": "transpose in.score 2 --to out.score",
     "format": "format out.score", "format --to": "format in.score --to out.score",
     **{f"export {kind}": f"export in.score out{kind}" for kind in (".mid", ".musicxml", ".abc")}}
 #: Programs that others are called as, which make what they are asked for.
-MAKERS = {"musescore3": "echo '<svg/>' >out.svg", "fluidsynth": 'while [ "$1" != -F ]; do shift; done; echo sound >"$2"'}
+MAKERS = {"musescore3": "echo '<svg/>' >out.svg",
+          "fluidsynth": 'while [ "$1" != -F ]; do shift; done; echo sound >"$2"'}
 #: Each call that writes one.
 CALLS: dict[str, Callable[[Any], object]] = {
     "play": SCORE.play, "save": SCORE.save, "large": lambda path: command.large(0, path),
@@ -78,8 +80,8 @@ class Keeping(unittest.TestCase):
 
     def environment(self, program: object = PROGRAM) -> dict[str, str]:
         (self.top / "tmp").mkdir(exist_ok=True)
-        return {**os.environ, "FORMULA": str(program), "PYTHONPATH": str(TOP / "python"), "TMPDIR": str(self.top / "tmp"),
-                "PATH": f"{self.top / 'bin'}:{os.environ['PATH']}"}
+        return {**os.environ, "FORMULA": str(program), "PYTHONPATH": str(TOP / "python"),
+                "TMPDIR": str(self.top / "tmp"), "PATH": f"{self.top / 'bin'}:{os.environ['PATH']}"}
 
     def put_program(self, text: str, name: str = "program") -> pathlib.Path:
         """A program of this text."""
@@ -130,7 +132,8 @@ class Keeping(unittest.TestCase):
 
     def test_signals(self) -> None:
         program = self.put_program(SLOW)
-        call = [sys.executable, "-B", "-c", f"from formula_score import *; Score(note('c4', '1/4')).play({str(self.out)!r})"]
+        call = [sys.executable, "-B", "-c", "from formula_score import *; "
+                f"Score(note('c4', '1/4')).play({str(self.out)!r})"]
         for number in (signal.SIGINT, signal.SIGTERM, signal.SIGKILL):
             self.interrupt("call", call, number, self.environment(program))
             for verb in VERBS:

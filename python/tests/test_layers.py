@@ -39,7 +39,7 @@ def imported(module: str) -> Iterator[str]:
 
 
 def package(module: str) -> str:
-    """The package of a module, directly below that of its distribution; this one has its own name, and so have its names."""
+    """The package of a module, directly below that of its distribution, which has its own name, and its names too."""
     return ".".join(module.removesuffix(".names").split(".")[:2])
 
 

@@ -68,14 +68,16 @@ class Nothing(unittest.TestCase):
         self.assertLess(executor.asked, 50)
 
     def test_a_place_that_fails_ends_nothing_where_another_played(self) -> None:
-        def answer(asked: int, _: object, digest: str, program: object, options: object, texts: list[bytes], *__: object) -> Any:
+        def answer(asked: int, _: object, digest: str, program: object, options: object, texts: list[bytes],
+                   *__: object) -> Any:
             return ("done", [(0, "", text) for text in texts], 0.1, ("here", 2)) if asked % 7 == 1 else BROKEN
 
         found: dict[int, Any] = dict(play_all(enumerate(TEXTS), b"", PLAIN, Answering(answer)))
         self.assertEqual([found[at].data for at in range(6)], TEXTS)
 
     def test_a_place_that_fails_uses_up_no_tries(self) -> None:
-        def answer(asked: int, _: object, digest: str, program: object, options: object, texts: list[bytes], *__: object) -> Any:
+        def answer(asked: int, _: object, digest: str, program: object, options: object, texts: list[bytes],
+                   *__: object) -> Any:
             is_played = asked == 1 or asked > 1000
             return ("done", [(0, "", text) for text in texts], 0.1, ("here", 2)) if is_played else BROKEN
 
@@ -85,10 +87,12 @@ class Nothing(unittest.TestCase):
     def test_what_a_place_that_fails_gets_again_and_again_goes_to_others_too(self) -> None:
         last: list[bytes] = []
 
-        def answer(asked: int, _: object, digest: str, program: object, options: object, texts: list[bytes], *__: object) -> Any:
+        def answer(asked: int, _: object, digest: str, program: object, options: object, texts: list[bytes],
+                   *__: object) -> Any:
             nonlocal last
             last, before = texts, last
-            return ("done", [(0, "", text) for text in texts], 0.1, ("here", 2)) if asked == 1 or texts == before else BROKEN
+            is_played = asked == 1 or texts == before
+            return ("done", [(0, "", text) for text in texts], 0.1, ("here", 2)) if is_played else BROKEN
 
         executor = Answering(answer)
         found: dict[int, Any] = dict(play_all(enumerate(TEXTS), b"", PLAIN, executor))
@@ -96,9 +100,11 @@ class Nothing(unittest.TestCase):
         self.assertLess(executor.asked, 20)
 
     def test_a_text_that_no_place_can_play_is_given_up(self) -> None:
-        def answer(asked: int, _: object, digest: str, program: object, options: object, texts: list[bytes], *__: object) -> Any:
+        def answer(asked: int, _: object, digest: str, program: object, options: object, texts: list[bytes],
+                   *__: object) -> Any:
             place = "here", asked % 5
-            return ("broken", "no memory", place) if TEXTS[3] in texts else ("done", [(0, "", b"") for _ in texts], 0.1, place)
+            is_played = TEXTS[3] not in texts
+            return ("done", [(0, "", b"") for _ in texts], 0.1, place) if is_played else ("broken", "no memory", place)
 
         found: dict[int, Any] = dict(play_all(enumerate(100 * TEXTS[:3] + TEXTS), b"", PLAIN, Answering(answer)))
         self.assertEqual([at for at in found if isinstance(found[at], Unplayed)], [303])
@@ -140,7 +146,8 @@ class Nothing(unittest.TestCase):
     def test_a_place_gets_the_program_while_another_plays_long(self) -> None:
         has_program = False
 
-        def answer(asked: int, _: object, digest: str, program: object, options: object, texts: list[bytes], *__: object) -> Any:
+        def answer(asked: int, _: object, digest: str, program: object, options: object, texts: list[bytes],
+                   *__: object) -> Any:
             nonlocal has_program
             has_program = has_program or program is not None
             self.assertLess(asked, 100_000)

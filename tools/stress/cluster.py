@@ -188,7 +188,8 @@ class Cluster:
 
 
 @contextlib.contextmanager
-def cluster_of(folder: pathlib.Path, hosts: int = 2, certificates: Sequence[str] = (), is_alone: bool = False) -> Iterator[Cluster]:
+def cluster_of(folder: pathlib.Path, hosts: int = 2, certificates: Sequence[str] = (),
+               is_alone: bool = False) -> Iterator[Cluster]:
     """A cluster with so many hosts, whose workers have joined."""
     cluster = Cluster(folder, certificates, is_alone)
     try:

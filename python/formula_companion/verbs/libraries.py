@@ -19,7 +19,7 @@ def of_verb(verb: str) -> list[Package]:
 
 
 def restart(words: Sequence[str]) -> None:
-    """Goes on where this Python has the libraries of the verb. Else Debian's Python does the whole, where that has them.
+    """Goes on where this Python has the libraries of the verb. Else Debian's Python does the whole, where it has them.
     `words` are those of the companion."""
     needing = [word.partition("=")[0] for word in words if word[:6] == "--dask"] if words[:1] == ["batch"] else []
     libraries = [package.library for package in of_verb(" ".join([*words[:1], *needing[:1]]))]

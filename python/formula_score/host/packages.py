@@ -10,10 +10,10 @@ import os
 import shutil
 import subprocess
 import sys
-from typing import Iterable, NamedTuple
+from typing import Iterable, NamedTuple, Sequence
 
-#: Debian's Python, for which its packages are installed. Another one may come first in PATH.
-DEBIAN = "/usr/bin/python3"
+#: Debian's Python, and where packages have libraries for it. Another Python may come first in PATH.
+DEBIAN, DEBIANS = "/usr/bin/python3", "/usr/lib/python3/dist-packages"
 
 
 class Package(NamedTuple):
@@ -89,8 +89,10 @@ def has(library: str) -> bool:
     return importlib.util.find_spec(library) is not None
 
 
-def debian_has(libraries: Iterable[str]) -> bool:
-    """Whether Debian's Python has all these libraries."""
+def debian_has(libraries: Sequence[str]) -> bool:
+    """Whether Debian's Python has all these libraries, from packages or, as it says itself, from elsewhere."""
+    if os.path.exists(DEBIAN) and all(os.path.isdir(os.path.join(DEBIANS, library)) for library in libraries):
+        return True
     find = "import importlib.util, sys; sys.exit(not all(map(importlib.util.find_spec, sys.argv[1:])))"
     return os.path.exists(DEBIAN) and subprocess.run(
         [DEBIAN, "-I", "-c", find, *libraries], stdin=subprocess.DEVNULL, stderr=subprocess.DEVNULL,
