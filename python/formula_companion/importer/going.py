@@ -5,37 +5,38 @@ from __future__ import annotations
 from functools import lru_cache
 from typing import Callable, Iterator, NamedTuple, Sequence
 
-from formula_score.making.lengths import DIVISION, written
+from formula_score.making.lengths import written
 from formula_score.making.midi import DRUM_CHANNEL
-from formula_score.reading.playing import Failed, Listing, counted
+from formula_score.reading.playing import Listing, counted
 from . import exact
 from .bars import bar_lines
-from .branches import Voiced, branches_of
-from .grid import LADDER, Grid, by_clock, clock_in, distance, fit, shift_of
+from .branches import Voiced, branches_of, words_of
+from .grid import LADDER, WHOLE, Grid, by_clock, clock_in, distance, fit, shift_of
 from .judging import Judged, judged
 from .messages import without_controllers, without_idle
 from .moved import Choices, Moved, MovedPart, Tone, moved, unmoved
 from .parts import piece_of
 from .spelling import Ways, bars_of, usual_percent
-from .tempo import Tempo, TempoMap, lines_of, tempo_of
+from .tempo import Tempo, TempoMap, tempo_of
 from .text import Writer, without_warp
 from .voicing import voices_of
 from .words import plain, said_of
 
-_MOST_BYTES = 1_048_576
-_SHORTER = "--grid 1/16 and --velocities 8 make it shorter"
 #: A grid on which the onsets of a part lie less than half as far away as they would by chance is one that it knows.
 _KNOWN = 0.5
 _ADVISED = ((8,), (16,), (8, 12), (16, 24), (32,))
 _ALL = 0.98
+#: Changes of tempo lie on 96ths, so that all lengths between them have a value.
+_STEP = WHOLE // 96
 _NOTE = "# It plays 120 quarter notes a minute; for the file's own tempo put `warp tempo {` and `}` round the `par`."
 
 
 class Imported(NamedTuple):
-    """A text, how many branches it has, what is told of it, and whether it plays what it has to."""
+    """A text, its branches and notes, what is told of it, and whether it plays what it has to."""
 
     text: str
     branches: int
+    notes: int
     lines: tuple[str, ...]
     is_good: bool
 
@@ -60,7 +61,7 @@ class _Way:
             left["message that changes nothing"] = 0 if choices.with_idle else without_idle(self.piece)
             self.moved = moved(self.piece, choices)
         self.lines = self._lines()
-        self.tempo = tempo_of(self.piece, self.lines) if choices.with_tempo else Tempo()
+        self.tempo = tempo_of(self.piece, self.lines, 1 if choices.is_exact else _STEP) if choices.with_tempo else Tempo()
 
     def _on_grid(self) -> Listing:
         """The file with its beginning where its grid begins, and with the ticks of its clock."""
@@ -109,28 +110,13 @@ class _Way:
         def length(ticks: int) -> str:
             return written(ticks, 4 * self.piece.division)
 
-        branches = branches_of(list(self.voices()), length, self.piece.signatures)
-        writer = Writer(self.piece, self.lines, branches, length, self.choices.with_phrases)
-        text = writer.text([*self._head(source), *lines_of(self.tempo, length)],
-                           Tempo() if self.choices.is_exact else self.tempo)
-        if len(text) > _MOST_BYTES:
-            text = "\n".join(line.partition("  #")[0].strip() for line in text.splitlines()) + "\n"
-        if len(text) > _MOST_BYTES:
-            raise Failed(1, f"the text has {len(text):,} bytes, and a score has at most {_MOST_BYTES:,}: {_SHORTER}")
-        return text, len(branches)
-
-    def _head(self, source: str) -> Iterator[str]:
-        piece = self.piece
-        words = (" --exact" * self.choices.is_exact
-                 + f"; each length is {piece.longer} times as long as there" * (piece.longer > 1))
-        yield f"# Made from {plain(source)} by formula-score import{words}"
-        if piece.title:
-            yield f"# title: {piece.title}"
-        if piece.composer:
-            yield f"# composer: {piece.composer}"
-        if self.choices.is_exact and self.tempo.parts:
-            yield _NOTE
-        yield "formula 2;" + (f" division {piece.division};" if piece.division != DIVISION else "")
+        piece, is_exact = self.piece, self.choices.is_exact
+        voices = list(self.voices())
+        branches = branches_of(voices, words_of(voices, length, piece.signatures))
+        writer = Writer(piece, self.lines, branches, length, self.choices.with_phrases)
+        made = (f"{plain(source)} by formula-score import" + " --exact" * is_exact
+                + f"; each length is {piece.longer} times as long as there" * (piece.longer > 1))
+        return writer.text(made, [_NOTE] * bool(is_exact and self.tempo.parts), self.tempo, not is_exact), len(branches)
 
 
 def imported(file: Listing, source: str, choices: Choices, plays: Callable[[str], Listing],
@@ -156,7 +142,7 @@ def imported(file: Listing, source: str, choices: Choices, plays: Callable[[str]
     told.append(f"{said}: {answer.faults:,} are not {where}; first {answer.first}" if answer.faults else f"{said} are {where}")
     if choices.is_exact:
         told += _order(*exact.out_of_order(way.listing, way.piece, played))
-    return Imported(text, branches, tuple(told), not answer.faults)
+    return Imported(text, branches, len(way.lengths), tuple(told), not answer.faults)
 
 
 def _order(early: int, others: int) -> Iterator[str]:

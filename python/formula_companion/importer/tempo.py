@@ -49,18 +49,23 @@ class Tempo(NamedTuple):
     said: str = ""
 
 
-def tempo_of(piece: Piece, lines: Sequence[int]) -> Tempo:
-    """The tempo: each change of the file, or where they are too many the mean of each bar or of some bars."""
+def tempo_of(piece: Piece, lines: Sequence[int], step: int) -> Tempo:
+    """The tempo: each change of the file, or where they are too many the mean of each bar or of some bars. A step inside
+    which the tempo changes has its mean."""
     whole = TempoMap((change for change in piece.tempos if change[0] < piece.end or not piece.end), piece.division)
+
+    def means(edges: Sequence[int]) -> list[tuple[int, int]]:
+        return [(begin, round((whole.time(end) - whole.time(begin)) / (end - begin)))
+                for begin, end in zip(edges, edges[1:]) if end > begin]
+
     if len(whole.changes) <= _MOST_READ:
-        return Tempo(_parts(whole.changes, piece))
+        edges = sorted({tick + by for tick in whole.ticks for by in (-(tick % step), -tick % step)})
+        return Tempo(_parts([*means(edges), (edges[-1], whole.changes[-1][1])], piece))
     said = f"{len(whole.changes) - 1:,} changes of tempo are"
     for bars in (1, 2, 4, 8, 16, 64, 256, 1024):
-        edges = [*lines[:-1:bars], lines[-1]] if len(lines) > 1 else [0, piece.end]
-        means = [(begin, round((whole.time(end) - whole.time(begin)) / (end - begin)))
-                 for begin, end in zip(edges, edges[1:]) if end > begin]
-        if len(means) <= _MOST_PARTS:
-            return Tempo(_parts(means, piece), f"{said} the mean of each {'bar' if bars == 1 else f'{bars} bars'}")
+        found = means([*lines[:-1:bars], lines[-1]] if len(lines) > 1 else [0, piece.end])
+        if len(found) <= _MOST_PARTS:
+            return Tempo(_parts(found, piece), f"{said} the mean of each {'bar' if bars == 1 else f'{bars} bars'}")
     return Tempo((), f"{said} left out")
 
 

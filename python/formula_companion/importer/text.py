@@ -5,6 +5,8 @@ from __future__ import annotations
 from collections import Counter
 from typing import Callable, Iterator, Optional, Sequence
 
+from formula_score.making.lengths import DIVISION
+from formula_score.reading.playing import Failed
 from .bars import MAX_LENGTH, Bar, Silence, Sound, Token
 from .branches import UNSAID, Branch, rest_of, without_velocity
 from .layout import Braces, Mark, Node, Page, Plain, repeated
@@ -12,8 +14,11 @@ from .levels import MOST_ENTRIES
 from .parts import Piece
 from .repeats import Numbers
 from .statements import Atom, Call, nodes_of, rounded
-from .tempo import Tempo
+from .tempo import Tempo, lines_of
 from .words import PERCENT, VELOCITY, Names
+
+_MOST_BYTES = 1_048_576
+_SHORTER = "--grid 1/16 and --velocities 8 make it shorter"
 
 #: What stands before the branches, and where the tempo is played before that.
 _PAR, _WARP = "par {", "warp tempo {"
@@ -92,8 +97,9 @@ class Writer:
 
     # ---- the whole
 
-    def text(self, head: Sequence[str], tempo: Optional[Tempo]) -> str:
-        """The whole text, with a `warp` of the tempo round it where there is one."""
+    def text(self, made: str, notes: Sequence[str], tempo: Tempo, with_warp: bool = True) -> str:
+        """The whole text, with a `warp` of the tempo round it where there is one; without comments behind lines where it
+        would be too long for a score."""
         numbers = [self.numbers(branch) for branch in self.branches]
         if self.with_phrases:
             self._find_notes(numbers)
@@ -105,11 +111,25 @@ class Writer:
             body += self._branch(row, branch)
         if not body:
             body = self._silence(self.piece.end)
-        elif tempo and tempo.parts:
-            body = [f"{_WARP} {_PAR}", *body, "} }"]
         else:
-            body = [_PAR, *body, "}"]
-        return "\n".join([*head, *self.definitions, *body]) + "\n"
+            is_warped = tempo.parts and with_warp
+            body = [f"{_WARP} {_PAR}" if is_warped else _PAR, *body, "} }" if is_warped else "}"]
+        lines = [*self._head(made, notes), *lines_of(tempo, self.length), *self.definitions, *body]
+        text = "\n".join(lines) + "\n"
+        if len(text) > _MOST_BYTES:
+            text = "\n".join(line.partition("  #")[0].strip() for line in lines) + "\n"
+        if len(text) > _MOST_BYTES:
+            raise Failed(1, f"the text has {len(text):,} bytes, and a score has at most {_MOST_BYTES:,}: {_SHORTER}")
+        return text
+
+    def _head(self, made: str, notes: Sequence[str]) -> Iterator[str]:
+        division = self.piece.division
+        yield f"# Made from {made}"
+        for what, said in (("title", self.piece.title), ("composer", self.piece.composer)):
+            if said:
+                yield f"# {what}: {said}"
+        yield from notes
+        yield "formula 2;" + (f" division {division};" if division != DIVISION else "")
 
     def _silence(self, ticks: int) -> list[str]:
         """Rests of so many ticks, those of the greatest length in loops."""

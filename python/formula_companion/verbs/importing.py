@@ -70,56 +70,42 @@ What a score has no word for is left out and counted: texts, pressure, system ex
 def run(options: argparse.Namespace) -> int:
     """Writes the score, and tells what moved and how it compares."""
     must_differ(options.file, options.score)
-    suffix = os.path.splitext(options.file)[1].lower()
-    if suffix in _XML and not options.by:
-        return _by_xml(options.file, options.score, options.json)
     choices = Choices(options.exact, options.grid, options.velocities, options.ends, not options.no_tempo, not options.no_phrases,
                       options.all_messages, not options.keep_clock, options.without)
     with _progress(options.file) as tell:
         tell("reading it")
-        if options.by:
-            listing, choices = by_musescore(options.file), choices._replace(without=choices.without | OF_HAIRPINS)
-        else:
-            listing = by_abc2midi(options.file) if suffix == ".abc" else _listing(options.file)
-        found = _imported(listing, os.path.basename(options.file), choices, tell)
+        try:
+            found = _imported(options, choices, tell)
+        except Failed as failed:
+            if not failed.said.endswith(_TOO_DEEP):
+                raise
+            found = _imported(options, choices._replace(with_phrases=False), tell)
     save(options.score, found.text.encode())
-    phrases = sum(line.startswith("phrase ") for line in found.text.splitlines())
+    phrases, size = sum(line.startswith("phrase ") for line in found.text.splitlines()), len(found.text.encode())
     if options.json:
-        put({"notes": sum(map(is_on, listing.events)), "lines": found.lines, "out": options.score,
-             "branches": found.branches,
-             "phrases": phrases, "bytes": len(found.text.encode()), "is_good": found.is_good})
-        return 0 if found.is_good else 1
-    _tell(options.file, listing)
-    for line in found.lines:
-        print(line)
-    print(f"{options.score}: {counted(found.branches, 'branch')}, {counted(phrases, 'phrase')}, {len(found.text):,} bytes")
+        put({"notes": found.notes, "lines": found.lines, "out": options.score, "branches": found.branches,
+             "phrases": phrases, "bytes": size, "is_good": found.is_good})
+    else:
+        print("\n".join(found.lines))
+        print(f"{options.score}: {counted(found.branches, 'branch')}, {counted(phrases, 'phrase')}, {size:,} bytes")
     return 0 if found.is_good else 1
 
 
-def _by_xml(path: str, target: str, as_json: bool) -> int:
-    """Writes the score of a MusicXML file, and tells what it has and how it compares."""
-    try:
-        found = xml_going.read(text_of(path), os.path.basename(path))
-    except Failed as failed:
-        raise failed if failed.status == 2 else Failed(1, f"{path!r}: {failed.why}", failed.said)
-    save(target, found.text.encode())
-    if as_json:
-        put({"lines": found.lines, "out": target, "branches": found.branches, "bytes": len(found.text.encode()),
-             "is_good": found.is_good})
-        return 0 if found.is_good else 1
-    for line in found.lines:
-        print(line)
-    print(f"{target}: {counted(found.branches, 'branch')}, {len(found.text):,} bytes")
-    return 0 if found.is_good else 1
-
-
-def _imported(listing: Listing, source: str, choices: Choices, tell: Callable[[str], None]) -> Imported:
-    try:
-        return imported(listing, source, choices, _played, tell)
-    except Failed as failed:
-        if not failed.said.endswith(_TOO_DEEP):
-            raise
-        return imported(listing, source, choices._replace(with_phrases=False), _played, tell)
+def _imported(options: argparse.Namespace, choices: Choices, tell: Callable[[str], None]) -> Imported:
+    """What becomes of a file, by the way that it goes."""
+    path, name = options.file, os.path.basename(options.file)
+    suffix = os.path.splitext(path)[1].lower()
+    if suffix in _XML and not options.by:
+        try:
+            return xml_going.imported(text_of(path), name, choices)
+        except Failed as failed:
+            raise failed if failed.status == 2 or failed.said else Failed(1, f"{path!r}: {failed.why}")
+    if options.by:
+        listing, choices = by_musescore(path), choices._replace(without=choices.without | OF_HAIRPINS)
+    else:
+        listing = by_abc2midi(path) if suffix == ".abc" else _listing(path)
+    found = imported(listing, name, choices, _played, tell)
+    return found._replace(lines=(f"{path}: {_told(listing)}", *found.lines))
 
 
 def _listing(path: str) -> Listing:
@@ -146,11 +132,12 @@ def _played(text: str) -> Listing:
         return listing_of_file(target)
 
 
-def _tell(path: str, listing: Listing) -> None:
+def _told(listing: Listing) -> str:
+    """What a file has."""
     notes = sum(map(is_on, listing.events))
     messages = sum(event.message[0] >> 4 in (0xB, 0xC, 0xE) for event in listing.events)
-    print(f"{path}: format {listing.format}, {counted(listing.tracks, 'track')}, {listing.division} ticks a quarter note; "
-          f"{counted(notes, 'note')}, {messages:,} control changes, programs and bends")
+    return (f"format {listing.format}, {counted(listing.tracks, 'track')}, {listing.division} ticks a quarter note; "
+            f"{counted(notes, 'note')}, {messages:,} control changes, programs and bends")
 
 
 @contextlib.contextmanager

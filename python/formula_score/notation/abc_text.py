@@ -36,7 +36,7 @@ def _length(length: int) -> str:
 
 def letter(step: str, octave: int) -> str:
     """A step as ABC writes it: `c` is the one above middle C."""
-    return step.lower() + "'" * (octave - 5) if octave >= 5 else step + "," * (4 - octave)
+    return step + "'" * (octave - 5) if octave >= 5 else step.upper() + "," * (4 - octave)
 
 
 def drum(place: str, key: int) -> str:
@@ -127,13 +127,13 @@ class _Voice:
         if self.drums:
             return drum(self.drums[tone.key], tone.key)
         pitch = spelled(tone, self.fifths)
-        by_key = signature(self.fifths)[pitch.step]
-        here = pitch.step, pitch.octave
+        by_key = signature(self.fifths)[pitch.letter]
+        here = pitch.letter, pitch.octave
         sign = ""
-        if pitch.octave < 0 or {self.altered.get(here, by_key), self.last.get(pitch.step, by_key)} != {pitch.alter}:
+        if pitch.octave < 0 or {self.altered.get(here, by_key), self.last.get(pitch.letter, by_key)} != {pitch.alter}:
             sign = _SIGNS[pitch.alter]
-            self.altered[here] = self.last[pitch.step] = pitch.alter
-        return sign + letter(pitch.step, pitch.octave)
+            self.altered[here] = self.last[pitch.letter] = pitch.alter
+        return sign + letter(pitch.letter, pitch.octave)
 
 
 def _beat(place: int, bar: Bar) -> int:

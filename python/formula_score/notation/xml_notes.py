@@ -24,12 +24,12 @@ _MIDDLE = {"treble": 34, "bass": 22}
 def _pitch(tone: Tone, fifths: int) -> str:
     pitch = spelled(tone, fifths)
     alter = f"<alter>{pitch.alter}</alter>" if pitch.alter else ""
-    return f"<pitch><step>{pitch.step}</step>{alter}<octave>{pitch.octave}</octave></pitch>"
+    return f"<pitch><step>{pitch.letter.upper()}</step>{alter}<octave>{pitch.octave}</octave></pitch>"
 
 
 @lru_cache(maxsize=None)
 def _drum(place: str) -> str:
-    return (f"<unpitched><display-step>{place[0]}</display-step><display-octave>{place[1:]}</display-octave>"
+    return (f"<unpitched><display-step>{place[0].upper()}</display-step><display-octave>{place[1:]}</display-octave>"
             "</unpitched>")
 
 
@@ -58,8 +58,8 @@ class Notes:
         for begin, number, note in sorted(firsts, key=lambda row: row[:2]) if len(voices) > 1 else firsts:
             for tone in note.tones:
                 pitch = spelled(tone, self.fifths)
-                here = pitch.step, pitch.octave
-                if altered.get(here, by_key[pitch.step]) != pitch.alter:
+                here = pitch.letter, pitch.octave
+                if altered.get(here, by_key[pitch.letter]) != pitch.alter:
                     altered[here] = pitch.alter
                     self.accidentals[number, begin, tone] = f"<accidental>{_SIGNS[pitch.alter]}</accidental>"
 
@@ -93,9 +93,9 @@ class Notes:
         if not others or self.is_drums:
             return "<rest/>"
         pitches = (spelled(tone, self.fifths) for tone in others)
-        heights = [7 * pitch.octave + STEPS.index(pitch.step) for pitch in pitches]
+        heights = [7 * pitch.octave + STEPS.index(pitch.letter) for pitch in pitches]
         place = max(self.middle, *heights) + _APART if voice == 1 else min(self.middle, *heights) - _APART
-        return (f"<rest><display-step>{STEPS[place % 7]}</display-step><display-octave>{place // 7}</display-octave>"
+        return (f"<rest><display-step>{STEPS[place % 7].upper()}</display-step><display-octave>{place // 7}</display-octave>"
                 "</rest>")
 
     def _tone(self, tone: Tone) -> tuple[str, str, str]:
@@ -103,7 +103,7 @@ class Notes:
         if not self.is_drums:
             return _pitch(tone, self.fifths), "", ""
         head = "<notehead>x</notehead>" if tone.key in CROSSES else ""
-        return _drum(DRUMS.get(tone.key, "B4")), f'<instrument id="P{self.number}-I{tone.key}"/>', head
+        return _drum(DRUMS.get(tone.key, "b4")), f'<instrument id="P{self.number}-I{tone.key}"/>', head
 
     def _brackets(self, value: Value) -> Iterator[str]:
         if value.tuplet and value.begin == value.tuplet.begin:
