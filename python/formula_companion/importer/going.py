@@ -7,7 +7,9 @@ from typing import Callable, Iterator, NamedTuple, Sequence
 
 from formula_score.making.lengths import written
 from formula_score.making.midi import DRUM_CHANNEL
+from formula_score.reading.notes import is_on
 from formula_score.reading.playing import Listing, counted
+from formula_score.reading.tempos import tempos_of
 from . import exact
 from .bars import bar_lines
 from .branches import Voiced, branches_of, words_of
@@ -17,7 +19,7 @@ from .messages import without_controllers, without_idle
 from .moved import Choices, Moved, MovedPart, Tone, moved, unmoved
 from .parts import piece_of
 from .spelling import Ways, bars_of, usual_percent
-from .tempo import Tempo, TempoMap, tempo_of
+from .tempo import Tempo, tempo_of
 from .text import Writer, without_warp
 from .voicing import voices_of
 from .words import plain, said_of
@@ -65,7 +67,7 @@ class _Way:
 
     def _on_grid(self) -> Listing:
         """The file with its beginning where its grid begins, and with the ticks of its clock."""
-        onsets = [event.tick for event in self.file.events if event.message[0] >> 4 == 9 and event.message[2]]
+        onsets = [event.tick for event in self.file.events if is_on(event)]
         shift = shift_of(onsets, self.file.division)
         if shift:
             self.file = self.file._replace(events=[event._replace(tick=max(0, event.tick - shift))
@@ -154,10 +156,7 @@ def _order(early: int, others: int) -> Iterator[str]:
 
 def _seconds(listing: Listing) -> float:
     """The seconds to the last note, by the tempos of a file."""
-    tempos = ((event.tick, int.from_bytes(event.message[3:6], "big")) for event in listing.events
-              if event.message[:3] == b"\xff\x51\x03")
-    last = max((event.tick for event in listing.events if event.message[0] >> 4 == 9 and event.message[2]), default=0)
-    return TempoMap(tempos, listing.division).seconds(last)
+    return tempos_of(listing).seconds(max((event.tick for event in listing.events if is_on(event)), default=0))
 
 
 def _said(parts: Sequence[int]) -> str:
