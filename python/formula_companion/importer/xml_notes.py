@@ -134,7 +134,8 @@ class _Part:
         else:
             at = len(own)
             is_short = item.find("notations/articulations/staccato") is not None
-            own.append(Sound(begin, end, (tone,), self._loud(item), _SHORT if is_short else _JOINED if is_joined else _USUAL))
+            percent = _SHORT if is_short else _JOINED if is_joined else _USUAL
+            own.append(Sound(begin, end, (tone,), self._loud(item), percent))
         if "start" in ends:
             self.tied[voice, tone, end] = at
 
@@ -206,7 +207,8 @@ def song_of(root: Element) -> Song:
 
 
 def _staff(at: int, head: Element, is_drums: bool, voices: list[list[Sound]], free: Sequence[int]) -> Staff:
-    name = " ".join((head.findtext("part-name") or "").split())
-    channel, program = (int(number_of(head, f"midi-instrument/midi-{word}", Fraction(0))) - 1 for word in ("channel", "program"))
-    return Staff(name or f"part {at + 1}", DRUM_CHANNEL if is_drums else channel if 0 <= channel < 16 else free[at % len(free)],
-                 None if is_drums or program < 0 else min(127, program), voices)
+    name = " ".join((head.findtext("part-name") or "").split()) or f"part {at + 1}"
+    channel, program = (int(number_of(head, f"midi-instrument/midi-{word}", Fraction(0))) - 1
+                        for word in ("channel", "program"))
+    channel = DRUM_CHANNEL if is_drums else channel if 0 <= channel < 16 else free[at % len(free)]
+    return Staff(name, channel, None if is_drums or program < 0 else min(127, program), voices)

@@ -65,7 +65,8 @@ class Text:
                     line.add(bars.Said(0xC0 | staff.channel, bytes([staff.program])))
                 for sound in voice:
                     line.rest_until(self.ticks(sound.begin))
-                    keys, length = tuple(numbers[tone.name] for tone in sound.tones), self.ticks(sound.end - sound.begin)
+                    keys = tuple(numbers[tone.name] for tone in sound.tones)
+                    length = self.ticks(sound.end - sound.begin)
                     line.add(bars.Sound(keys, length, sound.percent, sound.percent, sound.velocity), length)
                 line.rest_until(self.lines[-1])
                 yield Voiced(part, False, line.bars())

@@ -51,8 +51,8 @@ def outside(signature: int, degrees: Mapping[int, int]) -> int:
 
 
 def signature_of(names: Iterable[str], keys: Iterable[int] = ()) -> int:
-    """The signature of pitches with names and of others: that in which most of them lie, of several the one in which they
-    lie as they are written, and then the one with fewest accidentals."""
+    """The signature of pitches with names and of others: that in which most of them lie, of several the one in which
+    they lie as they are written, and then the one with fewest accidentals."""
     places = Counter(map(place_of, names))
     degrees = Counter(key % 12 for key in keys)
     for place, count in places.items():

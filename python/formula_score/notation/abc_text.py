@@ -162,7 +162,8 @@ def abc_of(piece: Piece) -> str:
 def _head(piece: Piece, fifths: int, numbers: Sequence[range]) -> Iterator[str]:
     first = next((bar for bar in piece.bars if bar.number == 1), piece.bars[0])
     tempo = next(mark.tempo for mark in piece.marks.tempos if mark.place == 0 and mark.tempo)
-    yield from ("%abc-2.1", f"% {MADE_BY.decode()}", "%%continueall 1", "%%indent 50", "X:1", f"T:{_plain(piece.titles.title)}")
+    yield from ("%abc-2.1", f"% {MADE_BY.decode()}", "%%continueall 1", "%%indent 50", "X:1")
+    yield f"T:{_plain(piece.titles.title)}"
     if piece.titles.composer:
         yield f"C:{_plain(piece.titles.composer)}"
     yield from ("%%propagate-accidentals octave", f"M:{first.beats}/{first.unit}", "L:1/8",

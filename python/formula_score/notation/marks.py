@@ -6,6 +6,7 @@ from bisect import bisect_left, bisect_right
 from fractions import Fraction
 from typing import Iterator, NamedTuple, Optional, Sequence
 
+from ..exporter.axis import Axis
 from ..making.expected import outside
 from ..making.shapes import Part
 from ..reading.walk import Happening, Level, Played, parts_of
@@ -54,19 +55,13 @@ def _has(places: Sequence[int], place: int) -> bool:
     return at < len(places) and places[at] == place
 
 
-def _outermost(walk: Played) -> list[tuple[Level, list[Happening]]]:
+def _outermost(walk: Played) -> dict[Level, list[Happening]]:
     """The outermost warps one after another, with what is in them; of those side by side the one with most notes."""
-    inside: dict[Level, list[Happening]] = {}
+    inside: dict[Level, list[Happening]] = {level: [] for level in Axis(walk).sections}
     for happening in walk.happenings:
-        if happening.levels:
-            inside.setdefault(happening.levels[0], []).append(happening)
-    notes = {level: sum(len(happening.values) for happening in own) for level, own in inside.items()}
-    ends = {level: max(happening.end for happening in own) for level, own in inside.items()}
-    taken: list[Level] = []
-    for level in sorted(inside, key=lambda level: (-notes[level], level.written)):
-        if all(ends[level] <= other.written or ends[other] <= level.written for other in taken):
-            taken.append(level)
-    return [(level, inside[level]) for level in sorted(taken, key=lambda level: level.written)]
+        if happening.levels and happening.levels[0] in inside:
+            inside[happening.levels[0]].append(happening)
+    return inside
 
 
 def _rows(level: Level, happenings: Sequence[Happening]) -> list[tuple[int, int]]:
@@ -152,7 +147,7 @@ def marks_of(walk: Played, sheet: Sheet) -> Marks:
     found: list[Mark] = []
     pauses: list[int] = []
     breaths: list[int] = []
-    for level, happenings in _outermost(walk):
+    for level, happenings in _outermost(walk).items():
         own, parts = _OfLevel(_rows(level, happenings), walk.reading.whole), level.shape.parts
         found += own.marks(parts)
         pauses += own.holds(parts, "pause")

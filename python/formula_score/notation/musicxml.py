@@ -31,11 +31,6 @@ _BAR = "heavy-light", "light-heavy"
 _Bars = list[list[list[Value]]]
 
 
-def _decimal(number: float) -> str:
-    """A number with at most four digits behind the point."""
-    return f"{number:.4f}".rstrip("0").rstrip(".")
-
-
 def musicxml_of(piece: Piece) -> str:
     """The whole file."""
     piece = folded(piece)
@@ -87,12 +82,11 @@ class _Staff:
         slurs = [slurs_of(voice, piece.bars) for voice in part.voices]
         self.notes = Notes(piece, number, part, fifths, unit, dynamics.accents, slurs)
         #: what is above and below the staff, the first one last: where, what is printed, and what is heard
-        waiting = [(loudness.place, _loudness(loudness), "") for loudness in dynamics.words]
-        if number == 1:
-            waiting = [*(row for mark in piece.marks.tempos for row in _tempo(mark)), *waiting, *(
-                (bar.begin, _times(bar.backward), "") for bar in piece.bars if bar.backward > 2 and not bar.closes)]
-        self.waiting = sorted(waiting, key=lambda row: row[0])
-        self.waiting.reverse()
+        waiting = [row for mark in piece.marks.tempos for row in _tempo(mark)] if number == 1 else []
+        waiting += [(loudness.place, _loudness(loudness), "") for loudness in dynamics.words]
+        waiting += [(bar.begin, _direction("above", f"<words>{bar.backward}x</words>"), "") for bar in piece.bars
+                    if number == 1 and bar.backward > 2 and not bar.closes]
+        self.waiting = sorted(waiting, key=lambda row: row[0])[::-1]
 
     def lines(self, bars: _Bars) -> Iterator[str]:
         """The part."""
@@ -170,10 +164,6 @@ def _direction(where: str, inside: str) -> str:
     return f'<direction placement="{where}"><direction-type>{inside}</direction-type></direction>'
 
 
-def _times(times: int) -> str:
-    return _direction("above", f"<words>{times}x</words>")
-
-
 def _tempo(mark: Mark) -> Iterator[tuple[int, str, str]]:
     """Where something is printed of a tempo, what, and what is heard; a word has dashes to the end of its slope."""
     if mark.word:
@@ -182,13 +172,9 @@ def _tempo(mark: Mark) -> Iterator[tuple[int, str, str]]:
         yield mark.until - 1, _direction("above", '<dashes type="stop" number="1"/>'), ""
         return
     assert mark.tempo is not None
-    sound = f'<sound tempo="{_decimal(float(mark.tempo))}"/>'
-    if mark.is_printed:
-        tempo = _decimal(round(mark.tempo * 10) / 10)
-        said = f"<beat-unit>quarter</beat-unit><per-minute>{tempo}</per-minute>"
-        yield mark.place, _direction("above", f"<metronome>{said}</metronome>"), sound
-    else:
-        yield mark.place, _direction("above", "<words>&#160;</words>"), sound
+    said = f"<beat-unit>quarter</beat-unit><per-minute>{round(mark.tempo * 10) / 10:g}</per-minute>"
+    shown = f"<metronome>{said}</metronome>" if mark.is_printed else "<words>&#160;</words>"
+    yield mark.place, _direction("above", shown), f'<sound tempo="{float(mark.tempo):.7g}"/>'
 
 
 def _loudness(loudness: Loudness) -> str:

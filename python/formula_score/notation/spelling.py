@@ -22,7 +22,8 @@ _USUAL = (36, 38, 42, 49, 51)
 @lru_cache(maxsize=None)
 def signature(fifths: int) -> dict[str, int]:
     """What a signature makes of each letter; flats are below 0."""
-    return {found.letter: found.alter for found in (spelling.spelled(0, place) for place in range(fifths - 1, fifths + 6))}
+    names = (spelling.spelled(0, place) for place in range(fifths - 1, fifths + 6))
+    return {name.letter: name.alter for name in names}
 
 
 @lru_cache(maxsize=None)
@@ -35,7 +36,8 @@ def spelled(tone: Tone, fifths: int) -> spelling.Spelled:
 def fifths_of(sheet: Sheet) -> int:
     """The signature under which fewest signs are printed; of equal ones that with fewest of its own."""
     tones = [tone for part in sheet.parts if not part.is_drums for tone in part.tones().elements()]
-    return spelling.signature_of((tone.name for tone in tones if tone.name), (tone.key for tone in tones if not tone.name))
+    unnamed = [tone.key for tone in tones if not tone.name]
+    return spelling.signature_of([tone.name for tone in tones if tone.name], unnamed)
 
 
 def clef_of(part: Part) -> str:

@@ -16,7 +16,8 @@ class TempoMap:
     def __init__(self, changes: Iterable[tuple[int, int]], division: int):
         self.division = division
         found = {0: _USUAL, **dict(sorted(changes, key=lambda change: change[0]))}
-        self.changes = [(tick, tempo) for (tick, tempo), before in zip(found.items(), [-1, *found.values()]) if tempo != before]
+        befores = [-1, *found.values()]
+        self.changes = [(tick, tempo) for (tick, tempo), before in zip(found.items(), befores) if tempo != before]
         self.ticks = [tick for tick, _ in self.changes]
         self.times = [0]
         for (tick, tempo), behind in zip(self.changes, self.ticks[1:]):
