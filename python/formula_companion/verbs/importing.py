@@ -7,7 +7,6 @@ import contextlib
 import os
 import re
 import sys
-import tempfile
 import threading
 from typing import Callable, Iterator
 
@@ -18,8 +17,7 @@ from ..importer.others import OF_HAIRPINS, by_abc2midi, by_musescore
 from formula_score.making.values import draw_line
 from formula_score.reading.midi_file import save
 from formula_score.reading.notes import is_on
-from formula_score.reading.playing import Failed, Listing, counted, listing_of_file, must_differ, needs, run as play, \
-    text_of
+from formula_score.reading.playing import Failed, Listing, counted, listing_of, listing_of_file, must_differ, text_of
 from .options import json_argument, put
 
 #: A file with more bytes or events makes no score, which has at most a mebibyte.
@@ -104,16 +102,13 @@ def _imported(options: argparse.Namespace, choices: Choices, tell: Callable[[str
         listing, choices = by_musescore(path), choices._replace(without=choices.without | OF_HAIRPINS)
     else:
         listing = by_abc2midi(path) if suffix == ".abc" else _listing(path)
-    found = imported(listing, name, choices, _played, tell)
+    found = imported(listing, name, choices, lambda text: listing_of(text.encode(), refused=1), tell)
     return found._replace(lines=(f"{path}: {_told(listing)}", *found.lines))
 
 
 def _listing(path: str) -> Listing:
     """What is in a file, where it is not too long for a score."""
-    try:
-        size = os.path.getsize(path)
-    except OSError as error:
-        raise Failed(2, f"{path!r} cannot be read: {error.strerror}") from error
+    size = len(text_of(path))
     if size > _MOST_BYTES:
         raise Failed(1, f"{path!r} has {size:,} bytes, and a file of more than {_MOST_BYTES:,} makes no score")
     listing = listing_of_file(path, refused=1)
@@ -122,14 +117,6 @@ def _listing(path: str) -> Listing:
     if len(listing.events) > _MOST_EVENTS:
         raise Failed(1, f"{path!r} has {len(listing.events):,} events, and one of more than {_MOST_EVENTS:,} makes no score")
     return listing
-
-
-def _played(text: str) -> Listing:
-    with tempfile.TemporaryDirectory() as folder:
-        source, target = os.path.join(folder, "in.score"), os.path.join(folder, "out.mid")
-        save(source, text.encode())
-        needs(play(source, target, "--workers", "0"), refused=1)
-        return listing_of_file(target)
 
 
 def _told(listing: Listing) -> str:
