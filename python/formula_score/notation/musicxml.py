@@ -4,7 +4,7 @@ from __future__ import annotations
 
 from functools import reduce
 from math import gcd
-from typing import Iterator, Optional
+from typing import Iterator, Optional, Union
 from xml.sax.saxutils import escape
 
 from ..reading.midi_file import MADE_BY
@@ -121,24 +121,35 @@ class _Staff:
         """The voices one after another; from the second on one that is silent is not printed."""
         length = (bar.end - bar.begin) // self.unit
         self.notes.begin_bar(voices)
+        self.late: list[tuple[int, str]] = []
         for number, values in enumerate(voices, 1):
             if number > 1 and values:
                 yield f"<backup><duration>{length}</duration></backup>"
             if number == 1 and not values:
-                yield from self._pending(bar.begin, bar.end)
+                yield from self._pending(bar, bar)
                 yield f'<note><rest measure="yes"/><duration>{length}</duration><voice>1</voice></note>'
             for value in values:
                 if number == 1:
-                    yield from self._pending(value.begin, value.end)
+                    yield from self._pending(bar, value)
                 yield from self.notes.value(number, value)
+        at = length
+        for late, direction in [*self.late, (length, "")] if self.late else []:
+            if late != at:
+                way = "backup" if late < at else "forward"
+                yield f"<{way}><duration>{abs(late - at)}</duration></{way}>"
+            yield from filter(None, [direction])
+            at = late
 
-    def _pending(self, begin: int, end: int) -> Iterator[str]:
-        """What stands before the end of a sign, each behind its beginning by an offset."""
-        while self.waiting and self.waiting[-1][0] < end:
+    def _pending(self, bar: Bar, value: Union[Bar, Value]) -> Iterator[str]:
+        """What stands before the end of a sign; what stands inside it comes behind all voices, since MuseScore hears an
+        offset at the beginning of the sign."""
+        while self.waiting and self.waiting[-1][0] < value.end:
             place, printed, sound = self.waiting.pop()
-            late = round((place - begin) / self.unit)
-            offset = f'<offset sound="yes">{late}</offset>' if late > 0 else ""
-            yield printed.replace("</direction>", f"{offset}{sound}</direction>")
+            direction = printed.replace("</direction>", f"{sound}</direction>")
+            if place > value.begin:
+                self.late.append((round((place - bar.begin) / self.unit), direction))
+            else:
+                yield direction
 
 
 def _left(bar: Bar) -> str:
