@@ -14,7 +14,7 @@ from .repeats import folded
 from .rhythm import Value, values_of
 from .sheet import Note, Part, Tone, Voice
 from .spelling import CROSSES, clef_of, drum_places, fifths_of, signature, spelled
-from .touch import breaks_of, is_short, slurs_of
+from .touch import is_short, slurs_of
 
 _UNIT = WHOLE // 8
 _KEYS = "Gb Db Ab Eb Bb F C G D A E B F#".split()
@@ -58,7 +58,7 @@ class _Voice:
 
     def __init__(self, piece: Piece, part: Part, number: int, fifths: int, has_tempos: bool):
         self.piece, self.part, self.number, self.fifths = piece, part, number, fifths
-        dynamics = dynamics_of(part, breaks_of(piece.bars))
+        dynamics = dynamics_of(part, piece.bars)
         self.accents = dynamics.accents if number == 1 else frozenset()
         self.drums = drum_places(tone.key for tone in part.tones()) if part.is_drums else {}
         self.words = list(reversed(dynamics.words if number == 1 else ()))

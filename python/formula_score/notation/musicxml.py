@@ -17,7 +17,7 @@ from .repeats import folded
 from .rhythm import Value, values_of
 from .sheet import Part
 from .spelling import clef_of, fifths_of
-from .touch import breaks_of, slurs_of
+from .touch import slurs_of
 from .xml_notes import Notes
 
 _CLEFS = {"treble": ("G", 2), "bass": ("F", 4), "percussion": ("percussion", 2)}
@@ -78,7 +78,7 @@ class _Staff:
 
     def __init__(self, piece: Piece, number: int, part: Part, fifths: int, unit: int):
         self.piece, self.number, self.part, self.fifths, self.unit = piece, number, part, fifths, unit
-        dynamics = dynamics_of(part, breaks_of(piece.bars))
+        dynamics = dynamics_of(part, piece.bars)
         slurs = [slurs_of(voice, piece.bars) for voice in part.voices]
         self.notes = Notes(piece, number, part, fifths, unit, dynamics.accents, slurs)
         #: what is above and below the staff, the first one last: where, what is printed, and what is heard

@@ -14,10 +14,10 @@ from typing import Iterator, NamedTuple, Optional, Sequence
 
 from .marks import Mark, Marks
 from .piece import Piece
-from .places import Bar
+from .places import MOST_ENDINGS, Bar
 from .sheet import Sheet
 
-_MOST_ENDINGS, _MOST_ROUNDS = 3, 10_000
+_MOST_ROUNDS = 10_000
 
 
 class Fold(NamedTuple):
@@ -107,7 +107,7 @@ class _Content:
         endings = tuple(tuple(number for number, _ in group) for _, group in groupby(
             enumerate(several, 1), lambda row: row[1][shared:])) if shared < bars else ()
         found = Fold(first, bars, rounds, shared, endings)
-        is_short = found.saved > 0 and 2 * shared >= bars and len(endings) <= _MOST_ENDINGS
+        is_short = found.saved > 0 and 2 * shared >= bars and len(endings) <= MOST_ENDINGS
         is_crossed = found.behind in self.crossed or any({head, head + shared} & self.crossed for head in heads)
         is_played = bool(endings) or rounds <= most
         return found if is_short and is_played and not is_crossed and self._tempo_returns(found) else None
