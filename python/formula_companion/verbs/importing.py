@@ -3,12 +3,11 @@
 from __future__ import annotations
 
 import argparse
-import contextlib
 import os
 import re
 import sys
-import threading
-from typing import Callable, Iterator
+import time
+from typing import Callable
 
 from ..importer import xml_going
 from ..importer.going import Imported, imported
@@ -60,7 +59,8 @@ lacks its program or its pedal, the status is 1 and the first one is told. A par
 is. With --exact nothing moves at all.
 
 MusicXML is read directly, and what is not played, as grace notes and ornaments, is counted. ABC goes by abc2midi. With
---by musescore any file goes by what MuseScore plays of it. The other options are for what is read as MIDI.
+--by musescore any file goes by what MuseScore plays of it. But for --no-tempo, --no-phrases and --json the other options
+are for what is read as MIDI.
 
 What a score has no word for is left out and counted: texts, pressure, system exclusive messages."""
 
@@ -70,14 +70,15 @@ def run(options: argparse.Namespace) -> int:
     must_differ(options.file, options.score)
     choices = Choices(options.exact, options.grid, options.velocities, options.ends, not options.no_tempo, not options.no_phrases,
                       options.all_messages, not options.keep_clock, options.without)
-    with _progress(options.file) as tell:
-        tell("reading it")
-        try:
-            found = _imported(options, choices, tell)
-        except Failed as failed:
-            if not failed.said.endswith(_TOO_DEEP):
-                raise
-            found = _imported(options, choices._replace(with_phrases=False), tell)
+    tell = _teller(options.file)
+    try:
+        found = _imported(options, choices, tell)
+    except Failed as failed:
+        if not failed.said.endswith(_TOO_DEEP):
+            raise
+        found = _imported(options, choices._replace(with_phrases=False), tell)
+    finally:
+        tell("")
     save(options.score, found.text.encode())
     phrases, size = sum(line.startswith("phrase ") for line in found.text.splitlines()), len(found.text.encode())
     if options.json:
@@ -127,32 +128,15 @@ def _told(listing: Listing) -> str:
             f"{counted(notes, 'note')}, {messages:,} control changes, programs and bends")
 
 
-@contextlib.contextmanager
-def _progress(path: str) -> Iterator[Callable[[str], None]]:
-    """Shows on a terminal what is done, where that takes long; gives what is to be told of it."""
-    now, is_shown = "", threading.Event()
-
-    def show() -> None:
-        is_shown.set()
-        draw_line(f"{path}: {now} ..")
+def _teller(path: str) -> Callable[[str], None]:
+    """Shows on a terminal what is done, where that takes long; nothing is done any more where nothing is told."""
+    begun = time.monotonic()
 
     def tell(what: str) -> None:
-        nonlocal now
-        now = what
-        if is_shown.is_set():
-            show()
+        if sys.stderr.isatty() and time.monotonic() > begun + _PATIENCE:
+            draw_line(f"{path}: {what} .." if what else "")
 
-    timer = threading.Timer(_PATIENCE, show)
-    if sys.stderr.isatty():
-        timer.start()
-    try:
-        yield tell
-    finally:
-        timer.cancel()
-        if timer.is_alive():
-            timer.join()
-        if is_shown.is_set():
-            draw_line("")
+    return tell
 
 
 def _grid(words: str) -> tuple[int, ...]:
