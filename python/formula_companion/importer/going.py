@@ -51,9 +51,9 @@ class _Way:
         self.said: list[str] = []
         self.lengths: list[tuple[MovedPart, Tone, int]] = []
         if choices.is_exact:
-            fitted = exact.scaled(file)
-            self.listing, self.piece = fitted.listing, piece_of(fitted.listing, fitted.longer)
-            self.said += [fitted.said] if fitted.said else []
+            self.listing, longer, said = exact.scaled(file)
+            self.piece = piece_of(self.listing, longer)
+            self.said += [said] if said else []
             self.moved = unmoved(self.piece)
         else:
             self.listing = self._on_grid()
