@@ -36,11 +36,6 @@ class Branch(NamedTuple):
     words: Words
 
     @property
-    def is_drums(self) -> bool:
-        """Whether it is of drums."""
-        return self.part.channel == DRUM_CHANNEL
-
-    @property
     def has_notes(self) -> bool:
         """Whether it has a note."""
         return any(isinstance(token, Sound) for bar in self.bars for token in bar.tokens)

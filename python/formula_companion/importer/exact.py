@@ -6,7 +6,6 @@ file's order: a note-off before the next note-on of its key, a message before th
 
 from __future__ import annotations
 
-from bisect import bisect_right
 from collections import Counter, defaultdict
 from math import gcd
 from typing import Optional
@@ -18,7 +17,7 @@ from .messages import is_pedal
 from .moved import MovedPart, Word
 from .parts import Piece
 from .spelling import fits
-from .voicing import Chord, Voice, chords_of
+from .voicing import Chord, Voice, chords_of, may_stand
 
 #: What a voice of its own costs a chord, beside a note that overlaps by so much, or is so far away.
 _NEW_VOICE = 7.0
@@ -117,7 +116,7 @@ class _Messages:
         loose = [] if any(is_pedal(word.status, word.data) for word in words) else [(low, high)]
         for least, most in ((max(low, after), min(high, before - 1)), *loose):
             for place in range(least, min(most, len(self.voices) - 1) + 1):
-                if self.stands(place, tick):
+                if may_stand(tick, self.voices[place], self.begins[place], 0):
                     self.voices[place].words += words
                     return
         behind = max([place + 1 for off, place in self.offs[tick] if off < first], default=0)
@@ -125,12 +124,6 @@ class _Messages:
             low, high = max(low, behind), min(high, before)
         place = low if low <= 0 else max(0, min(high, len(self.voices)))
         self.beside.setdefault(place, Voice()).words += words
-
-    def stands(self, place: int, tick: int) -> bool:
-        """Whether a statement of the voice may begin at the tick."""
-        begins = self.begins[place]
-        at = bisect_right(begins, tick) - 1
-        return at < 0 or begins[at] == tick or self.voices[place].chords[at].ends[1] <= tick
 
 
 # ---- the order of events at one tick

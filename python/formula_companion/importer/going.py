@@ -143,15 +143,10 @@ def imported(file: Listing, source: str, choices: Choices, plays: Callable[[str]
     where = "at their ticks" if choices.is_exact else "within these bounds"
     told.append(f"{said}: {answer.faults:,} are not {where}; first {answer.first}" if answer.faults else f"{said} are {where}")
     if choices.is_exact:
-        told += _order(*exact.out_of_order(way.listing, way.piece, played))
+        early, others = exact.out_of_order(way.listing, way.piece, played)
+        told += [f"{counted(early, 'note-off')} on another side of a message of the same tick than in the file"] * bool(early)
+        told += [f"{counted(others, 'other event')} in another order at one tick and channel than in the file"] * bool(others)
     return Imported(text, branches, len(way.lengths), tuple(told), not answer.faults)
-
-
-def _order(early: int, others: int) -> Iterator[str]:
-    if early:
-        yield f"{counted(early, 'note-off')} on another side of a message of the same tick than in the file"
-    if others:
-        yield f"{counted(others, 'other event')} in another order at one tick and channel than in the file"
 
 
 def _seconds(listing: Listing) -> float:

@@ -24,7 +24,6 @@ _ALIKE = 30
 _PEDAL, _DOWN = 64, 64
 _NEVER = float(1 << 40)
 _LETTERS = {0x9: "note-on", 0xB: "control", 0xC: "program", 0xE: "bend"}
-_KINDS = {0x9: "onsets"}
 #: Of each note of the score its part, and the length that it is written with.
 Lengths = Sequence[tuple[MovedPart, Tone, int]]
 
@@ -76,7 +75,8 @@ class _Judge:
             bound = max(bounds.values()) + _SMOOTH * (is_smooth(word.status, word.data) and not is_exact)
             wanted[bytes((word.status, *word.data))].append((word.tick, word.first, bound))
         for message in {*wanted, *self.played}:
-            kind = "controllers" if is_smooth(message[0], message[1:]) else _KINDS.get(message[0] >> 4, "messages")
+            kind = "onsets" if message[0] >> 4 == 9 else (
+                "controllers" if is_smooth(message[0], message[1:]) else "messages")
             what = f"channel {message[0] & 15}, {_LETTERS[message[0] >> 4]} {' '.join(map(str, message[1:]))}"
             self.compare(what, wanted[message], self.played[message], kind)
         for pair in {*offs, *self.offs}:

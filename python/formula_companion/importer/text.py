@@ -6,6 +6,7 @@ from collections import Counter
 from typing import Callable, Iterator, Optional, Sequence
 
 from formula_score.making.lengths import DIVISION
+from formula_score.making.midi import DRUM_CHANNEL
 from formula_score.reading.playing import Failed
 from .bars import MAX_LENGTH, Bar, Silence, Sound, Token
 from .branches import UNSAID, Branch, rest_of, without_velocity
@@ -65,22 +66,16 @@ class Writer:
     def number(self, bar: Bar, branch: Branch) -> int:
         """The number of a bar; equal ones have one."""
         is_mixed = any(isinstance(token, Sound) and token.velocity != UNSAID for token in bar.tokens)
-        shared = branch.defaults.percent, bar.bars, branch.is_drums
+        shared = branch.defaults.percent, bar.bars, branch.part.channel == DRUM_CHANNEL
         key = bar.tokens, branch.defaults.velocity if is_mixed else UNSAID, shared
         if key not in self.of_bar:
             self.of_bar[key] = number = len(self.tokens)
             self.tokens.append(bar.tokens)
-            self.sizes.append(0 if len(bar.tokens) == 1 and rest_of(bar.tokens) else sum(self._size(token, branch) for token in bar.tokens))
+            is_rest = len(bar.tokens) == 1 and rest_of(bar.tokens)
+            self.sizes.append(0 if is_rest else sum(_size(token, branch) for token in bar.tokens))
             if is_mixed:
                 self.mixed[number] = without_velocity(bar.tokens), shared
         return self.of_bar[key]
-
-    def _size(self, token: Token, branch: Branch) -> int:
-        extra = 0
-        if isinstance(token, Sound):
-            extra = 4 * (token.velocity not in (UNSAID, branch.defaults.velocity)) + 4 * (
-                not token.low <= branch.defaults.percent <= token.high)
-        return len(branch.words.text(token)) + 1 + extra
 
     def _find_notes(self, numbers: Sequence[Sequence[int]]) -> None:
         """Bars that differ in their velocities alone, and come so often that their notes are worth a phrase."""
@@ -212,6 +207,13 @@ def without_warp(text: str) -> str:
     """The same score without the tempo, for a comparison in ticks."""
     before, warp, behind = text.partition(f"{_WARP} {_PAR}")
     return f"{before}{_PAR}{behind.rpartition('}')[0]}" if warp else text
+
+
+def _size(token: Token, branch: Branch) -> int:
+    """About how long a token is in a text."""
+    levels = [token.velocity not in (UNSAID, branch.defaults.velocity),
+              not token.low <= branch.defaults.percent <= token.high] if isinstance(token, Sound) else []
+    return len(branch.words.text(token)) + 1 + 4 * sum(levels)
 
 
 def _page(with_bars: bool, block: Braces, depth: int) -> list[str]:

@@ -42,8 +42,8 @@ def arguments(parser: argparse.ArgumentParser) -> None:
                         "for few different ones: 4 where nothing is said, 0 keeps all, 127 takes the nearest of ppp to fff")
     parser.add_argument("--ends", type=_upto(10), default=1, metavar="N", help="by how many percents of its length the end "
                         "of a note may move: 1 where nothing is said")
-    parser.add_argument("--without", type=_controllers, default=frozenset(), metavar="N,..", help="leaves out these "
-                        "controllers")
+    parser.add_argument("--without", type=lambda words: frozenset(map(_upto(127), words.split(","))), default=frozenset(),
+                        metavar="N,..", help="leaves out these controllers")
     parser.add_argument("--no-tempo", action="store_true", help="no `warp` with the tempo of the file")
     parser.add_argument("--no-phrases", action="store_true", help="no phrases and no loops of bars")
     parser.add_argument("--all-messages", action="store_true", help="keeps messages that change nothing")
@@ -147,11 +147,6 @@ def _grid(words: str) -> tuple[int, ...]:
         raise argparse.ArgumentTypeError(f"{words!r} is no grid: write parts of a whole note that divide 1,920 ticks, as "
                                          "1/16 or 1/16,1/24")
     return found
-
-
-def _controllers(words: str) -> frozenset[int]:
-    """Numbers of controllers."""
-    return frozenset(map(_upto(127), words.split(",")))
 
 
 def _upto(most: int) -> Callable[[str], int]:
