@@ -30,12 +30,12 @@ class Mark(NamedTuple):
 
 
 class Marks(NamedTuple):
-    """All marks, the places of pauses and breaths, and those pauses over which nothing sounds; each in rising order."""
+    """All marks in rising order, the places of pauses, too, of breaths, and of pauses over which nothing sounds."""
 
     tempos: tuple[Mark, ...]
     pauses: tuple[int, ...]
-    breaths: tuple[int, ...]
-    caesuras: tuple[int, ...] = ()
+    breaths: frozenset[int]
+    caesuras: frozenset[int] = frozenset()
 
     def hold(self, begin: int, end: int, is_end: bool, is_last: bool) -> str:
         """What a sign has: `fermata` where a pause holds it, `caesura` or `breath-mark` where one comes behind it.
@@ -47,12 +47,7 @@ class Marks(NamedTuple):
             return "fermata"
         if not is_end:
             return ""
-        return "caesura" if _has(self.caesuras, end) else "breath-mark" if _has(self.breaths, end) else ""
-
-
-def _has(places: Sequence[int], place: int) -> bool:
-    at = bisect_left(places, place)
-    return at < len(places) and places[at] == place
+        return "caesura" if end in self.caesuras else "breath-mark" if end in self.breaths else ""
 
 
 def _outermost(walk: Played) -> dict[Level, list[Happening]]:
@@ -158,5 +153,4 @@ def marks_of(walk: Played, sheet: Sheet) -> Marks:
         if mark.tempo and (mark.is_printed or mark.place not in tempos or not tempos[mark.place].is_printed):
             tempos[mark.place] = mark
     return Marks(tuple(sorted([*words, *tempos.values()], key=lambda mark: (mark.place, mark.tempo is None))),
-                 tuple(sorted(pauses)), tuple(sorted(breaths)),
-                 tuple(_silent(sheet, sorted(pauses))))
+                 tuple(sorted(pauses)), frozenset(breaths), frozenset(_silent(sheet, pauses)))

@@ -60,7 +60,7 @@ class _Content:
         self.crossed: set[int] = set()
         self._add_notes(sheet)
         for kind, places in (("pause", marks.pauses), ("breath", marks.breaths)):
-            for place in places:
+            for place in sorted(places):
                 at = max(0, bisect_left(self.begins, place) - 1)
                 self.rows[at].append((kind, place - self.begins[at]))
         #: the tempo from the first place of each bar on, at its end, and whether it is said there
@@ -178,8 +178,10 @@ def _moved(piece: Piece, paper: _Folded) -> Piece:
         parts.append(part._replace(voices=tuple(filter(None, voices))))
     tempos = tuple(mark._replace(place=mark.place + shift, until=mark.until + shift) for mark in marks.tempos
                    for shift in [paper.shift(mark.place)] if shift is not None)
-    holds = (tuple(place + shift for place in places for shift in [paper.shift(place, True)] if shift is not None)
-             for places in (marks.pauses, marks.breaths, marks.caesuras))
+    pauses, breaths, caesuras = (
+        [place + shift for place in places for shift in [paper.shift(place, True)] if shift is not None]
+        for places in (marks.pauses, marks.breaths, marks.caesuras))
     left = piece.bars[-1].end - piece.sheet.end
     sheet = piece.sheet._replace(parts=tuple(parts), end=paper.bars[-1].end - left)
-    return piece._replace(sheet=sheet, bars=tuple(paper.bars), marks=Marks(tempos, *holds))
+    return piece._replace(sheet=sheet, bars=tuple(paper.bars), marks=Marks(
+        tempos, tuple(pauses), frozenset(breaths), frozenset(caesuras)))
