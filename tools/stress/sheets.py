@@ -16,16 +16,14 @@ import contextlib
 import io
 import os
 import pathlib
-import random
 import re
 import shutil
 import subprocess
 import tempfile
 from collections import Counter
 from fractions import Fraction
-from typing import Iterator, NamedTuple, Optional
+from typing import NamedTuple, Optional
 
-import foreign
 import harness
 from formula_companion.verbs.program import main as companion
 from formula_score.notation.piece import Piece, piece_of
@@ -36,9 +34,9 @@ from formula_score.reading.notes import is_on, paired
 from formula_score.reading.playing import listing_of, listing_of_file
 from formula_score.reading.reader import read
 from formula_score.reading.walk import Played
+from sheet_texts import Text, imports, own_texts, random_text
 
 RANDOM, ROUND, IMPORTS, SECONDS = 100, 120, 20, 600
-METERS = "4/4", "3/4", "6/8", "5/8", "2/2", "12/8", "7/16", "4/4,3:3/4,5:9/8"
 _QUARTER = 480
 _NOT_VALID = "not a valid MusicXML file"
 _DEMOS = "/usr/share/mscore3-3.2/demos"
@@ -48,15 +46,6 @@ _EQUAL = ("Fugue_1",)
 Placed = tuple[Fraction, Fraction, int, str]
 #: A tick of 480 a quarter note, a key and a channel.
 Place = tuple[int, int, int]
-
-
-class Text(NamedTuple):
-    """A score: what it is called, its bytes, its meter, and whether abcm2ps has to draw it without a warning."""
-
-    name: str
-    text: bytes
-    meter: str = "4/4"
-    is_plain: bool = False
 
 
 def walked(text: bytes) -> Played:
@@ -141,71 +130,6 @@ def compared(wanted: Counter[Place], ends: dict[Place, list[int]], heard: Counte
     return Apart(sorted((+missing).elements()), sorted((+more).elements()), unisons, near)
 
 
-# ---- the texts
-
-def own_texts() -> Iterator[Text]:
-    """The examples and the steps of the tutorial."""
-    for path in [*sorted(harness.EXAMPLES.glob("scores/*.score")), *sorted(harness.EXAMPLES.glob("tutorial/*.score"))]:
-        if path.stem != "long_rests":
-            yield Text(path.stem, path.read_bytes(), is_plain=True)
-
-
-def random_text(seed: int) -> Text:
-    """A score of 16 bars on three channels: halves, thirds, fifths, sevenths, chords, rests and ties; and its meter."""
-    drawn = random.Random(seed)
-    lines = ["formula 2; division 840;", "par {"]
-    for channel in range(3):
-        for voice in range(drawn.choice([1, 1, 2])):
-            notes = " ".join(_voice(drawn, [3] if voice else [4, 5]))
-            lines.append(f"branch {{ channel {channel} {{ {notes} }} }}")
-    return Text(f"random {seed}", ("\n".join([*lines, "}"]) + "\n").encode(), drawn.choice(METERS))
-
-
-def _divided(drawn: random.Random, length: Fraction, depth: int) -> list[Fraction]:
-    if depth == 0 or drawn.random() < 0.35:
-        return [length]
-    if Fraction(1, 8) <= length <= Fraction(1, 2) and drawn.random() < 0.3:
-        parts = drawn.choice([3, 3, 3, 5, 7])
-        several = [length / parts] * parts
-        if drawn.random() < 0.6:
-            return several
-        joined: list[Fraction] = []
-        for part in several:
-            if joined and drawn.random() < 0.35:
-                joined[-1] += part
-            else:
-                joined.append(part)
-        return joined
-    return _divided(drawn, length / 2, depth - 1) + _divided(drawn, length / 2, depth - 1)
-
-
-def _voice(drawn: random.Random, octaves: list[int]) -> Iterator[str]:
-    lengths: list[Fraction] = []
-    for length in (one for _ in range(16) for one in _divided(drawn, Fraction(1), 4)):
-        is_plain = lengths and all(each.denominator & (each.denominator - 1) == 0 for each in (lengths[-1], length))
-        if is_plain and drawn.random() < 0.12:
-            lengths[-1] += length
-        else:
-            lengths.append(length)
-    for length in lengths:
-        said = f"{length.numerator}/{length.denominator}"
-        if drawn.random() < 0.15:
-            yield f"rest {said};"
-        else:
-            names = {drawn.choice("cdefgab") + drawn.choice(["", "", "", "", "s", "b"]) + str(drawn.choice(octaves))
-                     for _ in range(drawn.choice([1, 1, 1, 2, 3]))}
-            yield f"note {', '.join(sorted(names))} {said};"
-
-
-def imports(count: int) -> Iterator[Text]:
-    """Scores of Debian's MIDI files."""
-    for file in foreign.some(2 * count):
-        status, _, text = foreign.imported(file.data)
-        if status == 0 and count and len(text) < 60_000:
-            count -= 1
-            yield Text(f"{file.package} {file.name}", text.encode())
-
-
 # ---- what is compared
 
 def ran(*words: object) -> tuple[int, str]:
@@ -241,7 +165,7 @@ def tried(text: Text, count: harness.Count, totals: Counter[str]) -> None:
     is_moved = any("moved" in what or "too short" in what for what, number in piece.sheet.unsaid.items() if number)
     if not is_moved:
         is_equal = by_program(text.text).keys() == wanted.keys() or piece.sheet.unsaid["notes without a length"]
-        count.judge(f"{text.name}, printed", "" if is_equal else "the program plays the text without its shapes otherwise")
+        count.judge(f"{text.name}, printed", "" if is_equal else "the program plays it without its shapes otherwise")
     totals["scores"] += 1
     totals["scores with notes moved"] += is_moved
     totals["notes"] += sum(wanted.values())
@@ -316,8 +240,8 @@ def demos(count: harness.Count) -> None:
                             for _ in range(number))
             found = Counter((round(begin * 4 * _QUARTER), int(key)) for (begin, _, _, key), number
                             in _written((folder / "demo.score").read_bytes())[0].items() for _ in range(number))
-        print(f"  {path.stem}: {sum(heard.values()):,} notes by MuseScore, {sum((heard - found).values()):,} of them not "
-              f"where it is read directly, {sum((found - heard).values()):,} others there")
+        print(f"  {path.stem}: {sum(heard.values()):,} notes by MuseScore, {sum((heard - found).values()):,} of them "
+              f"not where it is read directly, {sum((found - heard).values()):,} others there")
         print("    " + "\n    ".join(said.splitlines()[:-1]))
         if path.stem in _EQUAL:
             count.judge(path.stem, "" if heard == found else "notes differ")

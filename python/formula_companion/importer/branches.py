@@ -36,25 +36,23 @@ class Branch(NamedTuple):
     words: Words
 
     @property
-    def is_drums(self) -> bool:
-        """Whether it is of drums."""
-        return self.part.channel == DRUM_CHANNEL
-
-    @property
     def has_notes(self) -> bool:
         """Whether it has a note."""
         return any(isinstance(token, Sound) for bar in self.bars for token in bar.tokens)
 
 
-def branches_of(voices: Sequence[Voiced], length: Callable[[int], str], signatures: Sequence[int]) -> list[Branch]:
-    """The branches."""
+def words_of(voices: Sequence[Voiced], length: Callable[[int], str], signatures: Sequence[int]) -> dict[bool, Words]:
+    """How lengths and keys are written: those of drums as tables of drums have them."""
     keys: dict[bool, list[int]] = {False: [], True: []}
     for voice in voices:
         own = keys[voice.part.channel == DRUM_CHANNEL]
         own += [key for bar in voice.bars for token in bar.tokens if isinstance(token, Sound) for key in token.keys]
-    # drums are named as tables of drums have them
-    words = {False: Words(length, names_of(key_of(keys[False], signatures), keys[False])),
-             True: Words(length, names_of(2, keys[True]))}
+    return {False: Words(length, names_of(key_of(keys[False], signatures), keys[False])),
+            True: Words(length, names_of(2, keys[True]))}
+
+
+def branches_of(voices: Sequence[Voiced], words: dict[bool, Words]) -> list[Branch]:
+    """The branches; how drums are written, and other notes."""
     sounding = Counter(id(voice.part) for voice in voices if not voice.is_words)
     numbers: Counter[int] = Counter()
     found = []

@@ -6,11 +6,9 @@ file's order: a note-off before the next note-on of its key, a message before th
 
 from __future__ import annotations
 
-from bisect import bisect_right
 from collections import Counter, defaultdict
-from itertools import groupby
 from math import gcd
-from typing import NamedTuple, Optional
+from typing import Optional
 
 from formula_score.making.expected import MOST_WAITING
 from formula_score.making.lengths import MAX_DIVISION, MIN_DIVISION
@@ -19,25 +17,18 @@ from .messages import is_pedal
 from .moved import MovedPart, Word
 from .parts import Piece
 from .spelling import fits
-from .voicing import Chord, Voice, chords_of
+from .voicing import Chord, Voice, chords_of, may_stand
 
 #: What a voice of its own costs a chord, beside a note that overlaps by so much, or is so far away.
 _NEW_VOICE = 7.0
 
 
-class Scaled(NamedTuple):
-    """A listing whose division a score may have, how many times as long each length is written, and what became of it."""
-
-    listing: Listing
-    longer: int
-    said: str
-
-
-def scaled(listing: Listing) -> Scaled:
-    """The listing with a division that a score may have; where there is none, with all lengths so many times as long."""
+def scaled(listing: Listing) -> tuple[Listing, int, str]:
+    """The listing with a division that a score may have; where there is none, with all lengths so many times as long. And
+    what became of it."""
     old = listing.division
     if MIN_DIVISION <= old <= MAX_DIVISION:
-        return Scaled(listing, 1, "")
+        return listing, 1, ""
     said = f"{old} ticks a quarter note: written with"
     new = old * -(-MIN_DIVISION // old)
     if old > MAX_DIVISION:
@@ -45,50 +36,37 @@ def scaled(listing: Listing) -> Scaled:
         parts = [by for by in range(2, old // MIN_DIVISION + 1) if old % by == 0 and old // by <= MAX_DIVISION]
         new = next((old // by for by in parts if step % by == 0), 0)
         if not new and parts:
-            return Scaled(listing._replace(division=old // parts[0]), parts[0],
-                          f"{said} {old // parts[0]}, each length {parts[0]} times as long; no tick moves")
+            said += f" {old // parts[0]}, each length {parts[0]} times as long; no tick moves"
+            return listing._replace(division=old // parts[0]), parts[0], said
     if not new:
         raise Failed(1, f"a score has {MIN_DIVISION} to {MAX_DIVISION} ticks a quarter note, and with none of these each event "
                      f"of a file with {old} is at its tick: without --exact they move, and a table says by how much")
     events = [Event(event.track, event.tick * new // old, event.message) for event in listing.events]
-    return Scaled(Listing(listing.format, listing.tracks, new, events), 1, f"{said} {new}; no event moves")
+    return Listing(listing.format, listing.tracks, new, events), 1, f"{said} {new}; no event moves"
 
 
 def voices_of(part: MovedPart) -> list[Voice]:
     """The voices of a part, with its messages."""
     voices: list[Voice] = []
-    ends = _Ends()
+    #: where the notes of each key end: what the order of voices has to keep
+    ends: dict[tuple[int, int], list[tuple[int, Voice]]] = defaultdict(list)
     chords = chords_of(part, False, 0, [word.place for word in part.words])
-    for _, several in groupby(chords, key=lambda chord: chord.begin):
-        taken: list[Voice] = []
-        for chord in sorted(several, key=lambda chord: -chord.keys[-1]):
-            taken.append(_place(voices, ends, chord, taken))
-    _Messages(part, voices).place()
-    return [voice for voice in voices if voice.chords or voice.words]
-
-
-class _Ends:
-    """Where the notes of each key end: what the order of voices has to keep."""
-
-    def __init__(self) -> None:
-        self.at: dict[tuple[int, int], list[tuple[int, Voice]]] = defaultdict(list)
-
-    def add(self, chord: Chord, voice: Voice) -> None:
-        """Keeps the ends of a chord."""
-        for tone in chord.tones:
-            self.at[tone.end, tone.key].append((tone.off, voice))
-
-    def bounds(self, chord: Chord, voices: list[Voice]) -> tuple[int, int]:
-        """The first and the last place of a voice that keeps the order of the note-offs of its keys."""
+    for chord in sorted(chords, key=lambda chord: (chord.begin, -chord.keys[-1])):
         low, high = 0, len(voices)
         for tone in chord.tones:
-            for off, voice in self.at.get((tone.begin, tone.key), ()):
-                place = next(at for at, other in enumerate(voices) if other is voice)
-                if off < tone.on:
-                    low = max(low, place)
-                else:
-                    high = min(high, place - 1)
-        return low, high
+            for off, voice in ends.get((tone.begin, tone.key), ()):
+                place = voices.index(voice)
+                low, high = (max(low, place), high) if off < tone.on else (low, min(high, place - 1))
+        costs = ((_cost(voices[at], chord), at) for at in range(low, min(high + 1, len(voices))))
+        best = min(((cost, at) for cost, at in costs if cost is not None and cost < _NEW_VOICE), default=None)
+        own = voices[best[1]] if best else Voice()
+        if best is None:
+            voices.insert(max(0, min(high + 1, len(voices))), own)
+        own.chords.append(chord)
+        for tone in chord.tones:
+            ends[tone.end, tone.key].append((tone.off, own))
+    _Messages(part, voices).place()
+    return [voice for voice in voices if voice.chords or voice.words]
 
 
 def _cost(voice: Voice, chord: Chord) -> Optional[float]:
@@ -99,22 +77,6 @@ def _cost(voice: Voice, chord: Chord) -> Optional[float]:
         return None
     distance = abs(chord.keys[-1] - last.keys[-1]) / 6
     return distance + (1 + 3 * (sounds - length) / length if sounds > length else 0.0)
-
-
-def _place(voices: list[Voice], ends: _Ends, chord: Chord, taken: list[Voice]) -> Voice:
-    """The voice that the chord goes on best, or a new one, with the chord."""
-    low, high = ends.bounds(chord, voices)
-    best, least = None, _NEW_VOICE
-    for voice in voices[low:high + 1]:
-        cost = None if any(voice is other for other in taken) else _cost(voice, chord)
-        if cost is not None and cost < least:
-            best, least = voice, cost
-    if best is None:
-        best = Voice()
-        voices.insert(max(0, min(high + 1, len(voices))), best)
-    best.chords.append(chord)
-    ends.add(chord, best)
-    return best
 
 
 class _Messages:
@@ -154,7 +116,7 @@ class _Messages:
         loose = [] if any(is_pedal(word.status, word.data) for word in words) else [(low, high)]
         for least, most in ((max(low, after), min(high, before - 1)), *loose):
             for place in range(least, min(most, len(self.voices) - 1) + 1):
-                if self.stands(place, tick):
+                if may_stand(tick, self.voices[place], self.begins[place], 0):
                     self.voices[place].words += words
                     return
         behind = max([place + 1 for off, place in self.offs[tick] if off < first], default=0)
@@ -162,12 +124,6 @@ class _Messages:
             low, high = max(low, behind), min(high, before)
         place = low if low <= 0 else max(0, min(high, len(self.voices)))
         self.beside.setdefault(place, Voice()).words += words
-
-    def stands(self, place: int, tick: int) -> bool:
-        """Whether a statement of the voice may begin at the tick."""
-        begins = self.begins[place]
-        at = bisect_right(begins, tick) - 1
-        return at < 0 or begins[at] == tick or self.voices[place].chords[at].ends[1] <= tick
 
 
 # ---- the order of events at one tick

@@ -5,37 +5,40 @@ from __future__ import annotations
 from functools import lru_cache
 from typing import Callable, Iterator, NamedTuple, Sequence
 
-from formula_score.making.lengths import DIVISION, written
+from formula_score.making.lengths import written
 from formula_score.making.midi import DRUM_CHANNEL
-from formula_score.reading.playing import Failed, Listing, counted
+from formula_score.reading.notes import is_on
+from formula_score.reading.playing import Listing, counted
+from formula_score.reading.tempos import tempos_of
 from . import exact
 from .bars import bar_lines
-from .branches import Voiced, branches_of
-from .grid import LADDER, Grid, by_clock, clock_in, distance, fit, shift_of
+from .branches import Voiced, branches_of, words_of
+from .grid import LADDER, WHOLE, Grid, by_clock, clock_in, distance, fit, shift_of
 from .judging import Judged, judged
 from .messages import without_controllers, without_idle
 from .moved import Choices, Moved, MovedPart, Tone, moved, unmoved
 from .parts import piece_of
 from .spelling import Ways, bars_of, usual_percent
-from .tempo import Tempo, TempoMap, lines_of, tempo_of
+from .tempo import Tempo, tempo_of
 from .text import Writer, without_warp
 from .voicing import voices_of
 from .words import plain, said_of
 
-_MOST_BYTES = 1_048_576
-_SHORTER = "--grid 1/16 and --velocities 8 make it shorter"
 #: A grid on which the onsets of a part lie less than half as far away as they would by chance is one that it knows.
 _KNOWN = 0.5
 _ADVISED = ((8,), (16,), (8, 12), (16, 24), (32,))
 _ALL = 0.98
+#: Changes of tempo lie on 96ths, so that all lengths between them have a value.
+_STEP = WHOLE // 96
 _NOTE = "# It plays 120 quarter notes a minute; for the file's own tempo put `warp tempo {` and `}` round the `par`."
 
 
 class Imported(NamedTuple):
-    """A text, how many branches it has, what is told of it, and whether it plays what it has to."""
+    """A text, its branches and notes, what is told of it, and whether it plays what it has to."""
 
     text: str
     branches: int
+    notes: int
     lines: tuple[str, ...]
     is_good: bool
 
@@ -48,9 +51,9 @@ class _Way:
         self.said: list[str] = []
         self.lengths: list[tuple[MovedPart, Tone, int]] = []
         if choices.is_exact:
-            fitted = exact.scaled(file)
-            self.listing, self.piece = fitted.listing, piece_of(fitted.listing, fitted.longer)
-            self.said += [fitted.said] if fitted.said else []
+            self.listing, longer, said = exact.scaled(file)
+            self.piece = piece_of(self.listing, longer)
+            self.said += [said] if said else []
             self.moved = unmoved(self.piece)
         else:
             self.listing = self._on_grid()
@@ -60,11 +63,11 @@ class _Way:
             left["message that changes nothing"] = 0 if choices.with_idle else without_idle(self.piece)
             self.moved = moved(self.piece, choices)
         self.lines = self._lines()
-        self.tempo = tempo_of(self.piece, self.lines) if choices.with_tempo else Tempo()
+        self.tempo = tempo_of(self.piece, self.lines, 1 if choices.is_exact else _STEP) if choices.with_tempo else Tempo()
 
     def _on_grid(self) -> Listing:
         """The file with its beginning where its grid begins, and with the ticks of its clock."""
-        onsets = [event.tick for event in self.file.events if event.message[0] >> 4 == 9 and event.message[2]]
+        onsets = [event.tick for event in self.file.events if is_on(event)]
         shift = shift_of(onsets, self.file.division)
         if shift:
             self.file = self.file._replace(events=[event._replace(tick=max(0, event.tick - shift))
@@ -109,28 +112,13 @@ class _Way:
         def length(ticks: int) -> str:
             return written(ticks, 4 * self.piece.division)
 
-        branches = branches_of(list(self.voices()), length, self.piece.signatures)
-        writer = Writer(self.piece, self.lines, branches, length, self.choices.with_phrases)
-        text = writer.text([*self._head(source), *lines_of(self.tempo, length)],
-                           Tempo() if self.choices.is_exact else self.tempo)
-        if len(text) > _MOST_BYTES:
-            text = "\n".join(line.partition("  #")[0].strip() for line in text.splitlines()) + "\n"
-        if len(text) > _MOST_BYTES:
-            raise Failed(1, f"the text has {len(text):,} bytes, and a score has at most {_MOST_BYTES:,}: {_SHORTER}")
-        return text, len(branches)
-
-    def _head(self, source: str) -> Iterator[str]:
-        piece = self.piece
-        words = (" --exact" * self.choices.is_exact
-                 + f"; each length is {piece.longer} times as long as there" * (piece.longer > 1))
-        yield f"# Made from {plain(source)} by formula-score import{words}"
-        if piece.title:
-            yield f"# title: {piece.title}"
-        if piece.composer:
-            yield f"# composer: {piece.composer}"
-        if self.choices.is_exact and self.tempo.parts:
-            yield _NOTE
-        yield "formula 2;" + (f" division {piece.division};" if piece.division != DIVISION else "")
+        piece, is_exact = self.piece, self.choices.is_exact
+        voices = list(self.voices())
+        branches = branches_of(voices, words_of(voices, length, piece.signatures))
+        writer = Writer(piece, self.lines, branches, length, self.choices.with_phrases)
+        made = (f"{plain(source)} by formula-score import" + " --exact" * is_exact
+                + f"; each length is {piece.longer} times as long as there" * (piece.longer > 1))
+        return writer.text(made, [_NOTE] * bool(is_exact and self.tempo.parts), self.tempo, not is_exact), len(branches)
 
 
 def imported(file: Listing, source: str, choices: Choices, plays: Callable[[str], Listing],
@@ -155,23 +143,15 @@ def imported(file: Listing, source: str, choices: Choices, plays: Callable[[str]
     where = "at their ticks" if choices.is_exact else "within these bounds"
     told.append(f"{said}: {answer.faults:,} are not {where}; first {answer.first}" if answer.faults else f"{said} are {where}")
     if choices.is_exact:
-        told += _order(*exact.out_of_order(way.listing, way.piece, played))
-    return Imported(text, branches, tuple(told), not answer.faults)
-
-
-def _order(early: int, others: int) -> Iterator[str]:
-    if early:
-        yield f"{counted(early, 'note-off')} on another side of a message of the same tick than in the file"
-    if others:
-        yield f"{counted(others, 'other event')} in another order at one tick and channel than in the file"
+        early, others = exact.out_of_order(way.listing, way.piece, played)
+        told += [f"{counted(early, 'note-off')} on another side of a message of the same tick than in the file"] * bool(early)
+        told += [f"{counted(others, 'other event')} in another order at one tick and channel than in the file"] * bool(others)
+    return Imported(text, branches, len(way.lengths), tuple(told), not answer.faults)
 
 
 def _seconds(listing: Listing) -> float:
     """The seconds to the last note, by the tempos of a file."""
-    tempos = ((event.tick, int.from_bytes(event.message[3:6], "big")) for event in listing.events
-              if event.message[:3] == b"\xff\x51\x03")
-    last = max((event.tick for event in listing.events if event.message[0] >> 4 == 9 and event.message[2]), default=0)
-    return TempoMap(tempos, listing.division).seconds(last)
+    return tempos_of(listing).seconds(max((event.tick for event in listing.events if is_on(event)), default=0))
 
 
 def _said(parts: Sequence[int]) -> str:

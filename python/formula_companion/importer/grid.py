@@ -11,6 +11,7 @@ from collections import Counter
 from typing import Iterable, Iterator, NamedTuple, Optional, Sequence
 
 from formula_score.making.lengths import DIVISION, WHOLE_NOTE
+from formula_score.reading.notes import is_on
 from formula_score.reading.playing import Event, Listing
 
 QUARTER, WHOLE = DIVISION, WHOLE_NOTE
@@ -131,17 +132,17 @@ def _near(grid: Grid, places: Counter[int], division: int, by: int, near_by: int
 # ---- the clock of a file
 
 class Clock(NamedTuple):
-    """A step of a sixteenth in ticks of the file, where the first one begins, and how sharp it is."""
+    """How sharp a step of a sixteenth is, how many ticks of the file it has, and where the first one begins."""
 
+    sharp: float
     step: float
     first: int
-    sharp: float
 
 
 def clock_in(listing: Listing) -> Optional[Clock]:
     """Another clock, where the file has one tempo on whose grid few onsets lie."""
     tempos = {event.message for event in listing.events if event.message[:2] == _TEMPO}
-    onsets = sorted({event.tick for event in listing.events if event.message[0] >> 4 == 9 and event.message[2]})
+    onsets = sorted({event.tick for event in listing.events if is_on(event)})
     if len(tempos) > 1 or fit(Grid(), onsets, listing.division).share >= 0.6 or (
             fit(Grid((16, 24)), onsets, listing.division, 10).share >= 0.7):
         return None
@@ -154,17 +155,12 @@ def clock_of(onsets: Sequence[int], division: int) -> Optional[Clock]:
     few: Sequence[int] = [tick for tick in onsets[:_FEW] if tick - onsets[0] <= _QUARTERS * division]
     if len(few) < _LEAST_ONSETS or division < 20:
         return None
-    found = sorted(_scan(few, max(4.0, division / 11), division / 2.9), key=_sharpness)[-_PEAKS:]
+    found = sorted(_scan(few, max(4.0, division / 11), division / 2.9))[-_PEAKS:]
     while len(few) < len(onsets):
         sharp, span, few = [clock for clock in found if clock.sharp >= _NEARLY], few[-1] - few[0] + 1, onsets[:4 * len(few)]
-        found = [max(_scan(few, clock.step - clock.step ** 2 / span / 2, clock.step + clock.step ** 2 / span / 2),
-                     key=_sharpness) for clock in sharp]
-    best = max(found, key=_sharpness, default=None)
+        found = [max(_scan(few, step - step ** 2 / span / 2, step + step ** 2 / span / 2)) for _, step, _ in sharp]
+    best = max(found, default=None)
     return best if best and best.sharp >= _SHARP else None
-
-
-def _sharpness(clock: Clock) -> float:
-    return clock.sharp
 
 
 def _scan(onsets: Sequence[int], low: float, high: float) -> Iterator[Clock]:
@@ -174,7 +170,7 @@ def _scan(onsets: Sequence[int], low: float, high: float) -> Iterator[Clock]:
         turn = 2 * math.pi / step
         across = sum(math.sin(turn * (tick - first)) for tick in onsets)
         along = sum(math.cos(turn * (tick - first)) for tick in onsets)
-        yield Clock(step, first, math.hypot(across, along) / len(onsets))
+        yield Clock(math.hypot(across, along) / len(onsets), step, first)
         step += step * step / span / 5
 
 

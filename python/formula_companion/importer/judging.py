@@ -8,7 +8,8 @@ from itertools import zip_longest
 from typing import NamedTuple, Optional, Sequence
 
 from formula_score.making.midi import DRUM_CHANNEL
-from formula_score.reading.playing import Event, Listing
+from formula_score.reading.notes import is_off
+from formula_score.reading.playing import Listing
 from .grid import Grid
 from .messages import is_smooth
 from .moved import Choices, Moved, MovedPart, Tone
@@ -22,36 +23,19 @@ _SMOOTH, _HALF = 30.5, 0.5
 _ALIKE = 30
 _PEDAL, _DOWN = 64, 64
 _NEVER = float(1 << 40)
-_LETTERS = {0xB: "control", 0xC: "program", 0xE: "bend"}
+_LETTERS = {0x9: "note-on", 0xB: "control", 0xC: "program", 0xE: "bend"}
 #: Of each note of the score its part, and the length that it is written with.
 Lengths = Sequence[tuple[MovedPart, Tone, int]]
 
 
-class Moves(NamedTuple):
-    """Of one kind of event how many there are, how many moved, and by how much at most and in the mean of those."""
-
-    kind: str
-    events: int
-    moved: int
-    most: float
-    mean: float
-
-
 class Judged(NamedTuple):
-    """What came of it: how many events, what moved, how many faults there are, and the first of these."""
+    """What came of it: how many events; of each kind how many there are, how many moved, and by how much at most and in
+    the mean of those; how many faults there are, and the first of these."""
 
     events: int
-    moves: tuple[Moves, ...]
+    moves: tuple[tuple[str, int, int, float, float], ...]
     faults: int
     first: str
-
-
-class _Wanted(NamedTuple):
-    """Where an event was written, where it is in the file, and how far apart these may be."""
-
-    tick: int
-    first: int
-    bound: float
 
 
 class _Judge:
@@ -61,18 +45,14 @@ class _Judge:
         self.moved, self.scale, self.choices = moved, moved.scale, choices
         self.faults: list[tuple[int, str]] = []
         self.moves: dict[str, list[float]] = defaultdict(list)
-        self.ons: dict[tuple[int, ...], list[int]] = defaultdict(list)
+        #: where each message is played, and where note-offs are, by channels and keys
+        self.played: dict[bytes, list[int]] = defaultdict(list)
         self.offs: dict[tuple[int, int], list[int]] = defaultdict(list)
-        self.words: dict[tuple[int, ...], list[int]] = defaultdict(list)
         for event in sorted(played.events, key=lambda event: event.tick):
-            kind, channel = event.message[0] >> 4, event.message[0] & 15
-            if kind == 9 and event.message[2]:
-                self.ons[channel, event.message[1], event.message[2]].append(event.tick)
-            elif kind in (8, 9):
-                self.offs[channel, event.message[1]].append(event.tick)
-            elif kind in _LETTERS:
-                self.words[tuple(event.message)].append(event.tick)
-        self.bound = {id(part): self.bound_of(part) for part in moved.parts}
+            if is_off(event):
+                self.offs[event.message[0] & 15, event.message[1]].append(event.tick)
+            elif event.message[0] < 0xF0:
+                self.played[event.message].append(event.tick)
 
     def bound_of(self, part: MovedPart) -> float:
         """How far the onsets of a part may move."""
@@ -80,18 +60,25 @@ class _Judge:
             return 0 if self.choices.is_exact else _HALF
         return _HALF + (Grid(part.step.parts).half if self.moved.is_asked else part.step.near)
 
-    def notes(self, lengths: Lengths) -> None:
-        """The notes."""
-        ons: dict[tuple[int, ...], list[_Wanted]] = defaultdict(list)
+    def events(self, lengths: Lengths) -> None:
+        """All events: of each message where it was written, where it is in the file, and how far apart these may be."""
+        wanted: dict[bytes, list[tuple[int, int, float]]] = defaultdict(list)
         offs: dict[tuple[int, int], list[tuple[int, float]]] = defaultdict(list)
-        is_exact, ends = self.choices.is_exact, self.choices.ends
+        is_exact, bounds = self.choices.is_exact, {id(part): self.bound_of(part) for part in self.moved.parts}
         for part, tone, length in lengths:
-            channel, bound = part.part.channel, self.bound[id(part)]
-            ons[channel, tone.key, tone.velocity].append(_Wanted(tone.begin, tone.first, bound))
-            free = 0 if is_exact else float("inf") if channel == DRUM_CHANNEL else tolerance(length) * ends + 1
+            channel, bound = part.part.channel, bounds[id(part)]
+            wanted[bytes((0x90 | channel, tone.key, tone.velocity))].append((tone.begin, tone.first, bound))
+            free = 0 if is_exact else float("inf") if channel == DRUM_CHANNEL else (
+                tolerance(length) * self.choices.ends + 1)
             offs[channel, tone.key].append((tone.last, bound + free))
-        for key in {*ons, *self.ons}:
-            self.compare(f"channel {key[0]}, note-on {key[1]} {key[2]}", ons[key], self.ons[key], "onsets")
+        for word in (word for part in self.moved.parts for word in part.words):
+            bound = max(bounds.values()) + _SMOOTH * (is_smooth(word.status, word.data) and not is_exact)
+            wanted[bytes((word.status, *word.data))].append((word.tick, word.first, bound))
+        for message in {*wanted, *self.played}:
+            kind = "onsets" if message[0] >> 4 == 9 else (
+                "controllers" if is_smooth(message[0], message[1:]) else "messages")
+            what = f"channel {message[0] & 15}, {_LETTERS[message[0] >> 4]} {' '.join(map(str, message[1:]))}"
+            self.compare(what, wanted[message], self.played[message], kind)
         for pair in {*offs, *self.offs}:
             self.compare_ends(*pair, sorted(offs[pair]), self.offs[pair])
 
@@ -106,22 +93,9 @@ class _Judge:
             if off > allowed and off > max(other for near, other in wanted if abs(near - last) * self.scale <= _NEAR):
                 self.faults.append((tick, f"{what}: {off:.1f} ticks away"))
 
-    def messages(self) -> None:
-        """The messages."""
-        widest = max(self.bound.values(), default=0.0)
-        words: dict[tuple[int, ...], list[_Wanted]] = defaultdict(list)
-        for part in self.moved.parts:
-            for word in part.words:
-                bound = widest + _SMOOTH * (is_smooth(word.status, word.data) and not self.choices.is_exact)
-                words[(word.status, *word.data)].append(_Wanted(word.tick, word.first, bound))
-        for key in {*words, *self.words}:
-            kind = "controllers" if is_smooth(key[0], bytes(key[1:])) else "messages"
-            what = f"channel {key[0] & 15}, {_LETTERS[key[0] >> 4]} {' '.join(map(str, key[1:]))}"
-            self.compare(what, words[key], self.words[key], kind)
-
-    def compare(self, what: str, wanted: list[_Wanted], got: Sequence[int], kind: str) -> None:
+    def compare(self, what: str, wanted: Sequence[tuple[int, int, float]], got: Sequence[int], kind: str) -> None:
         """Events of one kind: each has to be where it was written, and within its bound."""
-        written = Counter(each.tick for each in wanted)
+        written = Counter(tick for tick, _, _ in wanted)
         for said, more in (("not played", written - Counter(got)), ("not in the file", Counter(got) - written)):
             self.faults += [(tick, f"{what}: {said}") for tick in more.elements()]
         for tick, first, bound in wanted:
@@ -186,8 +160,7 @@ class _Heard:
 def judged(file: Listing, moved: Moved, lengths: Lengths, played: Listing, choices: Choices) -> Judged:
     """What came of it."""
     judge = _Judge(moved, played, choices)
-    judge.notes(lengths)
-    judge.messages()
+    judge.events(lengths)
     if not choices.is_exact:
         judge.heard(file, played)
     elif file.end != played.end:
@@ -195,7 +168,7 @@ def judged(file: Listing, moved: Moved, lengths: Lengths, played: Listing, choic
     moves = []
     for kind, found in sorted(judge.moves.items()):
         count = sum(off > 0.01 for off in found)
-        moves.append(Moves(kind, len(found), count, max(found), sum(found) / max(1, count)))
+        moves.append((kind, len(found), count, max(found), sum(found) / max(1, count)))
     first: Optional[tuple[int, str]] = min(judge.faults, default=None)
-    return Judged(sum(move.events for move in moves), tuple(moves), len(judge.faults),
+    return Judged(sum(map(len, judge.moves.values())), tuple(moves), len(judge.faults),
                   f"tick {first[0]}, {first[1]}" if first else "")

@@ -42,13 +42,8 @@ Node = Union[Plain, Mark, Braces]
 
 def flat(nodes: tuple[Node, ...]) -> str:
     """The nodes on one line."""
-    texts = []
-    for node in nodes:
-        if isinstance(node, Plain):
-            texts.append(node.text)
-        elif isinstance(node, Braces):
-            texts.append(f"{node.head} {{ {flat(node.inner)} }}")
-    return " ".join(texts)
+    return " ".join(node.text if isinstance(node, Plain) else f"{node.head} {{ {flat(node.inner)} }}"
+                    for node in nodes if not isinstance(node, Mark))
 
 
 def repeated(times: int, nodes: tuple[Node, ...]) -> Braces:

@@ -23,11 +23,13 @@ Ranges = Sequence[Sequence[tuple[int, int]]]
 
 
 class Passage(NamedTuple):
-    """From a statement to before another: nothing round it, or a block with one value or a list of them."""
+    """From a statement to before another: nothing round it, or a block with one value or a list of them; and the range of
+    what else its one value may be."""
 
     begin: int
     end: int
     values: tuple[int, ...]
+    wide: tuple[int, int] = (0, 400)
 
 
 def best_percent(low: int, high: int, default: int) -> int:
@@ -52,13 +54,6 @@ def spread(ranges: Ranges, default: int) -> tuple[int, ...]:
     return tuple(best_percent(*limits, default) for each in ranges for limits in each)
 
 
-class _Level(NamedTuple):
-    """A passage with the range of what else its one value may be."""
-
-    passage: Passage
-    wide: tuple[int, int]
-
-
 def whole_rounds(values: tuple[int, ...]) -> tuple[int, ...]:
     """The first of the values, where they go round in whole rounds; else all."""
     count = len(values)
@@ -77,17 +72,13 @@ def _is_crescendo(values: tuple[int, ...]) -> bool:
 def levels(ranges: Ranges, default: int, marks: Sequence[int]) -> list[Passage]:
     """How the values are said; `marks` are the statements at which bars begin, and no part of any bar."""
     edges = sorted({0, *marks, len(ranges)})
-    found: list[_Level] = []
+    found: list[Passage] = []
     for begin, end in zip(edges, edges[1:]):
         for passage in _bar(ranges[begin:end], default):
             own = ranges[begin + passage.begin:begin + passage.end]
-            level = _Level(Passage(begin + passage.begin, begin + passage.end, passage.values), common(own))
-            if found and found[-1].passage.end == level.passage.begin:
-                joined = _joined(found[-1], level, default, not any(map(len, own)))
-                found[-1:] = joined
-            else:
-                found.append(level)
-    return [level.passage for level in found]
+            level = Passage(begin + passage.begin, begin + passage.end, passage.values, common(own))
+            found[-1:] = _joined(found[-1], level, default, not any(map(len, own))) if found else [level]
+    return found
 
 
 def _bar(ranges: Ranges, default: int) -> Iterator[Passage]:
@@ -115,7 +106,7 @@ def _bar(ranges: Ranges, default: int) -> Iterator[Passage]:
 
 def _runs(ranges: Ranges, default: int) -> list[Passage]:
     """Passages that have one value each, the default where it may be; none where a statement needs several values."""
-    runs: list[_Level] = []
+    runs: list[Passage] = []
     for at, wanted in enumerate(ranges):
         low, high = common([wanted])
         if low > high:
@@ -124,22 +115,18 @@ def _runs(ranges: Ranges, default: int) -> list[Passage]:
             low, high = default, default
         both = (max(low, runs[-1].wide[0]), min(high, runs[-1].wide[1])) if runs else (1, 0)
         if both[0] <= both[1]:
-            runs[-1] = _Level(runs[-1].passage._replace(end=at + 1), both)
+            runs[-1] = runs[-1]._replace(end=at + 1, wide=both)
         else:
-            runs.append(_Level(Passage(at, at + 1, ()), (low, high)))
-    return [run.passage if run.wide[0] <= default <= run.wide[1]
-            else run.passage._replace(values=(best_percent(*run.wide, default),)) for run in runs]
+            runs.append(Passage(at, at + 1, (), (low, high)))
+    return [run if run.wide[0] <= default <= run.wide[1] else run._replace(values=(best_percent(*run.wide, default),))
+            for run in runs]
 
 
-def _joined(last: _Level, level: _Level, default: int, is_silent: bool) -> list[_Level]:
-    """Two levels that follow one another, or one where the first goes on."""
-    old, new = last.passage, level.passage
+def _joined(old: Passage, new: Passage, default: int, is_silent: bool) -> list[Passage]:
+    """Two passages that follow one another, or one where the first goes on."""
     if len(old.values) == len(new.values) == 1 and not is_silent:
-        low, high = max(last.wide[0], level.wide[0]), min(last.wide[1], level.wide[1])
-        if low > high:
-            return [last, level]
-        return [_Level(Passage(old.begin, new.end, (best_percent(low, high, default),)), (low, high))]
+        low, high = max(old.wide[0], new.wide[0]), min(old.wide[1], new.wide[1])
+        value = best_percent(low, high, default)
+        return [old, new] if low > high else [Passage(old.begin, new.end, (value,), (low, high))]
     is_list = 1 < len(old.values) <= _EASY_PERIOD and old.values == new.values and not _is_crescendo(old.values)
-    if is_silent or old.values == new.values == () or is_list:
-        return [last._replace(passage=old._replace(end=new.end))]
-    return [last, level]
+    return [old._replace(end=new.end)] if is_silent or old.values == new.values == () or is_list else [old, new]

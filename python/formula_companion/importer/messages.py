@@ -28,12 +28,10 @@ def is_smooth(status: int, data: bytes) -> bool:
 
 def without_controllers(piece: Piece, controllers: frozenset[int]) -> int:
     """Takes out the messages of some controllers; gives how many there were."""
-    count = 0
+    before = sum(len(part.messages) for part in piece.parts)
     for part in piece.parts:
-        kept = [each for each in part.messages if each.status >> 4 != 0xB or each.data[0] not in controllers]
-        count += len(part.messages) - len(kept)
-        part.messages = kept
-    return count
+        part.messages = [each for each in part.messages if each.status >> 4 != 0xB or each.data[0] not in controllers]
+    return before - sum(len(part.messages) for part in piece.parts)
 
 
 def without_idle(piece: Piece) -> int:

@@ -10,7 +10,6 @@ from typing import NamedTuple
 from formula_score.making.midi import INSTRUMENTS
 from formula_score.reading.playing import Listing
 
-_KINDS = {0xA: "key pressure", 0xD: "channel pressure"}
 _METAS = {
     0x00: "sequence number", 0x01: "text", 0x02: "copyright", 0x03: "name", 0x04: "name of an instrument",
     0x05: "lyric", 0x06: "marker", 0x07: "cue", 0x08: "name of a program", 0x09: "name of a device",
@@ -144,8 +143,8 @@ def _add_track(piece: Piece, number: int, events: list[tuple[int, bytes]]) -> st
             else:
                 left["note-off without a note"] += 1
                 piece.idle.add((tick, 0x80 | channel, data[1:2]))
-        elif kind in _KINDS:
-            left[_KINDS[kind]] += 1
+        elif kind in (0xA, 0xD):
+            left["key pressure" if kind == 0xA else "channel pressure"] += 1
         else:
             part.messages.append(Message(tick, place, data[0], data[1:]))
     for (channel, key), waiting in open_notes.items():

@@ -186,22 +186,16 @@ def said(message: Said, value: str = "") -> str:
     return f"{word} {value or value_of(message)};"
 
 
-def _is_like(one: Said, other: object) -> bool:
-    """Whether two messages are of one kind, with a value that may be counted."""
-    return isinstance(other, Said) and one.status == other.status and one.status >> 4 != 0xC and (
-        one.status >> 4 == 0xE or one.data[0] == other.data[0])
-
-
 def ramp_at(atoms: Sequence[Atom], at: int) -> Optional[tuple[int, str]]:
     """How often a message and a rest come from a place on, in even steps, and its statement with `n0` for the step; None
     where that is not often."""
     first, rest = atoms[at], atoms[at + 1] if at + 1 < len(atoms) else None
-    if not isinstance(first, Said) or not isinstance(rest, Silence):
+    if not isinstance(first, Said) or first.status >> 4 == 0xC or not isinstance(rest, Silence):
         return None
     values: list[int] = []
     while at + 1 < len(atoms) and atoms[at + 1] == rest:
         message = atoms[at]
-        if not isinstance(message, Said) or not _is_like(first, message):
+        if not isinstance(message, Said) or said(message, "n0") != said(first, "n0"):
             break
         values.append(value_of(message))
         if len(values) > 2 and values[-1] - values[-2] != values[1] - values[0]:

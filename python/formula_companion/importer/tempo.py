@@ -1,10 +1,10 @@
-"""The tempo of a file: as a map of seconds, and as a shape that a `warp` round the piece plays."""
+"""The tempo of a file as a shape that a `warp` round the piece plays."""
 
 from __future__ import annotations
 
-from bisect import bisect_right
-from typing import Callable, Iterable, NamedTuple, Sequence
+from typing import Callable, NamedTuple, Sequence
 
+from formula_score.reading.tempos import TempoMap
 from .bars import MAX_LENGTH
 from .layout import wrapped
 from .parts import Piece
@@ -12,34 +12,6 @@ from .parts import Piece
 #: The last part of a shape, and any other, is at most so many whole notes long.
 _LONGEST = 500
 _MOST_PARTS, _MOST_READ = 256, 64
-_USUAL = 500_000  # microseconds a quarter note where a file says nothing
-
-
-class TempoMap:
-    """From which tick on how many microseconds a quarter note takes, each change once."""
-
-    def __init__(self, changes: Iterable[tuple[int, int]], division: int):
-        self.division = division
-        found = [(0, _USUAL)]
-        for tick, tempo in sorted(changes, key=lambda change: change[0]):
-            if tick == found[-1][0]:
-                found[-1] = tick, tempo
-            elif tempo != found[-1][1]:
-                found.append((tick, tempo))
-        self.changes = [found[0], *(now for before, now in zip(found, found[1:]) if now[1] != before[1])]
-        self.ticks = [tick for tick, _ in self.changes]
-        self.times = [0]
-        for (tick, tempo), (behind, _) in zip(self.changes, self.changes[1:]):
-            self.times.append(self.times[-1] + (behind - tick) * tempo)
-
-    def time(self, tick: int) -> int:
-        """The time of a tick, in microseconds times the ticks of a quarter note."""
-        at = bisect_right(self.ticks, tick) - 1
-        return self.times[at] + (tick - self.ticks[at]) * self.changes[at][1]
-
-    def seconds(self, tick: int) -> float:
-        """The seconds of a tick."""
-        return self.time(tick) / self.division / 1e6
 
 
 class Tempo(NamedTuple):
@@ -49,18 +21,23 @@ class Tempo(NamedTuple):
     said: str = ""
 
 
-def tempo_of(piece: Piece, lines: Sequence[int]) -> Tempo:
-    """The tempo: each change of the file, or where they are too many the mean of each bar or of some bars."""
+def tempo_of(piece: Piece, lines: Sequence[int], step: int) -> Tempo:
+    """The tempo: each change of the file, or where they are too many the mean of each bar or of some bars. A step inside
+    which the tempo changes has its mean."""
     whole = TempoMap((change for change in piece.tempos if change[0] < piece.end or not piece.end), piece.division)
+
+    def means(edges: Sequence[int]) -> list[tuple[int, int]]:
+        return [(begin, round((whole.time(end) - whole.time(begin)) / (end - begin)))
+                for begin, end in zip(edges, edges[1:]) if end > begin]
+
     if len(whole.changes) <= _MOST_READ:
-        return Tempo(_parts(whole.changes, piece))
+        edges = sorted({tick + by for tick in whole.ticks for by in (-(tick % step), -tick % step)})
+        return Tempo(_parts([*means(edges), (edges[-1], whole.changes[-1][1])], piece))
     said = f"{len(whole.changes) - 1:,} changes of tempo are"
     for bars in (1, 2, 4, 8, 16, 64, 256, 1024):
-        edges = [*lines[:-1:bars], lines[-1]] if len(lines) > 1 else [0, piece.end]
-        means = [(begin, round((whole.time(end) - whole.time(begin)) / (end - begin)))
-                 for begin, end in zip(edges, edges[1:]) if end > begin]
-        if len(means) <= _MOST_PARTS:
-            return Tempo(_parts(means, piece), f"{said} the mean of each {'bar' if bars == 1 else f'{bars} bars'}")
+        found = means([*lines[:-1:bars], lines[-1]] if len(lines) > 1 else [0, piece.end])
+        if len(found) <= _MOST_PARTS:
+            return Tempo(_parts(found, piece), f"{said} the mean of each {'bar' if bars == 1 else f'{bars} bars'}")
     return Tempo((), f"{said} left out")
 
 

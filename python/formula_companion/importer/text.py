@@ -5,6 +5,9 @@ from __future__ import annotations
 from collections import Counter
 from typing import Callable, Iterator, Optional, Sequence
 
+from formula_score.making.lengths import DIVISION
+from formula_score.making.midi import DRUM_CHANNEL
+from formula_score.reading.playing import Failed
 from .bars import MAX_LENGTH, Bar, Silence, Sound, Token
 from .branches import UNSAID, Branch, rest_of, without_velocity
 from .layout import Braces, Mark, Node, Page, Plain, repeated
@@ -12,8 +15,11 @@ from .levels import MOST_ENTRIES
 from .parts import Piece
 from .repeats import Numbers
 from .statements import Atom, Call, nodes_of, rounded
-from .tempo import Tempo
+from .tempo import Tempo, lines_of
 from .words import PERCENT, VELOCITY, Names
+
+_MOST_BYTES = 1_048_576
+_SHORTER = "--grid 1/16 and --velocities 8 make it shorter"
 
 #: What stands before the branches, and where the tempo is played before that.
 _PAR, _WARP = "par {", "warp tempo {"
@@ -60,22 +66,16 @@ class Writer:
     def number(self, bar: Bar, branch: Branch) -> int:
         """The number of a bar; equal ones have one."""
         is_mixed = any(isinstance(token, Sound) and token.velocity != UNSAID for token in bar.tokens)
-        shared = branch.defaults.percent, bar.bars, branch.is_drums
+        shared = branch.defaults.percent, bar.bars, branch.part.channel == DRUM_CHANNEL
         key = bar.tokens, branch.defaults.velocity if is_mixed else UNSAID, shared
         if key not in self.of_bar:
             self.of_bar[key] = number = len(self.tokens)
             self.tokens.append(bar.tokens)
-            self.sizes.append(0 if len(bar.tokens) == 1 and rest_of(bar.tokens) else sum(self._size(token, branch) for token in bar.tokens))
+            is_rest = len(bar.tokens) == 1 and rest_of(bar.tokens)
+            self.sizes.append(0 if is_rest else sum(_size(token, branch) for token in bar.tokens))
             if is_mixed:
                 self.mixed[number] = without_velocity(bar.tokens), shared
         return self.of_bar[key]
-
-    def _size(self, token: Token, branch: Branch) -> int:
-        extra = 0
-        if isinstance(token, Sound):
-            extra = 4 * (token.velocity not in (UNSAID, branch.defaults.velocity)) + 4 * (
-                not token.low <= branch.defaults.percent <= token.high)
-        return len(branch.words.text(token)) + 1 + extra
 
     def _find_notes(self, numbers: Sequence[Sequence[int]]) -> None:
         """Bars that differ in their velocities alone, and come so often that their notes are worth a phrase."""
@@ -92,8 +92,9 @@ class Writer:
 
     # ---- the whole
 
-    def text(self, head: Sequence[str], tempo: Optional[Tempo]) -> str:
-        """The whole text, with a `warp` of the tempo round it where there is one."""
+    def text(self, made: str, notes: Sequence[str], tempo: Tempo, with_warp: bool = True) -> str:
+        """The whole text, with a `warp` of the tempo round it where there is one; without comments behind lines where it
+        would be too long for a score."""
         numbers = [self.numbers(branch) for branch in self.branches]
         if self.with_phrases:
             self._find_notes(numbers)
@@ -105,11 +106,25 @@ class Writer:
             body += self._branch(row, branch)
         if not body:
             body = self._silence(self.piece.end)
-        elif tempo and tempo.parts:
-            body = [f"{_WARP} {_PAR}", *body, "} }"]
         else:
-            body = [_PAR, *body, "}"]
-        return "\n".join([*head, *self.definitions, *body]) + "\n"
+            is_warped = tempo.parts and with_warp
+            body = [f"{_WARP} {_PAR}" if is_warped else _PAR, *body, "} }" if is_warped else "}"]
+        lines = [*self._head(made, notes), *lines_of(tempo, self.length), *self.definitions, *body]
+        text = "\n".join(lines) + "\n"
+        if len(text) > _MOST_BYTES:
+            text = "\n".join(line.partition("  #")[0].strip() for line in lines) + "\n"
+        if len(text) > _MOST_BYTES:
+            raise Failed(1, f"the text has {len(text):,} bytes, and a score has at most {_MOST_BYTES:,}: {_SHORTER}")
+        return text
+
+    def _head(self, made: str, notes: Sequence[str]) -> Iterator[str]:
+        division = self.piece.division
+        yield f"# Made from {made}"
+        for what, said in (("title", self.piece.title), ("composer", self.piece.composer)):
+            if said:
+                yield f"# {what}: {said}"
+        yield from notes
+        yield "formula 2;" + (f" division {division};" if division != DIVISION else "")
 
     def _silence(self, ticks: int) -> list[str]:
         """Rests of so many ticks, those of the greatest length in loops."""
@@ -192,6 +207,13 @@ def without_warp(text: str) -> str:
     """The same score without the tempo, for a comparison in ticks."""
     before, warp, behind = text.partition(f"{_WARP} {_PAR}")
     return f"{before}{_PAR}{behind.rpartition('}')[0]}" if warp else text
+
+
+def _size(token: Token, branch: Branch) -> int:
+    """About how long a token is in a text."""
+    levels = [token.velocity not in (UNSAID, branch.defaults.velocity),
+              not token.low <= branch.defaults.percent <= token.high] if isinstance(token, Sound) else []
+    return len(branch.words.text(token)) + 1 + 4 * sum(levels)
 
 
 def _page(with_bars: bool, block: Braces, depth: int) -> list[str]:

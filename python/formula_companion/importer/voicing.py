@@ -90,60 +90,48 @@ def _chord(tones: list[Tone]) -> Chord:
                  tones[0].velocity, tuple(tone.key for tone in tones), tuple(tones))
 
 
-class _Voicing:
-    """Gives each chord a voice."""
-
-    def __init__(self, chords: Sequence[Chord], is_free: bool):
-        self.is_free = is_free
-        self.voices: list[Voice] = []
-        for _, several in groupby(chords, key=lambda chord: chord.begin):
-            self._together(list(several))
-
-    def _together(self, chords: list[Chord]) -> None:
-        """Chords that begin together: each to the voice that it goes on best."""
-        offers = []
-        for number, chord in enumerate(chords):
-            for place, voice in enumerate(self.voices):
-                cost = self._cost(voice, chord)
-                if cost is not None:
-                    offers.append((cost, number, place))
+def _voiced(chords: Sequence[Chord], is_free: bool) -> list[Voice]:
+    """Gives each chord a voice: those that begin together each to the one that it goes on best."""
+    voices: list[Voice] = []
+    for _, several in groupby(chords, key=lambda chord: chord.begin):
+        together = list(several)
+        costs = ((_cost(voice, chord, is_free, len(voices)), number, place) for number, chord in enumerate(together)
+                 for place, voice in enumerate(voices))
         given: dict[int, int] = {}
-        taken: set[int] = set()
-        for _, number, place in sorted(offers):
-            if number not in given and place not in taken:
+        for _, number, place in sorted((cost, number, place) for cost, number, place in costs if cost is not None):
+            if number not in given and place not in given.values():
                 given[number] = place
-                taken.add(place)
-        for number, chord in enumerate(chords):
+        for number, chord in enumerate(together):
             if number in given:
-                self.voices[given[number]].chords.append(chord)
+                voices[given[number]].chords.append(chord)
             else:
-                self.voices.append(Voice([chord]))
+                voices.append(Voice([chord]))
+    return voices
 
-    def _cost(self, voice: Voice, chord: Chord) -> Optional[float]:
-        """How badly a chord goes on after the last one of a voice; None where it cannot."""
-        last = voice.chords[-1]
-        length = chord.begin - last.begin
-        if length <= 0:
-            return None
-        far = abs(chord.keys[-1] - last.keys[-1]) / 6
-        if self.is_free or last.ends[1] - tolerance(length) <= chord.begin and last.least <= chord.begin:
-            is_struck = bool(set(chord.keys) & set(last.keys)) and last.ends[1] >= chord.begin - 2
-            return far - (4 if is_struck else 0)
-        over = (last.ends[1] - last.begin - length) / length
-        if over > 3 or set(chord.keys) & set(last.keys):
-            return None
-        if voice.ringing(chord.begin) + len(chord.keys) > MOST_WAITING:
-            return None
-        if over <= _LEGATO:
-            return far + 1 + over
-        return None if len(self.voices) < _EASY_VOICES else 100 + far + over
+
+def _cost(voice: Voice, chord: Chord, is_free: bool, voices: int) -> Optional[float]:
+    """How badly a chord goes on after the last one of a voice, of so many; None where it cannot."""
+    last = voice.chords[-1]
+    length = chord.begin - last.begin
+    if length <= 0:
+        return None
+    far = abs(chord.keys[-1] - last.keys[-1]) / 6
+    if is_free or last.ends[1] - tolerance(length) <= chord.begin and last.least <= chord.begin:
+        is_struck = bool(set(chord.keys) & set(last.keys)) and last.ends[1] >= chord.begin - 2
+        return far - (4 if is_struck else 0)
+    over = (last.ends[1] - last.begin - length) / length
+    if over > 3 or set(chord.keys) & set(last.keys) or voice.ringing(chord.begin) + len(chord.keys) > MOST_WAITING:
+        return None
+    if over <= _LEGATO:
+        return far + 1 + over
+    return None if voices < _EASY_VOICES else 100 + far + over
 
 
 def voices_of(part: MovedPart, loose: int) -> list[Voice]:
     """The voices, the highest first, with the messages; branches of messages before and behind them where it must be. What
     such a branch says of a controller it says throughout."""
     is_free = part.part.channel == DRUM_CHANNEL
-    voices = _Voicing(chords_of(part, is_free, loose), is_free).voices
+    voices = _voiced(chords_of(part, is_free, loose), is_free)
     if not is_free:
         voices.sort(key=lambda voice: -voice.pitch)
     _keep_order(voices)
@@ -153,7 +141,7 @@ def voices_of(part: MovedPart, loose: int) -> list[Voice]:
     for is_behind, place, beside in ((False, 0, before), (True, last, behind)):
         words = [word for word in part.words if is_pedal(word.status, word.data) == is_behind]
         begins = [chord.begin for chord in voices[place].chords] if voices else []
-        apart = [word for word in words if not voices or not _may_stand(word, voices[place], begins)]
+        apart = [word for word in words if not voices or not may_stand(word.tick, voices[place], begins)]
         kinds = {(word.status, word.data[0]) for word in apart if word.status >> 4 == 0xB} | {
             (word.status, byte) for word in apart if word.status >> 4 == 0xE for byte in range(128)}
         for word in words:
@@ -162,10 +150,10 @@ def voices_of(part: MovedPart, loose: int) -> list[Voice]:
     return [voice for voice in (before, *voices, behind) if voice.chords or voice.words]
 
 
-def _may_stand(word: Word, voice: Voice, begins: Sequence[int]) -> bool:
-    """Whether a message may stand in a voice: where a chord begins, or after the last one has ended."""
-    at = bisect_right(begins, word.tick) - 1
-    return at < 0 or begins[at] == word.tick or voice.chords[at].ends[1] - 2 <= word.tick
+def may_stand(tick: int, voice: Voice, begins: Sequence[int], near: int = 2) -> bool:
+    """Whether a message may stand in a voice: where a chord begins, or after the last one has ended, or nearly so."""
+    at = bisect_right(begins, tick) - 1
+    return at < 0 or begins[at] == tick or voice.chords[at].ends[1] - near <= tick
 
 
 def _keep_order(voices: list[Voice]) -> None:

@@ -8,6 +8,7 @@ from typing import Iterable, NamedTuple, Sequence
 
 from formula_score.language.grammar import KEYWORDS
 from formula_score.making.midi import DRUM_CHANNEL
+from formula_score.making.spelling import name_of, outside, places_of, signature_of
 from .bars import MAX_GATE, Bar, Sound
 from .parts import Part
 
@@ -15,12 +16,6 @@ from .parts import Part
 VELOCITY, PERCENT = 64, 90
 #: Words of names that name nothing.
 _EMPTY = frozenset("a an and channel ch for in instrument midi new of out part port staff the track trk untitled".split())
-#: Letters with their sign and degree, by their place on the line of fifths: from F flat to B sharp, C is 0.
-_NAMES = {-8: ("f", "b", 4), -7: ("c", "b", 11), -6: ("g", "b", 6), -5: ("d", "b", 1), -4: ("a", "b", 8), -3: ("e", "b", 3),
-          -2: ("b", "b", 10), -1: ("f", "", 5), 0: ("c", "", 0), 1: ("g", "", 7), 2: ("d", "", 2), 3: ("a", "", 9),
-          4: ("e", "", 4), 5: ("b", "", 11), 6: ("f", "s", 6), 7: ("c", "s", 1), 8: ("g", "s", 8), 9: ("d", "s", 3),
-          10: ("a", "s", 10), 11: ("e", "s", 5), 12: ("b", "s", 0)}
-_SIGNS = {"s": 1, "b": -1, "": 0}
 
 
 class Defaults(NamedTuple):
@@ -75,31 +70,13 @@ def plain(name: str) -> str:
 
 def key_of(keys: Sequence[int], signatures: Sequence[int]) -> int:
     """The sharps (above 0) or flats (below) of a piece: what its signatures say most, where its notes go with it."""
-    degrees, said = Counter(key % 12 for key in keys), Counter(signatures)
-    fits = {sharps: sum(degrees[_NAMES[place][2]] for place in range(sharps - 1, sharps + 6)) for sharps in range(-6, 7)}
-    best = max(fits, key=lambda sharps: (fits[sharps], -abs(sharps), sharps))
-    if said:
-        usual = max(said, key=lambda sharps: (said[sharps], sharps != 0))
-        if usual in fits and (usual != 0 or fits[0] >= 0.9 * fits[best]):
-            return usual
-    return best
+    degrees, said, best = Counter(key % 12 for key in keys), Counter(signatures), signature_of((), keys)
+    usual = max(said, key=lambda sharps: (said[sharps], sharps != 0), default=best)
+    goes = usual or len(keys) - outside(0, degrees) >= 0.9 * (len(keys) - outside(best, degrees))
+    return usual if goes and abs(usual) <= 6 else best
 
 
 def names_of(sharps: int, keys: Iterable[int]) -> tuple[str, ...]:
-    """The names of the 128 keys: the seven of the key signature, and round them as the line of fifths goes on. An A sharp
-    among these keys without another sharp is a B flat."""
-    degrees = {key % 12 for key in keys}
-    of_degree: dict[int, tuple[str, str]] = {}
-    for place in sorted(_NAMES, key=lambda place: abs(place - (sharps + 2.4))):
-        letter, sign, degree = _NAMES[place]
-        is_odd = place in (-8, -7, 11, 12) and not sharps - 1 <= place <= sharps + 5
-        if degree not in of_degree and not is_odd:
-            of_degree[degree] = letter, sign
-    if degrees and not any(of_degree[degree][1] == "s" for degree in degrees & {1, 3, 6, 8}):
-        of_degree[10] = "b", "b"
-    found = []
-    for key in range(128):
-        letter, sign = of_degree[key % 12]
-        octave = (key - _SIGNS[sign]) // 12 - 1
-        found.append(f"{letter}{sign}{octave}" if 0 <= octave <= 9 and key >= 12 else f"key {key}")
-    return tuple(found)
+    """The names of the 128 keys."""
+    places = places_of(sharps, frozenset(key % 12 for key in keys))
+    return tuple(name_of(key, places[key % 12]) for key in range(128))

@@ -13,15 +13,18 @@ _MOST_PLAYED = 100_000
 _TAKES_TIME = "note", "forward", "backup"
 
 
+def number(text: str, what: str) -> Fraction:
+    """The number that a text is."""
+    try:
+        return Fraction(text.strip())
+    except (ValueError, ZeroDivisionError):
+        raise Failed(1, f"{what} is no number: {text[:20]!r}") from None
+
+
 def number_of(element: Element, path: str, otherwise: Optional[Fraction] = None) -> Fraction:
     """The number in an element."""
     text = element.findtext(path)
-    if text is None and otherwise is not None:
-        return otherwise
-    try:
-        return Fraction((text or "").strip())
-    except (ValueError, ZeroDivisionError):
-        raise Failed(1, f"<{element.tag}>: <{path}> is no number: {(text or '')[:20]!r}") from None
+    return otherwise if text is None and otherwise is not None else number(text or "", f"<{element.tag}>: <{path}>")
 
 
 def length_of(item: Element, divisions: Fraction) -> Fraction:

@@ -3,13 +3,11 @@
 from __future__ import annotations
 
 import argparse
-import contextlib
 import os
 import re
 import sys
-import tempfile
-import threading
-from typing import Callable, Iterator
+import time
+from typing import Callable
 
 from ..importer import xml_going
 from ..importer.going import Imported, imported
@@ -18,8 +16,7 @@ from ..importer.others import OF_HAIRPINS, by_abc2midi, by_musescore
 from formula_score.making.values import draw_line
 from formula_score.reading.midi_file import save
 from formula_score.reading.notes import is_on
-from formula_score.reading.playing import Failed, Listing, counted, listing_of_file, must_differ, needs, run as play, \
-    text_of
+from formula_score.reading.playing import Failed, Listing, counted, listing_of, listing_of_file, must_differ, text_of
 from .options import json_argument, put
 
 #: A file with more bytes or events makes no score, which has at most a mebibyte.
@@ -45,8 +42,8 @@ def arguments(parser: argparse.ArgumentParser) -> None:
                         "for few different ones: 4 where nothing is said, 0 keeps all, 127 takes the nearest of ppp to fff")
     parser.add_argument("--ends", type=_upto(10), default=1, metavar="N", help="by how many percents of its length the end "
                         "of a note may move: 1 where nothing is said")
-    parser.add_argument("--without", type=_controllers, default=frozenset(), metavar="N,..", help="leaves out these "
-                        "controllers")
+    parser.add_argument("--without", type=lambda words: frozenset(map(_upto(127), words.split(","))), default=frozenset(),
+                        metavar="N,..", help="leaves out these controllers")
     parser.add_argument("--no-tempo", action="store_true", help="no `warp` with the tempo of the file")
     parser.add_argument("--no-phrases", action="store_true", help="no phrases and no loops of bars")
     parser.add_argument("--all-messages", action="store_true", help="keeps messages that change nothing")
@@ -62,7 +59,8 @@ lacks its program or its pedal, the status is 1 and the first one is told. A par
 is. With --exact nothing moves at all.
 
 MusicXML is read directly, and what is not played, as grace notes and ornaments, is counted. ABC goes by abc2midi. With
---by musescore any file goes by what MuseScore plays of it. The other options are for what is read as MIDI.
+--by musescore any file goes by what MuseScore plays of it. But for --no-tempo, --no-phrases and --json the other options
+are for what is read as MIDI.
 
 What a score has no word for is left out and counted: texts, pressure, system exclusive messages."""
 
@@ -70,64 +68,48 @@ What a score has no word for is left out and counted: texts, pressure, system ex
 def run(options: argparse.Namespace) -> int:
     """Writes the score, and tells what moved and how it compares."""
     must_differ(options.file, options.score)
-    suffix = os.path.splitext(options.file)[1].lower()
-    if suffix in _XML and not options.by:
-        return _by_xml(options.file, options.score, options.json)
     choices = Choices(options.exact, options.grid, options.velocities, options.ends, not options.no_tempo, not options.no_phrases,
                       options.all_messages, not options.keep_clock, options.without)
-    with _progress(options.file) as tell:
-        tell("reading it")
-        if options.by:
-            listing, choices = by_musescore(options.file), choices._replace(without=choices.without | OF_HAIRPINS)
-        else:
-            listing = by_abc2midi(options.file) if suffix == ".abc" else _listing(options.file)
-        found = _imported(listing, os.path.basename(options.file), choices, tell)
-    save(options.score, found.text.encode())
-    phrases = sum(line.startswith("phrase ") for line in found.text.splitlines())
-    if options.json:
-        put({"notes": sum(map(is_on, listing.events)), "lines": found.lines, "out": options.score,
-             "branches": found.branches,
-             "phrases": phrases, "bytes": len(found.text.encode()), "is_good": found.is_good})
-        return 0 if found.is_good else 1
-    _tell(options.file, listing)
-    for line in found.lines:
-        print(line)
-    print(f"{options.score}: {counted(found.branches, 'branch')}, {counted(phrases, 'phrase')}, {len(found.text):,} bytes")
-    return 0 if found.is_good else 1
-
-
-def _by_xml(path: str, target: str, as_json: bool) -> int:
-    """Writes the score of a MusicXML file, and tells what it has and how it compares."""
+    tell = _teller(options.file)
     try:
-        found = xml_going.read(text_of(path), os.path.basename(path))
-    except Failed as failed:
-        raise failed if failed.status == 2 else Failed(1, f"{path!r}: {failed.why}", failed.said)
-    save(target, found.text.encode())
-    if as_json:
-        put({"lines": found.lines, "out": target, "branches": found.branches, "bytes": len(found.text.encode()),
-             "is_good": found.is_good})
-        return 0 if found.is_good else 1
-    for line in found.lines:
-        print(line)
-    print(f"{target}: {counted(found.branches, 'branch')}, {len(found.text):,} bytes")
-    return 0 if found.is_good else 1
-
-
-def _imported(listing: Listing, source: str, choices: Choices, tell: Callable[[str], None]) -> Imported:
-    try:
-        return imported(listing, source, choices, _played, tell)
+        found = _imported(options, choices, tell)
     except Failed as failed:
         if not failed.said.endswith(_TOO_DEEP):
             raise
-        return imported(listing, source, choices._replace(with_phrases=False), _played, tell)
+        found = _imported(options, choices._replace(with_phrases=False), tell)
+    finally:
+        tell("")
+    save(options.score, found.text.encode())
+    phrases, size = sum(line.startswith("phrase ") for line in found.text.splitlines()), len(found.text.encode())
+    if options.json:
+        put({"notes": found.notes, "lines": found.lines, "out": options.score, "branches": found.branches,
+             "phrases": phrases, "bytes": size, "is_good": found.is_good})
+    else:
+        print("\n".join(found.lines))
+        print(f"{options.score}: {counted(found.branches, 'branch')}, {counted(phrases, 'phrase')}, {size:,} bytes")
+    return 0 if found.is_good else 1
+
+
+def _imported(options: argparse.Namespace, choices: Choices, tell: Callable[[str], None]) -> Imported:
+    """What becomes of a file, by the way that it goes."""
+    path, name = options.file, os.path.basename(options.file)
+    suffix = os.path.splitext(path)[1].lower()
+    if suffix in _XML and not options.by:
+        try:
+            return xml_going.imported(text_of(path), name, choices)
+        except Failed as failed:
+            raise failed if failed.status == 2 or failed.said else Failed(1, f"{path!r}: {failed.why}")
+    if options.by:
+        listing, choices = by_musescore(path), choices._replace(without=choices.without | OF_HAIRPINS)
+    else:
+        listing = by_abc2midi(path) if suffix == ".abc" else _listing(path)
+    found = imported(listing, name, choices, lambda text: listing_of(text.encode(), refused=1), tell)
+    return found._replace(lines=(f"{path}: {_told(listing)}", *found.lines))
 
 
 def _listing(path: str) -> Listing:
     """What is in a file, where it is not too long for a score."""
-    try:
-        size = os.path.getsize(path)
-    except OSError as error:
-        raise Failed(2, f"{path!r} cannot be read: {error.strerror}") from error
+    size = len(text_of(path))
     if size > _MOST_BYTES:
         raise Failed(1, f"{path!r} has {size:,} bytes, and a file of more than {_MOST_BYTES:,} makes no score")
     listing = listing_of_file(path, refused=1)
@@ -138,47 +120,23 @@ def _listing(path: str) -> Listing:
     return listing
 
 
-def _played(text: str) -> Listing:
-    with tempfile.TemporaryDirectory() as folder:
-        source, target = os.path.join(folder, "in.score"), os.path.join(folder, "out.mid")
-        save(source, text.encode())
-        needs(play(source, target, "--workers", "0"), refused=1)
-        return listing_of_file(target)
-
-
-def _tell(path: str, listing: Listing) -> None:
+def _told(listing: Listing) -> str:
+    """What a file has."""
     notes = sum(map(is_on, listing.events))
     messages = sum(event.message[0] >> 4 in (0xB, 0xC, 0xE) for event in listing.events)
-    print(f"{path}: format {listing.format}, {counted(listing.tracks, 'track')}, {listing.division} ticks a quarter note; "
-          f"{counted(notes, 'note')}, {messages:,} control changes, programs and bends")
+    return (f"format {listing.format}, {counted(listing.tracks, 'track')}, {listing.division} ticks a quarter note; "
+            f"{counted(notes, 'note')}, {messages:,} control changes, programs and bends")
 
 
-@contextlib.contextmanager
-def _progress(path: str) -> Iterator[Callable[[str], None]]:
-    """Shows on a terminal what is done, where that takes long; gives what is to be told of it."""
-    now, is_shown = "", threading.Event()
-
-    def show() -> None:
-        is_shown.set()
-        draw_line(f"{path}: {now} ..")
+def _teller(path: str) -> Callable[[str], None]:
+    """Shows on a terminal what is done, where that takes long; nothing is done any more where nothing is told."""
+    begun = time.monotonic()
 
     def tell(what: str) -> None:
-        nonlocal now
-        now = what
-        if is_shown.is_set():
-            show()
+        if sys.stderr.isatty() and time.monotonic() > begun + _PATIENCE:
+            draw_line(f"{path}: {what} .." if what else "")
 
-    timer = threading.Timer(_PATIENCE, show)
-    if sys.stderr.isatty():
-        timer.start()
-    try:
-        yield tell
-    finally:
-        timer.cancel()
-        if timer.is_alive():
-            timer.join()
-        if is_shown.is_set():
-            draw_line("")
+    return tell
 
 
 def _grid(words: str) -> tuple[int, ...]:
@@ -189,11 +147,6 @@ def _grid(words: str) -> tuple[int, ...]:
         raise argparse.ArgumentTypeError(f"{words!r} is no grid: write parts of a whole note that divide 1,920 ticks, as "
                                          "1/16 or 1/16,1/24")
     return found
-
-
-def _controllers(words: str) -> frozenset[int]:
-    """Numbers of controllers."""
-    return frozenset(map(_upto(127), words.split(",")))
 
 
 def _upto(most: int) -> Callable[[str], int]:

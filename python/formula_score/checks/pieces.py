@@ -6,7 +6,6 @@ Places and lengths are parts of a whole note: of a score as they are written, of
 from __future__ import annotations
 
 import re
-from bisect import bisect_right
 from fractions import Fraction
 from typing import Iterator, NamedTuple, Optional
 
@@ -16,6 +15,7 @@ from ..reading.marks import bars_of
 from ..reading.meter import Group, Meter
 from ..reading.notes import is_off, is_on, paired
 from ..reading.playing import Listing
+from ..reading.tempos import tempos_of
 from ..reading.ticks import spots_of, ticks_of
 from ..reading.tree import Statement
 from ..reading.walk import Happening, Place, Played, messages_of
@@ -189,16 +189,6 @@ def of_file(listing: Listing, groups: tuple[Group, ...], upbeat: Fraction) -> Pi
 
 def _last(piece: Piece, listing: Listing) -> None:
     """How long each bar of a file lasts, by its tempos."""
-    ticks, times, tempos = [0], [0.0], [500_000]
-    for event in sorted(listing.events, key=lambda event: event.tick):
-        if event.message[:3] == b"\xff\x51\x03":
-            times.append(times[-1] + (event.tick - ticks[-1]) * tempos[-1])
-            ticks.append(event.tick)
-            tempos.append(int.from_bytes(event.message[3:6], "big"))
-
-    def time(tick: int) -> float:
-        at = bisect_right(ticks, tick) - 1
-        return (times[at] + (tick - ticks[at]) * tempos[at]) / listing.division / 1_000_000
-
+    seconds = tempos_of(listing).seconds
     for number, bar in enumerate(piece.bars, piece.first):
-        bar.seconds = time(piece.meter.start(number + 1)) - time(piece.meter.start(number))
+        bar.seconds = seconds(piece.meter.start(number + 1)) - seconds(piece.meter.start(number))

@@ -10,9 +10,8 @@ from ..reading.meter import Meter
 from ..reading.notes import is_on
 from ..reading.playing import Listing, counted
 from ..reading.sending import sent_of
+from ..reading.tempos import tempos_of
 from ..reading.walk import Played
-
-_PLAIN = 500_000
 
 
 class Range(NamedTuple):
@@ -64,16 +63,5 @@ def _summary(listing: Listing, bars: str, processes: Optional[int]) -> Summary:
         if is_on(event):
             keys.setdefault(event.message[0] & 15, []).append(event.message[1])
     channels = {channel: Range(len(own), min(own), max(own)) for channel, own in keys.items()}
-    return Summary(len(events), bars, _seconds(listing), processes, channels)
-
-
-def _seconds(listing: Listing) -> float:
-    """How long it lasts by its tempos."""
-    if not listing.division:
-        return 0.0
-    time, last, tempo = 0, 0, _PLAIN
-    for event in sorted(listing.events, key=lambda event: event.tick):
-        if event.message[:3] == b"\xff\x51\x03":
-            time, last = time + (event.tick - last) * tempo, event.tick
-            tempo = int.from_bytes(event.message[3:6], "big")
-    return (time + (listing.end - last) * tempo) / listing.division / 1_000_000
+    seconds = tempos_of(listing).seconds(listing.end) if listing.division else 0.0
+    return Summary(len(events), bars, seconds, processes, channels)

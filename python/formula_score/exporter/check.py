@@ -2,12 +2,12 @@
 
 from __future__ import annotations
 
-from bisect import bisect_right
 from collections import defaultdict
 from fractions import Fraction
 from typing import NamedTuple
 
 from ..reading.playing import Listing
+from ..reading.tempos import tempos_of
 
 
 class Checked(NamedTuple):
@@ -23,21 +23,12 @@ class Checked(NamedTuple):
 
 def _times(listing: Listing) -> dict[tuple[int, int, int], list[Fraction]]:
     """Of each channel and key the milliseconds of its note-ons and of its note-offs."""
-    tempos = sorted((event.tick, int.from_bytes(event.message[3:6], "big")) for event in listing.events
-                    if event.message[:3] == b"\xff\x51\x03")
-    places, times, last = [0], [Fraction(0)], 500_000
-    lasts = [last]
-    for tick, tempo in tempos:
-        times.append(times[-1] + Fraction((tick - places[-1]) * last, 1000 * listing.division))
-        places.append(tick)
-        last = tempo
-        lasts.append(last)
+    tempos = tempos_of(listing)
     found: dict[tuple[int, int, int], list[Fraction]] = defaultdict(list)
     for event in listing.events:
         kind = event.message[0] >> 4
         if kind in (8, 9):
-            at = bisect_right(places, event.tick) - 1
-            time = times[at] + Fraction((event.tick - places[at]) * lasts[at], 1000 * listing.division)
+            time = Fraction(tempos.time(event.tick), 1000 * listing.division)
             found[event.message[0] & 15, event.message[1], kind].append(time)
     return {key: sorted(several) for key, several in found.items()}
 

@@ -8,7 +8,8 @@ from typing import Iterator, SupportsIndex, Union
 from .errors import ScoreError
 from .values import known, shown, text, whole
 
-_DEGREES = {"c": 0, "d": 2, "e": 4, "f": 5, "g": 7, "a": 9, "b": 11}
+#: How many semitones each letter lies above C.
+DEGREES = {"c": 0, "d": 2, "e": 4, "f": 5, "g": 7, "a": 9, "b": 11}
 _NAMES = ("c", "cs", "d", "ds", "e", "f", "fs", "g", "gs", "a", "as", "b")
 
 MODES = {
@@ -69,7 +70,7 @@ def _key_of(name: str) -> int:
     if not found:
         raise ScoreError(f"{shown(name)} is no pitch: pitches are written as c4, fs4 (F sharp) or bb3 (B flat)")
     letter, sign, octave = found.groups()
-    return 12 * (int(octave) + 1) + _DEGREES[letter] + {"": 0, "s": 1, "b": -1}[sign]
+    return 12 * (int(octave) + 1) + DEGREES[letter] + {"": 0, "s": 1, "b": -1}[sign]
 
 
 class Scale:

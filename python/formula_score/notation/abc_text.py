@@ -14,7 +14,7 @@ from .repeats import folded
 from .rhythm import Value, values_of
 from .sheet import Note, Part, Tone, Voice
 from .spelling import CROSSES, clef_of, drum_places, fifths_of, signature, spelled
-from .touch import breaks_of, is_short, slurs_of
+from .touch import is_short, slurs_of
 
 _UNIT = WHOLE // 8
 _KEYS = "Gb Db Ab Eb Bb F C G D A E B F#".split()
@@ -36,7 +36,7 @@ def _length(length: int) -> str:
 
 def letter(step: str, octave: int) -> str:
     """A step as ABC writes it: `c` is the one above middle C."""
-    return step.lower() + "'" * (octave - 5) if octave >= 5 else step + "," * (4 - octave)
+    return step + "'" * (octave - 5) if octave >= 5 else step.upper() + "," * (4 - octave)
 
 
 def drum(place: str, key: int) -> str:
@@ -58,7 +58,7 @@ class _Voice:
 
     def __init__(self, piece: Piece, part: Part, number: int, fifths: int, has_tempos: bool):
         self.piece, self.part, self.number, self.fifths = piece, part, number, fifths
-        dynamics = dynamics_of(part, breaks_of(piece.bars))
+        dynamics = dynamics_of(part, piece.bars)
         self.accents = dynamics.accents if number == 1 else frozenset()
         self.drums = drum_places(tone.key for tone in part.tones()) if part.is_drums else {}
         self.words = list(reversed(dynamics.words if number == 1 else ()))
@@ -127,13 +127,13 @@ class _Voice:
         if self.drums:
             return drum(self.drums[tone.key], tone.key)
         pitch = spelled(tone, self.fifths)
-        by_key = signature(self.fifths)[pitch.step]
-        here = pitch.step, pitch.octave
+        by_key = signature(self.fifths)[pitch.letter]
+        here = pitch.letter, pitch.octave
         sign = ""
-        if pitch.octave < 0 or {self.altered.get(here, by_key), self.last.get(pitch.step, by_key)} != {pitch.alter}:
+        if pitch.octave < 0 or {self.altered.get(here, by_key), self.last.get(pitch.letter, by_key)} != {pitch.alter}:
             sign = _SIGNS[pitch.alter]
-            self.altered[here] = self.last[pitch.step] = pitch.alter
-        return sign + letter(pitch.step, pitch.octave)
+            self.altered[here] = self.last[pitch.letter] = pitch.alter
+        return sign + letter(pitch.letter, pitch.octave)
 
 
 def _beat(place: int, bar: Bar) -> int:
@@ -162,7 +162,8 @@ def abc_of(piece: Piece) -> str:
 def _head(piece: Piece, fifths: int, numbers: Sequence[range]) -> Iterator[str]:
     first = next((bar for bar in piece.bars if bar.number == 1), piece.bars[0])
     tempo = next(mark.tempo for mark in piece.marks.tempos if mark.place == 0 and mark.tempo)
-    yield from ("%abc-2.1", f"% {MADE_BY.decode()}", "%%continueall 1", "%%indent 50", "X:1", f"T:{_plain(piece.titles.title)}")
+    yield from ("%abc-2.1", f"% {MADE_BY.decode()}", "%%continueall 1", "%%indent 50", "X:1")
+    yield f"T:{_plain(piece.titles.title)}"
     if piece.titles.composer:
         yield f"C:{_plain(piece.titles.composer)}"
     yield from ("%%propagate-accidentals octave", f"M:{first.beats}/{first.unit}", "L:1/8",

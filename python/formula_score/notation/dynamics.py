@@ -7,7 +7,9 @@ from typing import NamedTuple, Sequence
 
 from ..making.expected import DEFAULT_VELOCITY
 from ..making.midi import DYNAMICS
+from .places import MOST_ENDINGS, Bar
 from .sheet import Part
+from .touch import breaks_of
 
 _FEWEST, _LEAST, _STEP, _ACCENT = 4, 12, 12, 20
 _Row = tuple[int, int]
@@ -69,23 +71,23 @@ class _Staff:
             at = max(last, at + 1)
 
 
-def dynamics_of(part: Part, repeats: Sequence[int]) -> Dynamics:
-    """The dynamics of a staff: of several voices the loudest counts. What comes behind a repeat sign says its own.
-
-    A staff that is struck as a score is that says nothing has none.
-    """
+def dynamics_of(part: Part, bars: Sequence[Bar]) -> Dynamics:
+    """The dynamics of a staff: of several voices the loudest counts. What comes behind a repeat sign says its own where
+    one comes to it in another; a staff that is struck as a score is that says nothing has none."""
     loudest: dict[int, int] = {}
     for voice in part.voices:
         for note in voice:
             loudest[note.begin] = max(loudest.get(note.begin, 0), note.velocity)
     if {*loudest.values()} == {DEFAULT_VELOCITY}:
         return Dynamics()
-    rows, staff, first = sorted(loudest.items()), _Staff(), 0
-    is_even = len({_level(velocity) for velocity in loudest.values()}) == 1
-    for place in [*repeats, rows[-1][0] + 1]:
-        until = bisect_left(rows, (place, 0))
-        staff.add(rows[first:until])
-        first = until
-        if not is_even:
+    rows, staff, repeats = sorted(loudest.items()), _Staff(), {bar.begin for bar in bars if bar.forward}
+    edges = [0, *breaks_of(bars), rows[-1][0] + 1]
+    passages = [rows[bisect_left(rows, (begin, 0)):bisect_left(rows, (end, 0))] for begin, end in zip(edges, edges[1:])]
+    levels = [{_level(velocity) for _, velocity in passage} for passage in passages]
+    for at, (begin, passage) in enumerate(zip(edges, passages)):
+        # one comes to a repeat from its last ending, and to an ending from what is before the first one
+        first, last = (at - 1, at + MOST_ENDINGS) if begin in repeats else (at - MOST_ENDINGS, at)
+        if len(set[str]().union(*levels[max(0, first):last + 1])) > 1:
             staff.level = ""
+        staff.add(passage)
     return Dynamics(tuple(staff.words), frozenset(staff.accents))

@@ -31,16 +31,7 @@ def written(walk: Played, meter: Meter, titles: Titles, path: str, source: str =
         save(path, WRITERS[suffix](piece).encode())
     else:
         drawn = f", {paper.printed(piece, path)}"
-    return f"{path}: {told(piece)}{drawn}; made by the companion, outside the proof{unsaid(piece)}"
-
-
-def told(piece: Piece) -> str:
-    """How long a piece is, on how many staves."""
-    staves = len(piece.sheet.parts)
-    return f"{counted(len(piece.bars), 'bar')}, {staves} {'staff' if staves == 1 else 'staves'}"
-
-
-def unsaid(piece: Piece) -> str:
-    """What notation does not say of a score."""
-    said = named(piece.sheet.unsaid)
-    return f"; not said in notation: {said}" if said else ""
+    staves, unsaid = len(piece.sheet.parts), named(piece.sheet.unsaid)
+    said = f"{counted(len(piece.bars), 'bar')}, {staves} {'staff' if staves == 1 else 'staves'}{drawn}"
+    left = f"; not said in notation: {unsaid}" if unsaid else ""
+    return f"{path}: {said}; made by the companion, outside the proof{left}"

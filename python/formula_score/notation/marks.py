@@ -6,6 +6,7 @@ from bisect import bisect_left, bisect_right
 from fractions import Fraction
 from typing import Iterator, NamedTuple, Optional, Sequence
 
+from ..exporter.axis import Axis
 from ..making.expected import outside
 from ..making.shapes import Part
 from ..reading.walk import Happening, Level, Played, parts_of
@@ -29,12 +30,12 @@ class Mark(NamedTuple):
 
 
 class Marks(NamedTuple):
-    """All marks, the places of pauses and breaths, and those pauses over which nothing sounds; each in rising order."""
+    """All marks in rising order, the places of pauses, too, of breaths, and of pauses over which nothing sounds."""
 
     tempos: tuple[Mark, ...]
     pauses: tuple[int, ...]
-    breaths: tuple[int, ...]
-    caesuras: tuple[int, ...] = ()
+    breaths: frozenset[int]
+    caesuras: frozenset[int] = frozenset()
 
     def hold(self, begin: int, end: int, is_end: bool, is_last: bool) -> str:
         """What a sign has: `fermata` where a pause holds it, `caesura` or `breath-mark` where one comes behind it.
@@ -46,27 +47,16 @@ class Marks(NamedTuple):
             return "fermata"
         if not is_end:
             return ""
-        return "caesura" if _has(self.caesuras, end) else "breath-mark" if _has(self.breaths, end) else ""
+        return "caesura" if end in self.caesuras else "breath-mark" if end in self.breaths else ""
 
 
-def _has(places: Sequence[int], place: int) -> bool:
-    at = bisect_left(places, place)
-    return at < len(places) and places[at] == place
-
-
-def _outermost(walk: Played) -> list[tuple[Level, list[Happening]]]:
+def _outermost(walk: Played) -> dict[Level, list[Happening]]:
     """The outermost warps one after another, with what is in them; of those side by side the one with most notes."""
-    inside: dict[Level, list[Happening]] = {}
+    inside: dict[Level, list[Happening]] = {level: [] for level in Axis(walk).sections}
     for happening in walk.happenings:
-        if happening.levels:
-            inside.setdefault(happening.levels[0], []).append(happening)
-    notes = {level: sum(len(happening.values) for happening in own) for level, own in inside.items()}
-    ends = {level: max(happening.end for happening in own) for level, own in inside.items()}
-    taken: list[Level] = []
-    for level in sorted(inside, key=lambda level: (-notes[level], level.written)):
-        if all(ends[level] <= other.written or ends[other] <= level.written for other in taken):
-            taken.append(level)
-    return [(level, inside[level]) for level in sorted(taken, key=lambda level: level.written)]
+        if happening.levels and happening.levels[0] in inside:
+            inside[happening.levels[0]].append(happening)
+    return inside
 
 
 def _rows(level: Level, happenings: Sequence[Happening]) -> list[tuple[int, int]]:
@@ -152,7 +142,7 @@ def marks_of(walk: Played, sheet: Sheet) -> Marks:
     found: list[Mark] = []
     pauses: list[int] = []
     breaths: list[int] = []
-    for level, happenings in _outermost(walk):
+    for level, happenings in _outermost(walk).items():
         own, parts = _OfLevel(_rows(level, happenings), walk.reading.whole), level.shape.parts
         found += own.marks(parts)
         pauses += own.holds(parts, "pause")
@@ -163,5 +153,4 @@ def marks_of(walk: Played, sheet: Sheet) -> Marks:
         if mark.tempo and (mark.is_printed or mark.place not in tempos or not tempos[mark.place].is_printed):
             tempos[mark.place] = mark
     return Marks(tuple(sorted([*words, *tempos.values()], key=lambda mark: (mark.place, mark.tempo is None))),
-                 tuple(sorted(pauses)), tuple(sorted(breaths)),
-                 tuple(_silent(sheet, sorted(pauses))))
+                 tuple(sorted(pauses)), frozenset(breaths), frozenset(_silent(sheet, pauses)))

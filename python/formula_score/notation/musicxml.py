@@ -4,7 +4,7 @@ from __future__ import annotations
 
 from functools import reduce
 from math import gcd
-from typing import Iterator, Optional
+from typing import Iterator, Optional, Union
 from xml.sax.saxutils import escape
 
 from ..reading.midi_file import MADE_BY
@@ -17,7 +17,7 @@ from .repeats import folded
 from .rhythm import Value, values_of
 from .sheet import Part
 from .spelling import clef_of, fifths_of
-from .touch import breaks_of, slurs_of
+from .touch import slurs_of
 from .xml_notes import Notes
 
 _CLEFS = {"treble": ("G", 2), "bass": ("F", 4), "percussion": ("percussion", 2)}
@@ -29,11 +29,6 @@ _WEDGES = {"<(": "crescendo", ">(": "diminuendo", "<)": "stop", ">)": "stop"}
 _BAR = "heavy-light", "light-heavy"
 #: Of a bar the signs of each voice.
 _Bars = list[list[list[Value]]]
-
-
-def _decimal(number: float) -> str:
-    """A number with at most four digits behind the point."""
-    return f"{number:.4f}".rstrip("0").rstrip(".")
 
 
 def musicxml_of(piece: Piece) -> str:
@@ -83,16 +78,15 @@ class _Staff:
 
     def __init__(self, piece: Piece, number: int, part: Part, fifths: int, unit: int):
         self.piece, self.number, self.part, self.fifths, self.unit = piece, number, part, fifths, unit
-        dynamics = dynamics_of(part, breaks_of(piece.bars))
+        dynamics = dynamics_of(part, piece.bars)
         slurs = [slurs_of(voice, piece.bars) for voice in part.voices]
         self.notes = Notes(piece, number, part, fifths, unit, dynamics.accents, slurs)
         #: what is above and below the staff, the first one last: where, what is printed, and what is heard
-        waiting = [(loudness.place, _loudness(loudness), "") for loudness in dynamics.words]
-        if number == 1:
-            waiting = [*(row for mark in piece.marks.tempos for row in _tempo(mark)), *waiting, *(
-                (bar.begin, _times(bar.backward), "") for bar in piece.bars if bar.backward > 2 and not bar.closes)]
-        self.waiting = sorted(waiting, key=lambda row: row[0])
-        self.waiting.reverse()
+        waiting = [row for mark in piece.marks.tempos for row in _tempo(mark)] if number == 1 else []
+        waiting += [(loudness.place, _loudness(loudness), "") for loudness in dynamics.words]
+        waiting += [(bar.begin, _direction("above", f"<words>{bar.backward}x</words>"), "") for bar in piece.bars
+                    if number == 1 and bar.backward > 2 and not bar.closes]
+        self.waiting = sorted(waiting, key=lambda row: row[0])[::-1]
 
     def lines(self, bars: _Bars) -> Iterator[str]:
         """The part."""
@@ -127,24 +121,35 @@ class _Staff:
         """The voices one after another; from the second on one that is silent is not printed."""
         length = (bar.end - bar.begin) // self.unit
         self.notes.begin_bar(voices)
+        self.late: list[tuple[int, str]] = []
         for number, values in enumerate(voices, 1):
             if number > 1 and values:
                 yield f"<backup><duration>{length}</duration></backup>"
             if number == 1 and not values:
-                yield from self._pending(bar.begin, bar.end)
+                yield from self._pending(bar, bar)
                 yield f'<note><rest measure="yes"/><duration>{length}</duration><voice>1</voice></note>'
             for value in values:
                 if number == 1:
-                    yield from self._pending(value.begin, value.end)
+                    yield from self._pending(bar, value)
                 yield from self.notes.value(number, value)
+        at = length
+        for late, direction in [*self.late, (length, "")] if self.late else []:
+            if late != at:
+                way = "backup" if late < at else "forward"
+                yield f"<{way}><duration>{abs(late - at)}</duration></{way}>"
+            yield from filter(None, [direction])
+            at = late
 
-    def _pending(self, begin: int, end: int) -> Iterator[str]:
-        """What stands before the end of a sign, each behind its beginning by an offset."""
-        while self.waiting and self.waiting[-1][0] < end:
+    def _pending(self, bar: Bar, value: Union[Bar, Value]) -> Iterator[str]:
+        """What stands before the end of a sign; what stands inside it comes behind all voices, since MuseScore hears an
+        offset at the beginning of the sign."""
+        while self.waiting and self.waiting[-1][0] < value.end:
             place, printed, sound = self.waiting.pop()
-            late = round((place - begin) / self.unit)
-            offset = f'<offset sound="yes">{late}</offset>' if late > 0 else ""
-            yield printed.replace("</direction>", f"{offset}{sound}</direction>")
+            direction = printed.replace("</direction>", f"{sound}</direction>")
+            if place > value.begin:
+                self.late.append((round((place - bar.begin) / self.unit), direction))
+            else:
+                yield direction
 
 
 def _left(bar: Bar) -> str:
@@ -170,10 +175,6 @@ def _direction(where: str, inside: str) -> str:
     return f'<direction placement="{where}"><direction-type>{inside}</direction-type></direction>'
 
 
-def _times(times: int) -> str:
-    return _direction("above", f"<words>{times}x</words>")
-
-
 def _tempo(mark: Mark) -> Iterator[tuple[int, str, str]]:
     """Where something is printed of a tempo, what, and what is heard; a word has dashes to the end of its slope."""
     if mark.word:
@@ -182,13 +183,9 @@ def _tempo(mark: Mark) -> Iterator[tuple[int, str, str]]:
         yield mark.until - 1, _direction("above", '<dashes type="stop" number="1"/>'), ""
         return
     assert mark.tempo is not None
-    sound = f'<sound tempo="{_decimal(float(mark.tempo))}"/>'
-    if mark.is_printed:
-        tempo = _decimal(round(mark.tempo * 10) / 10)
-        said = f"<beat-unit>quarter</beat-unit><per-minute>{tempo}</per-minute>"
-        yield mark.place, _direction("above", f"<metronome>{said}</metronome>"), sound
-    else:
-        yield mark.place, _direction("above", "<words>&#160;</words>"), sound
+    said = f"<beat-unit>quarter</beat-unit><per-minute>{round(mark.tempo * 10) / 10:g}</per-minute>"
+    shown = f"<metronome>{said}</metronome>" if mark.is_printed else "<words>&#160;</words>"
+    yield mark.place, _direction("above", shown), f'<sound tempo="{float(mark.tempo):.7g}"/>'
 
 
 def _loudness(loudness: Loudness) -> str:

@@ -18,6 +18,13 @@ from .piece import Piece
 SUFFIXES = ".pdf", ".svg"
 _SECONDS = 1200
 _BEGINS = {".pdf": b"%PDF", ".svg": b"<"}
+#: The ways to draw, by suffixes: the file that is drawn, who writes it, and the commands.
+_WAYS = {
+    ".pdf": (("in.musicxml", musicxml_of, (("musescore3", "-o", "out.pdf", "in.musicxml"),)),
+             ("in.abc", abc_of, (("abcm2ps", "-O", "out.ps", "in.abc"), ("ps2pdf", "out.ps", "out.pdf")))),
+    ".svg": (("in.musicxml", musicxml_of, (("musescore3", "-o", "out.svg", "in.musicxml"),)),
+             ("in.abc", abc_of, (("abcm2ps", "-v", "-O", "out.svg", "in.abc"),))),
+}
 
 
 def run(folder: str, *words: str) -> str:
@@ -32,37 +39,23 @@ def run(folder: str, *words: str) -> str:
     return done.stdout.decode("utf-8", "replace")
 
 
-def _by_musescore(piece: Piece, folder: str, suffix: str) -> str:
-    pathlib.Path(folder, "score.musicxml").write_text(musicxml_of(piece), encoding="utf-8")
-    return run(folder, "musescore3", "-o", f"out{suffix}", "score.musicxml")
-
-
-def _by_abcm2ps(piece: Piece, folder: str, suffix: str) -> str:
-    pathlib.Path(folder, "in.abc").write_text(abc_of(piece), encoding="utf-8")
-    if suffix == ".svg":
-        return run(folder, "abcm2ps", "-v", "-O", "out.svg", "in.abc")
-    said = run(folder, "abcm2ps", "-O", "out.ps", "in.abc")
-    return said + run(folder, "ps2pdf", "out.ps", "out.pdf")
-
-
 def printed(piece: Piece, path: str) -> str:
     """Draws a piece into a file; further pages of SVG have names that end in -2, -3. Says which program drew it."""
     suffix = pathlib.PurePath(path).suffix.lower()
-    ways = {"musescore3": (_by_musescore, ("musescore3",)),
-            "abcm2ps": (_by_abcm2ps, ("abcm2ps", "ps2pdf") if suffix == ".pdf" else ("abcm2ps",))}
-    for name, (draw, programs) in ways.items():
-        if all(map(shutil.which, programs)):
-            with tempfile.TemporaryDirectory() as folder:
-                said = draw(piece, folder, suffix)
-                pages = [page.read_bytes() for page in sorted(pathlib.Path(folder).glob(f"out*{suffix}"), key=_number)]
+    for source, written, commands in _WAYS[suffix]:
+        if all(shutil.which(command[0]) for command in commands):
             break
     else:
         raise Failed(1, f"nothing here draws notes: {install_line(names('notation'))}, or {install_line(names('abc'))}")
+    with tempfile.TemporaryDirectory() as folder:
+        pathlib.Path(folder, source).write_text(written(piece), encoding="utf-8")
+        said = "".join(run(folder, *command) for command in commands)
+        pages = [page.read_bytes() for page in sorted(pathlib.Path(folder).glob(f"out*{suffix}"), key=_number)]
     if not pages or not all(page.lstrip().startswith(_BEGINS[suffix]) for page in pages):
-        raise Failed(1, f"{name} drew nothing: {said.strip()[-300:]}")
+        raise Failed(1, f"{commands[0][0]} drew nothing: {said.strip()[-300:]}")
     for number, page in enumerate(pages, 1):
         save(path if number == 1 else f"{path[:-len(suffix)]}-{number}{path[-len(suffix):]}", page)
-    return f"drawn by {name}" + (f", {len(pages)} pages" if len(pages) > 1 else "")
+    return f"drawn by {commands[0][0]}" + (f", {len(pages)} pages" if len(pages) > 1 else "")
 
 
 def _number(path: pathlib.Path) -> int:

@@ -6,10 +6,9 @@ from collections import defaultdict
 from typing import Iterator, NamedTuple, Optional
 
 from ..making.midi import INSTRUMENTS
-from ..reading.branches import Titles, branches, phrase_of, said_of
+from ..reading.branches import Titles, called
 from ..reading.meter import Meter
 from ..reading.playing import Failed
-from ..reading.tree import Statement
 from ..reading.walk import Place, Played
 from .marks import Marks, marks_of
 from .places import WHOLE, Bar, bars_of
@@ -40,8 +39,8 @@ def piece_of(walk: Played, meter: Meter, titles: Titles) -> Piece:
              for part in sheet.parts)
     sheet = sheet._replace(parts=tuple(part for part in parts if part.voices))
     _count_moved(sheet, before, walk.reading.whole)
-    return Piece(sheet, tuple(bars), marks_of(walk, sheet), tuple(_loops(walk)), tuple(map(_shown, _names(walk, sheet))),
-                 Titles(*map(_shown, titles)))
+    names = tuple(map(_shown, _names(walk, sheet)))
+    return Piece(sheet, tuple(bars), marks_of(walk, sheet), tuple(_loops(walk)), names, Titles(*map(_shown, titles)))
 
 
 def _shown(text: str) -> str:
@@ -85,15 +84,10 @@ def _names(walk: Played, sheet: Sheet) -> list[str]:
     said: dict[int, tuple[str, str]] = {}
     for happening in walk.happenings:
         if happening.statement.word in ("note", "play") and happening.channel not in said:
-            comment, phrase = "", phrase_of(walk.reading.statements)
-            for place in list(branches(walk.begun[happening.process].place))[-1:]:
-                assert isinstance(place.node, Statement)
-                block = place.node.blocks[place.number]
-                comment, phrase = said_of(walk.reading, block), phrase_of(block.statements)
-            said[happening.channel] = comment, phrase.replace("_", " ")
+            said[happening.channel] = called(walk, happening.process)[1:]
     found = []
     for part in sheet.parts:
         comment, phrase = said[part.channel]
         instrument = "drums" if part.is_drums else INSTRUMENTS[part.program] if part.program is not None else ""
-        found.append(comment or instrument or phrase or f"channel {part.channel}")
+        found.append(comment or instrument or phrase.replace("_", " ") or f"channel {part.channel}")
     return found

@@ -12,6 +12,7 @@ from ..reading.playing import Failed
 #: The parts of a whole note in which all places are counted; each printed value is a whole number of them.
 WHOLE = 2 ** 10 * 315
 MOST_BARS = 10_000
+MOST_ENDINGS = 3
 #: Into how many parts of a span notes may fall, beside halves; and how short its plain parts may be.
 _ODD_PARTS = (3, 5, 7, 9)
 _SHORTEST, _SHORTEST_OF_ODD = 128, 64

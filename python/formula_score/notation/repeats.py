@@ -14,10 +14,10 @@ from typing import Iterator, NamedTuple, Optional, Sequence
 
 from .marks import Mark, Marks
 from .piece import Piece
-from .places import Bar
+from .places import MOST_ENDINGS, Bar
 from .sheet import Sheet
 
-_MOST_ENDINGS, _MOST_ROUNDS = 3, 10_000
+_MOST_ROUNDS = 10_000
 
 
 class Fold(NamedTuple):
@@ -60,7 +60,7 @@ class _Content:
         self.crossed: set[int] = set()
         self._add_notes(sheet)
         for kind, places in (("pause", marks.pauses), ("breath", marks.breaths)):
-            for place in places:
+            for place in sorted(places):
                 at = max(0, bisect_left(self.begins, place) - 1)
                 self.rows[at].append((kind, place - self.begins[at]))
         #: the tempo from the first place of each bar on, at its end, and whether it is said there
@@ -107,7 +107,7 @@ class _Content:
         endings = tuple(tuple(number for number, _ in group) for _, group in groupby(
             enumerate(several, 1), lambda row: row[1][shared:])) if shared < bars else ()
         found = Fold(first, bars, rounds, shared, endings)
-        is_short = found.saved > 0 and 2 * shared >= bars and len(endings) <= _MOST_ENDINGS
+        is_short = found.saved > 0 and 2 * shared >= bars and len(endings) <= MOST_ENDINGS
         is_crossed = found.behind in self.crossed or any({head, head + shared} & self.crossed for head in heads)
         is_played = bool(endings) or rounds <= most
         return found if is_short and is_played and not is_crossed and self._tempo_returns(found) else None
@@ -178,8 +178,10 @@ def _moved(piece: Piece, paper: _Folded) -> Piece:
         parts.append(part._replace(voices=tuple(filter(None, voices))))
     tempos = tuple(mark._replace(place=mark.place + shift, until=mark.until + shift) for mark in marks.tempos
                    for shift in [paper.shift(mark.place)] if shift is not None)
-    holds = (tuple(place + shift for place in places for shift in [paper.shift(place, True)] if shift is not None)
-             for places in (marks.pauses, marks.breaths, marks.caesuras))
+    pauses, breaths, caesuras = (
+        [place + shift for place in places for shift in [paper.shift(place, True)] if shift is not None]
+        for places in (marks.pauses, marks.breaths, marks.caesuras))
     left = piece.bars[-1].end - piece.sheet.end
     sheet = piece.sheet._replace(parts=tuple(parts), end=paper.bars[-1].end - left)
-    return piece._replace(sheet=sheet, bars=tuple(paper.bars), marks=Marks(tempos, *holds))
+    return piece._replace(sheet=sheet, bars=tuple(paper.bars), marks=Marks(
+        tempos, tuple(pauses), frozenset(breaths), frozenset(caesuras)))

@@ -7,7 +7,7 @@ from typing import Iterator, NamedTuple, Optional
 
 from .marks import bars_of
 from .tree import Block, Reading, Statement
-from .walk import Place
+from .walk import Place, Played
 
 #: A comment that speaks of the whole piece names no branch.
 _OF_WHOLE = re.compile(r"(title|composer)\s*:", re.IGNORECASE)
@@ -37,6 +37,16 @@ def said_of(reading: Reading, block: Block) -> str:
         if not comment.alone and comment.line == block.head.line and bars_of(comment) is None:
             return comment.text
     return ""
+
+
+def called(walk: Played, process: int) -> tuple[Optional[int], str, str]:
+    """Of the outermost branch that a process is in its number, the comment that names it, and its first phrase; of what
+    is in none the first phrase of all."""
+    for place in list(branches(walk.begun[process].place))[-1:]:
+        assert isinstance(place.node, Statement)
+        block = place.node.blocks[place.number]
+        return place.number, said_of(walk.reading, block), phrase_of(block.statements)
+    return None, "", phrase_of(walk.reading.statements)
 
 
 def titles_of(reading: Reading, title: Optional[str] = None, composer: Optional[str] = None) -> Titles:

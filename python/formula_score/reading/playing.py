@@ -128,13 +128,13 @@ def listing_of_file(path: str, refused: Optional[int] = None) -> Listing:
             return listed(file)
 
 
-def listing_of(text: bytes, options: Sequence[str] = ()) -> Listing:
+def listing_of(text: bytes, options: Sequence[str] = (), refused: Optional[int] = None) -> Listing:
     """The listing of what a text plays."""
     with tempfile.TemporaryDirectory() as folder:
         source, target = os.path.join(folder, "in.score"), os.path.join(folder, "out.mid")
         with open(source, "wb") as file:
             file.write(text)
-        needs(run(source, target, "--workers", "0", *options))
+        needs(run(source, target, "--workers", "0", *options), refused)
         return listing_of_file(target)
 
 

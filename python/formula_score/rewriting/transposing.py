@@ -1,24 +1,17 @@
-"""The text of a score with its written pitches moved by semitones, spelled by the new key; all else stays byte by byte.
-
-A spelling is its place on the line of fifths: F -1, C 0, G 1 .. B 5, F sharp 6, B flat -2. A key is that of its major.
-"""
+"""The text of a score with its written pitches moved by semitones, spelled by the new key; all else stays byte by byte."""
 
 from __future__ import annotations
 
-from collections import Counter
 from typing import Iterator, NamedTuple, Optional
 
 from ..making.midi import DRUM_CHANNEL
 from ..making.pitch import Pitch
+from ..making.spelling import FLATTEST, SHARPEST, name_of, place_of, signature_of
 from ..reading.marks import Finding
 from ..reading.tree import Expression, Phrase, Reading, Statement, Token
 
-_LETTERS = "fcgdaeb"
-_DEGREES = {"c": 0, "d": 2, "e": 4, "f": 5, "g": 7, "a": 9, "b": 11}
 #: How far left and right of its key a spelling may lie on the line of fifths; further out another name is nearer.
 _LEFT, _RIGHT = -6, 10
-#: The spellings that have a name: with one flat to one sharp.
-_FLATTEST, _SHARPEST = -8, 12
 
 
 class Transposed(NamedTuple):
@@ -45,42 +38,13 @@ class _Written(NamedTuple):
     key: Optional[int]
 
 
-def fifths(name: str) -> int:
-    """Where the name of a pitch lies on the line of fifths."""
-    return _LETTERS.index(name[0]) - 1 + 7 * (name[1] == "s") - 7 * (name[1] == "b" and len(name) == 3)
-
-
-def key_of(names: list[str]) -> int:
-    """The key of some pitches: that in which most of them lie, of several the one in which they lie as they are
-    written, and then the one with fewest accidentals."""
-    places = Counter(map(fifths, names))
-
-    def outside(key: int) -> int:
-        within = {(key + step) % 12 for step in range(-1, 6)}
-        return sum(count for place, count in places.items() if place % 12 not in within)
-
-    def otherwise(key: int) -> int:
-        return sum(count for place, count in places.items() if not key - 1 <= place <= key + 5)
-
-    return min(range(-6, 7), key=lambda key: (outside(key), otherwise(key), abs(key)))
-
-
 def _near(place: int, key: int) -> int:
     """A spelling of the same key of the keyboard that is usual in a key, and has a name."""
-    while place > min(key + _RIGHT, _SHARPEST):
+    while place > min(key + _RIGHT, SHARPEST):
         place -= 12
-    while place < max(key + _LEFT, _FLATTEST):
+    while place < max(key + _LEFT, FLATTEST):
         place += 12
     return place
-
-
-def spelled(key: int, place: int) -> str:
-    """The name of a key of MIDI by its place on the line of fifths; `key 3` where it has none."""
-    letter, signs = _LETTERS[(place + 1) % 7], (place + 1) // 7
-    octave, degree = divmod(key - signs - _DEGREES[letter], 12)
-    if degree or not 1 <= octave <= 10:
-        return str(Pitch(key))
-    return f"{letter}{'s' if signs > 0 else 'b' if signs < 0 else ''}{octave - 1}"
 
 
 def transposed(reading: Reading, semitones: int, only: Optional[str] = None) -> Transposed:
@@ -91,7 +55,7 @@ def transposed(reading: Reading, semitones: int, only: Optional[str] = None) -> 
     moved = [(statement, written) for statement in reading.every_statement() if first <= statement.first.start < last
              and _moves(statement, heard) for written in _pitches(reading, statement)]
     names = [written.first.text for _, written in moved if written.first.text != "key"]
-    old = key_of(names)
+    old = signature_of(names)
     keys = (old + 7 * semitones + 12 * turn for turn in range(-90, 91))
     new = min(keys, key=lambda key: (abs(key), (key > 0) != (old > 0)))
     pieces, behind, left = [], 0, []
@@ -110,7 +74,7 @@ def transposed(reading: Reading, semitones: int, only: Optional[str] = None) -> 
 def _moved(token: Token, key: int, old: int, new: int) -> str:
     if token.text == "key":
         return f"key {key}"
-    return spelled(key, _near(_near(fifths(token.text), old) + new - old, new))
+    return name_of(key, _near(_near(place_of(token.text), old) + new - old, new))
 
 
 def _pitches(reading: Reading, statement: Statement) -> Iterator[_Written]:
