@@ -90,8 +90,8 @@ class Lint(unittest.TestCase):
                    "starts again with note 6")
         self.finds(f"loud [60, 70] {{ par {{ branch {{ {notes} }} branch {{ channel 1 {{ note c4 1/4; }} }} }} }}",
                    "2:1", "its passage 1 note,")
-        self.assertEqual(self.found(f"loud [100, 60] {{ {notes} volume 5 {{ note c4 1/4; }} }}"
-                                    f"artic [50, 60, 70] {{ {notes} }} loud [1, 2, 3] {{ rest 1/1; }}"
+        self.assertEqual(self.found(f"loud [100, 60] {{ {notes} volume 50 {{ note c4 1/4; }} }}"
+                                    f"artic [50, 60, 70] {{ {notes} }} "
                                     f"loud [100, 60, 60, 60] {{ repeat 3 {{ {notes} }} }}"), [])
 
     def test_a_shape_that_is_shorter_than_its_block(self) -> None:

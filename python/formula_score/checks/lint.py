@@ -28,8 +28,8 @@ def findings(reading: Reading, most: Optional[int] = None) -> list[Found]:
     Shapes(finds).look()
     SaidTempos(finds).look()
     walk = Looking(reading, most)
-    walk.looks = [look(walk, finds) for look in (Lists, Branches, Drums, Levels, Tempos, Channels, Keys, Comparisons,
-                                                 Clamped, Registers, Stores, Draws)]
+    walk.take([look(walk, finds) for look in (Lists, Branches, Drums, Levels, Tempos, Channels, Keys, Comparisons,
+                                                 Clamped, Registers, Stores, Draws)])
     alone = dict(finds.found)
     try:
         walk.run()

@@ -3,7 +3,7 @@
 from __future__ import annotations
 
 from bisect import bisect_left
-from typing import Optional, Sequence, Union
+from typing import Callable, Optional, Sequence, Union
 
 from ..reading.tree import Amount, Block, Expression, Length, Phrase, Reading, Statement, Token
 from ..reading.walk import Entries, Happening, Place, Walk
@@ -94,21 +94,29 @@ class Looking(Walk):
         super().__init__(reading)
         self.left = most
         self.looks: list[Look] = []
+        self.listening: dict[str, list[Callable[..., None]]] = {}
         self.current: Optional[Statement] = None
         self.counts: list[int] = []
         self.count = 0
 
+    def take(self, looks: list[Look]) -> None:
+        """The looks that go along, each told what it listens to."""
+        self.looks = looks
+        for name in ("statement", "closed", "emptied", "value", "amount"):
+            self.listening[name] = [getattr(look, name) for look in looks
+                                    if getattr(type(look), name) is not getattr(Look, name)]
+
     def statement(self, happening: Happening) -> None:
-        for look in self.looks:
-            look.statement(happening)
+        for tell in self.listening["statement"]:
+            tell(happening)
 
     def closed(self, place: Place, end: int) -> None:
-        for look in self.looks:
-            look.closed(place, end)
+        for tell in self.listening["closed"]:
+            tell(place, end)
 
     def emptied(self, entries: Entries, process: int) -> None:
-        for look in self.looks:
-            look.emptied(entries, process)
+        for tell in self.listening["emptied"]:
+            tell(entries, process)
 
     def process_ended(self, number: int) -> None:
         for look in self.looks:
@@ -135,14 +143,14 @@ class Looking(Walk):
     def _value(self, of: Expression) -> int:
         value = super()._value(of)
         if of.of in ("r", "less", "same"):
-            for look in self.looks:
-                look.value(of, value)
+            for tell in self.listening["value"]:
+                tell(of, value)
         return value
 
     def _amount(self, amount: Amount, low: int, high: int) -> int:
         if not isinstance(amount, Expression):
             return amount
         value = self._value(amount)
-        for look in self.looks:
-            look.amount(amount, value, low, high)
+        for tell in self.listening["amount"]:
+            tell(amount, value, low, high)
         return low if value < low else high if value > high else value

@@ -15,6 +15,7 @@ from .looking import Finds
 _RISES = re.compile(r"(?<!de)cresc|swell|louder", re.IGNORECASE)
 _FALLS = re.compile(r"dim(in)?(\b|_|u)|decresc|softer|fade", re.IGNORECASE)
 _STATEMENT = re.compile(r"\b(note|play|rest|do|control|bend|program)\s[^;#{}]*;")
+_REGISTERS = {f"r{number}" for number in range(8)}
 #: Ticks of usual lengths, of which a quarter note has 480.
 _TICKS_OF_480 = (60, 80, 120, 160, 180, 240, 320, 360, 480, 720, 960, 1440, 1920)
 #: What of an instrument's name says too little.
@@ -51,9 +52,10 @@ class Plain:
     # ---- names
 
     def _sharps(self) -> None:
-        pitches = {token.text[:-1] for token in self.tokens if re.fullmatch(r"[a-g]s[0-9]", token.text)}
+        pitches = {token.text[:-1] for token in self.tokens
+                   if token.text[1:2] == "s" and re.fullmatch(r"[a-g]s[0-9]", token.text)}
         for token in self.tokens:
-            named = re.fullmatch(r"([ea])s([0-9])", token.text)
+            named = re.fullmatch(r"([ea])s([0-9])", token.text) if token.text[1:2] == "s" else None
             if not named:
                 continue
             letter, octave = named.groups()
@@ -106,9 +108,9 @@ class Plain:
 
     def _registers(self) -> None:
         pairs = list(zip(self.tokens, self.tokens[1:]))
-        setting = {token.text for before, token in pairs if before.text == "set"}
+        setting: set[str] = {token.text for before, token in pairs if before.text == "set"}
         for token in reversed(self.tokens):
-            if re.fullmatch("r[0-7]", token.text) and token.text not in setting:
+            if token.text in _REGISTERS - setting:
                 self.finds.find("register-never-set", token, f"`{token.text}` is read and never set, so it is 0")
 
     def _seed(self) -> None:

@@ -3,6 +3,7 @@
 from __future__ import annotations
 
 import re
+from bisect import bisect_left
 from typing import NamedTuple, Optional
 
 from ..reading.tree import Expression, Phrase, Statement
@@ -94,9 +95,9 @@ class Draws(Look):
     def __init__(self, walk: Looking, finds: Finds):
         super().__init__(walk, finds)
         self.branches: dict[str, dict[int, Statement]] = {}     # by each phrase that draws the branches that play it
-        self.drawing = {name for name, phrase in self.reading.phrases.items() if any(
-            token.text == "pick" for token in self.reading.tokens
-            if phrase.block.opened.start < token.start < phrase.block.closed.start)}
+        draws = [token.start for token in self.reading.tokens if token.text == "pick"]
+        self.drawing = {name for name, phrase in self.reading.phrases.items()
+                        if bisect_left(draws, phrase.block.opened.start) < bisect_left(draws, phrase.block.closed.start)}
         self.is_said = any(_SAME_VOICES.search(comment.text) for comment in self.reading.comments)
 
     def statement(self, happening: Happening) -> None:
