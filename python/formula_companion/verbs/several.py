@@ -4,16 +4,18 @@ from __future__ import annotations
 
 import argparse
 import os
-from typing import Iterator
+from typing import Any, Iterator
 
 from formula_score.checks.finding import REMARK, WARNING, Found
+from formula_score.making.values import plain
 from formula_score.reading.playing import Failed, counted, judge
+from .options import failure, put
 
 
 def several_arguments(parser: argparse.ArgumentParser) -> None:
     """The scores that the verb takes."""
-    parser.add_argument("scores", nargs="+", metavar="SCORE", help="the text of a score, or a folder: all files in it and "
-                        "below it whose names end in .score")
+    parser.add_argument("scores", nargs="+", metavar="SCORE", help="the text of a score, or a folder: all files in it "
+                        "and below it whose names end in .score")
 
 
 def _files(path: str) -> Iterator[str]:
@@ -26,13 +28,14 @@ def _files(path: str) -> Iterator[str]:
 
 
 class Several:
-    """Scores one after another, and how many of each kind was found in all."""
+    """Scores one after another, and what was found in all; as lines, or at the end as JSON."""
 
-    def __init__(self, paths: list[str]):
+    def __init__(self, paths: list[str], as_json: bool):
         self.is_one = len(paths) == 1 and not os.path.isdir(paths[0])
         self.paths = [file for path in paths for file in _files(path)]
-        self.counts = {WARNING: 0, REMARK: 0}
-        self.refused = 0
+        self.as_json = as_json
+        self.found: list[tuple[str, Found]] = []
+        self.refused: list[dict[str, Any]] = []
 
     def texts(self) -> Iterator[tuple[str, bytes]]:
         """Each score that is accepted; of several a refused one is told and counted."""
@@ -42,20 +45,26 @@ class Several:
             except Failed as failed:
                 if self.is_one or failed.status > 2:
                     raise
-                self.refused += 1
-                print(f"{path}: {failed.said or failed.why}")
+                self.refused.append({"path": path, **failure(failed, path)})
+                if not self.as_json:
+                    print(f"{plain(path)}: {failed.said or failed.why}")
                 continue
             yield path, text
 
     def tell(self, path: str, found: Found) -> None:
         """Prints what was found."""
-        self.counts[found.severity] += 1
-        print(f"{path}:{found.line}:{found.column}: {found.severity}: {found.what} [{found.rule}]")
+        self.found.append((path, found))
+        if not self.as_json:
+            print(f"{plain(path)}:{found.line}:{found.column}: {found.severity}: {found.what} [{found.rule}]")
 
-    def end(self) -> int:
+    def end(self, **more: object) -> int:
         """Prints the sum, and gives the status: 1 where something is refused or warned of."""
-        words = [counted(self.counts[kind], kind) for kind in (WARNING, REMARK)]
-        if self.refused:
-            words.append(f"{self.refused} refused")
-        print(f"{counted(len(self.paths), 'score')}: {', '.join(words)}")
-        return 1 if self.refused or self.counts[WARNING] else 0
+        counts = {kind: sum(found.severity == kind for _, found in self.found) for kind in (WARNING, REMARK)}
+        if self.as_json:
+            put({**more, "findings": [{"path": path, **found._asdict(), "edits": [edit._asdict() for edit in found.edits]}
+                                      for path, found in self.found], "refused": self.refused, "scores": len(self.paths)})
+        else:
+            words = [counted(count, kind) for kind, count in counts.items()]
+            words += [f"{len(self.refused)} refused"] if self.refused else []
+            print(f"{counted(len(self.paths), 'score')}: {', '.join(words)}")
+        return 1 if self.refused or counts[WARNING] else 0
