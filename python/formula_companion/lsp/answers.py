@@ -2,8 +2,10 @@
 
 from __future__ import annotations
 
-from typing import Any, Iterator, Optional
+import re
+from typing import Any, Iterator, Optional, Sequence
 
+from formula_score.checks.finding import WARNING, Found
 from formula_score.language.tokens import kind_of
 from formula_score.reading.reader import read
 from formula_score.rewriting.layout import formatted
@@ -18,7 +20,7 @@ from ..editing.short_notes import written
 #: The numbers of LSP for kinds of symbols and of completions, and for how bad a diagnostic is.
 _SYMBOLS = {"phrase": 12, "shape": 13, "branch": 3}
 _KEYWORD, _VALUE, _REFERENCE = 14, 12, 18
-_ERROR = 1
+_ERROR, _WARNING, _HINT = 1, 2, 4
 _REWRITE = "refactor.rewrite"
 
 Value = dict[str, Any]
@@ -44,12 +46,25 @@ class Text:
         """A range of LSP, of bytes."""
         return _range(self.places.range(start, end))
 
-    def diagnostics(self, refusal: Optional[Refusal]) -> Value:
-        """What is published of a text: its refusal, or nothing."""
+    def diagnostics(self, refusal: Optional[Refusal], others: Sequence[Found] = ()) -> Value:
+        """What is published of a text: its refusal, or what lint finds."""
         found = [] if refusal is None else [{
             "range": _range(refusal.range), "severity": _ERROR, "code": refusal.number, "source": "formula",
             "message": f"{refusal.heading}\n{refusal.cure}".strip()}]
-        return {"uri": self.uri, "version": self.version, "diagnostics": found}
+        return {"uri": self.uri, "version": self.version, "diagnostics": [*found, *map(self._of_lint, others)]}
+
+    def _of_lint(self, found: Found) -> Value:
+        start = self.places.byte_of(found.line, found.column)
+        word = re.compile(rb"\S[\w]*").match(self.data, start)
+        return {"range": self.range(start, word.end() if word else start), "code": found.rule, "source": "lint",
+                "severity": _WARNING if found.severity == WARNING else _HINT, "message": found.what}
+
+    def changes(self, line: int, others: Sequence[Found]) -> list[Value]:
+        """The changes of what lint finds on a line."""
+        return [{"title": f"change what {found.rule} finds", "kind": "quickfix", "diagnostics": [self._of_lint(found)],
+                 "edit": {"changes": {self.uri: [{"range": self.range(edit.start, edit.end), "newText": edit.new}
+                                                 for edit in found.edits]}}}
+                for found in others if found.edits and found.line == line + 1]
 
     def actions(self, line: int, refusal: Optional[Refusal]) -> list[Value]:
         """The changes that the cure of a refusal names, where it is on a line."""

@@ -7,14 +7,16 @@ import subprocess
 import threading
 from typing import Callable, Optional, Union
 
+from formula_score.checks.finding import Found
+from formula_score.checks.margin import problems
 from formula_score.explaining.explain import explanation, place_of
 from formula_score.reading.playing import Failed, program
 from formula_score.running.command import ends_with_this, environment
 from formula_score.running.outs import name_of, nameless
 from ..editing.refusal import Refusal, refused
 
-#: What is told of a text: its refusal, None where it has none.
-Told = Callable[[Optional[Refusal]], None]
+#: What is told of a text: its refusal, None where it has none, and what lint finds where it is accepted.
+Told = Callable[[Optional[Refusal], list[Found]], None]
 
 
 class Judge:
@@ -55,18 +57,19 @@ class Judge:
                         pass_fds=[source.fileno()])
                 except (OSError, ValueError) as error:
                     self.fails(f"{self.program} cannot be run, so nothing is judged: {error}")
-                    answer(None)
+                    answer(None, [])
                     return
             said = run.communicate()[0].decode("utf-8", "replace").strip()
         place = place_of(said)
         refusal = refused(text, place) if place else None
+        found = problems(text) if run.returncode == 0 else []
         with self._lock:
             if number != self._number:
                 return
             if run.returncode != 0 and refusal is None:
                 why = explanation(run.returncode, said, ["--", "score", os.devnull]) or said
                 self.fails(f"the program has not judged the text: {why or f'status {run.returncode}'}")
-            answer(refusal)
+            answer(refusal, found)
 
 
 def program_for_judging() -> Union[str, Failed]:

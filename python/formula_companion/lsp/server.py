@@ -12,6 +12,7 @@ from pylsp_jsonrpc.exceptions import JsonRpcInvalidParams
 from pylsp_jsonrpc.streams import JsonRpcStreamWriter
 
 from formula_score import __version__
+from formula_score.checks.finding import Found
 from formula_score.reading.playing import Failed
 from ..editing.refusal import Refusal
 from .answers import Text, Value
@@ -55,6 +56,7 @@ class Server:
         self.told: set[str] = set()
         self.texts: dict[str, Text] = {}
         self.judges: dict[str, Judge] = {}
+        self.found: dict[str, list[Found]] = {}             # and what lint found
         self.refusals: dict[str, Optional[Refusal]] = {}    # what was published last of each text
         self.is_shut_down = False
         self.incoming, self.write = incoming, JsonRpcStreamWriter(outgoing).write
@@ -155,13 +157,14 @@ class Server:
     def _take(self, text: Text) -> None:
         self.texts[text.uri] = text
         self.refusals.pop(text.uri, None)
+        self.found.pop(text.uri, None)
         if self.program is not None:
             judge = self.judges.setdefault(text.uri, Judge(self.program, self._warn))
-            judge.judge(text.data, lambda refusal: self._publish(text, refusal))
+            judge.judge(text.data, lambda refusal, found: self._publish(text, refusal, found))
 
-    def _publish(self, text: Text, refusal: Optional[Refusal]) -> None:
-        self.refusals[text.uri] = refusal
-        self.endpoint.notify("textDocument/publishDiagnostics", text.diagnostics(refusal))
+    def _publish(self, text: Text, refusal: Optional[Refusal], found: list[Found]) -> None:
+        self.refusals[text.uri], self.found[text.uri] = refusal, found
+        self.endpoint.notify("textDocument/publishDiagnostics", text.diagnostics(refusal, found))
 
     def _text(self, asked: Value) -> Text:
         text = self.texts.get(asked["textDocument"]["uri"])
@@ -172,7 +175,8 @@ class Server:
     def actions(self, asked: Value) -> list[Value]:
         """The changes that mend what is refused at a place, or that write the notes of a comment."""
         text = self._text(asked)
-        return text.actions(asked["range"]["start"]["line"], self.refusals.get(text.uri))
+        line = asked["range"]["start"]["line"]
+        return text.actions(line, self.refusals.get(text.uri)) + text.changes(line, self.found.get(text.uri, []))
 
     def rename(self, asked: Value) -> Value:
         """The changes for a new name, or why it may not be one."""
