@@ -137,6 +137,16 @@ class Spoken(unittest.TestCase):
             "start": {"line": 3, "character": 0}, "end": {"line": 3, "character": 0}}, "context": {"diagnostics": []}})
         self.assertEqual(elsewhere, [])
 
+    def test_what_lint_finds_is_a_warning_with_its_change(self) -> None:
+        self.open("formula 1;\nnote es4 1/4;\n")
+        found = self.diagnostics(1)
+        self.assertEqual([(each["code"], each["severity"], each["range"]["start"]) for each in found],
+                         [("sharp-for-flat", 2, {"line": 1, "character": 5})])
+        place = {"line": 1, "character": 6}
+        actions = self.ask("textDocument/codeAction", {"textDocument": {"uri": URI}, "range": {"start": place, "end": place},
+                                                       "context": {"diagnostics": []}})
+        self.assertEqual([action["edit"]["changes"][URI][0]["newText"] for action in actions], ["eb4"])
+
     def test_words_names_and_the_outline_are_told(self) -> None:
         self.open(TEXT)
         self.assertIn("starts up to 16 pitches", self.at("hover", 1, 15)["contents"]["value"])
