@@ -168,9 +168,10 @@ class Spoken(unittest.TestCase):
     def test_notes_of_a_comment_are_written_and_a_text_is_set(self) -> None:
         def actions(line: int) -> Any:
             place = {"line": line, "character": 3}
-            return self.ask("textDocument/codeAction", {"textDocument": {"uri": URI}, "range": {"start": place,
-                                                                                                "end": place},
-                                                        "context": {"diagnostics": []}})
+            found = self.ask("textDocument/codeAction", {"textDocument": {"uri": URI}, "range": {"start": place,
+                                                                                                 "end": place},
+                                                         "context": {"diagnostics": []}})
+            return [action for action in found if action["kind"] == "refactor.rewrite"]
 
         self.open("formula 1;\nvolume 9 {\n  # notes 3/4: c4 d/8 e f/4 | g/2.\n}\n# notes: x\n  note c4 1/4 ;\n")
         action, = actions(2)
