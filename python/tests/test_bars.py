@@ -65,10 +65,10 @@ class Lengths(unittest.TestCase):
                             "  branch { rest 1/2; }\n}\n")
         self.assertEqual((status, said[-3:]), (1, [
             "        the piece  1 bar and 7/8  3,600 ticks  3.75 s  bar 1 to bar 2, beat 4 and 1/8",
-            "2:8: warning: phrase p is no whole number of bars, and what follows leaves the bar lines: it has 7/8, 1/8 too "
-            "short [off-the-grid]",
-            "4:1: remark: branches are not equally long as written, by up to 1/2: branch 1 (line 5) 1 bar, branch 2 (line 6) "
-            "1/2 [branches-uneven]"]))
+            "2:8: warning: phrase p is no whole number of bars, and what follows leaves the bar lines: it has 7/8, "
+            "1/8 too short [off-the-grid]",
+            "4:1: remark: branches are not equally long as written, by up to 1/2: branch 1 (line 5) 1 bar, branch 2 "
+            "(line 6) 1/2 [branches-uneven]"]))
 
     def test_a_motif_is_no_fault_where_what_follows_is_on_the_grid(self) -> None:
         status, said = bars("formula 1;\nphrase p { note c4 1/4; }\ndo p; do p; note c4 1/2;\n")
@@ -76,9 +76,11 @@ class Lengths(unittest.TestCase):
 
     def test_voices_that_drift_are_remarked_bar_by_bar(self) -> None:
         # an eighth of 240 ticks is 319 by 1,333 and 160 by 667: 479 of 480, four times a bar
-        status, said = bars("formula 1;\nshape swing = flat 1/8 by 1333, flat 1/8 by 667;\npar {\n  branch { repeat 16 { warp "
-                            "swing { note c5 1/8; note d5 1/8; } } }\n  branch { repeat 4 { note c3 1/1; } }\n}\n")
-        self.assertEqual((status, said[-1]), (0, "3:1: remark: branches 1 and 2 are equally long as written, and end 16 "
+        status, said = bars("formula 1;\nshape swing = flat 1/8 by 1333, flat 1/8 by 667;\npar {\n  branch { repeat "
+                            "16 { warp swing { note c5 1/8; note d5 1/8; } } }\n  branch { repeat 4 { note c3 1/1; } "
+                            "}\n}\n")
+        self.assertEqual((status, said[-1]), (0,
+                                              "3:1: remark: branches 1 and 2 are equally long as written, and end 16 "
                                               "ticks (0.02 s) apart as played: 4 at bar 2, 8 at bar 3, 12 at bar 4 "
                                               "[branches-apart]"))
 
@@ -86,7 +88,9 @@ class Lengths(unittest.TestCase):
         status, said = bars("formula 1;\nphrase p { repeat (3 + n0) max 9 { note c4 ticks (480) max 480; } }\n"
                             "repeat 2 { do p; }\n", "--meter", "3/4")
         self.assertEqual((status, " ".join(said[1].split())),
-                         (0, "line 2 phrase p 1 bar or 1 bar and 1/4 1,440 to 1,920 ticks 1.50 to 2.00 s 2 times: bar 1, bar 2"))
+                         (0,
+                          "line 2 phrase p 1 bar or 1 bar and 1/4 1,440 to 1,920 ticks 1.50 to 2.00 s 2 times: bar 1, "
+                          "bar 2"))
 
     def test_with_an_upbeat_the_piece_may_end_in_a_short_bar(self) -> None:
         text = "formula 1;\nphrase p { note g4 1/4; note c4 7/4; }\ndo p;\n"

@@ -22,7 +22,8 @@ class Rules(unittest.TestCase):
             with self.subTest(rule.name):
                 text = rule.text
                 found = findings(read(text))
-                self.assertEqual([(each.rule, f"{each.line}:{each.column}") for each in found], [(rule.name, rule.place)])
+                self.assertEqual([(each.rule,
+                                   f"{each.line}:{each.column}") for each in found], [(rule.name, rule.place)])
                 self.assertEqual((bool(found[0].edits), run(text.decode())[0]), (rule.changes, 0))
                 if rule.changes:
                     changed = found[0].changed(text)
@@ -36,7 +37,8 @@ class Rules(unittest.TestCase):
             lines = rule.text.decode().split("\n")
             for at, comment in ((0, ""), (int(rule.place.split(":")[0]) - 1, "")):
                 above = [*lines[:at], f"# lint: ignore {rule.name}{comment}", *lines[at:]]
-                self.assertNotIn(rule.name, [each.rule for each in findings(read("\n".join(above).encode()))], rule.name)
+                self.assertNotIn(rule.name, [each.rule for each in findings(read("\n".join(above).encode()))],
+                                 rule.name)
 
     def test_names_are_none_twice(self) -> None:
         self.assertEqual(len({rule.name for rule in RULES}), len(RULES))
@@ -78,8 +80,8 @@ class Lint(unittest.TestCase):
         # the first branch's note-on comes before the second one's note-off of its tick, and not the other way round
         self.finds(f"par {{ branch {{ rest 1/4; {late} }} branch {{ {late} }} }}", "2:1", "branches 1 and 2")
         self.assertEqual(self.found(f"par {{ branch {{ {late} }} branch {{ rest 1/4; {late} }} }}"), [])
-        self.assertEqual(self.found(f"par {{ branch {{ {voice} }} branch {{ program 5; rest 1/4; {voice} note d4 1/4; }}"
-                                    f"branch {{ channel 1 {{ {voice} }} }} }} {voice}"), [])
+        self.assertEqual(self.found(f"par {{ branch {{ {voice} }} branch {{ program 5; rest 1/4; {voice} note d4 1/4; "
+                                    f"}}branch {{ channel 1 {{ {voice} }} }} }} {voice}"), [])
 
     def test_lists_of_velocities_that_do_not_fit(self) -> None:
         notes = "note c4 1/4; " * 4

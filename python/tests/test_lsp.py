@@ -121,15 +121,17 @@ class Spoken(unittest.TestCase):
                                                  "contentChanges": [{"text": text}]})
         found, = self.diagnostics(7)
         self.assertEqual(found["range"], {"start": {"line": 1, "character": 26}, "end": {"line": 1, "character": 27}})
-        self.assertEqual(found["message"], "here a `;` is expected, and there is `}` (fault 3)\neach statement ends with "
-                                           "`;`: write `note c4 1/4;`")
+        self.assertEqual(found["message"],
+                         "here a `;` is expected, and there is `}` (fault 3)\neach statement ends with `;`: write "
+                         "`note c4 1/4;`")
 
     @needs_program
     def test_what_is_refused_has_quick_fixes(self) -> None:
         self.open(TEXT.replace("note c4 1/4;", "note c' 1/4;"))
         self.assertEqual(len(self.diagnostics(1)), 1)
         place = {"line": 1, "character": 16}
-        actions = self.ask("textDocument/codeAction", {"textDocument": {"uri": URI}, "range": {"start": place, "end": place},
+        actions = self.ask("textDocument/codeAction", {"textDocument": {"uri": URI}, "range": {"start": place,
+                                                                                               "end": place},
                                                        "context": {"diagnostics": []}})
         self.assertEqual([action["edit"]["changes"][URI][0]["newText"] for action in actions],
                          ["phrase tune { note c4 1/4; }", "phrase tune { note c6 1/4; }"])
@@ -143,7 +145,8 @@ class Spoken(unittest.TestCase):
         self.assertEqual([(each["code"], each["severity"], each["range"]["start"]) for each in found],
                          [("sharp-for-flat", 2, {"line": 1, "character": 5})])
         place = {"line": 1, "character": 6}
-        actions = self.ask("textDocument/codeAction", {"textDocument": {"uri": URI}, "range": {"start": place, "end": place},
+        actions = self.ask("textDocument/codeAction", {"textDocument": {"uri": URI}, "range": {"start": place,
+                                                                                               "end": place},
                                                        "context": {"diagnostics": []}})
         self.assertEqual([action["edit"]["changes"][URI][0]["newText"] for action in actions], ["eb4"])
 
@@ -212,7 +215,8 @@ class Spoken(unittest.TestCase):
         for data, answer in ((b"null", None), (b"[" * 100_000, None), (b"{", None), (b"{}", None)):
             head = b"Content-Type: application/vscode-jsonrpc; charset=utf-8\r\ncontent-length: %d\r\n\r\n" % len(data)
             self.server.stdin.write(head + data)
-        self.assertEqual(self.ask("textDocument/documentSymbol", {"textDocument": {"uri": URI}}), "this document is not open")
+        self.assertEqual(self.ask("textDocument/documentSymbol", {"textDocument": {"uri": URI}}),
+                         "this document is not open")
         self.server.stdin.write(b"Content-Length: 1000000000000\r\n\r\n")
         self.server.stdin.flush()
         assert self.server.stderr is not None
@@ -231,10 +235,12 @@ class Failing(unittest.TestCase):
         with tempfile.TemporaryDirectory() as name:
             program, rest = pathlib.Path(name, "program"), pathlib.Path(name, "tmp")
             rest.mkdir()
-            for text, why in (("", "cannot be run"), ("#!/bin/sh\nkill -9 $$\n", "the signal SIGKILL ended the program")):
+            for text, why in (("",
+                               "cannot be run"), ("#!/bin/sh\nkill -9 $$\n", "the signal SIGKILL ended the program")):
                 program.write_text(text)
                 program.chmod(0o755)
-                with mock.patch(f"{__name__}.PROGRAM", str(program)), mock.patch.dict(os.environ, {"TMPDIR": str(rest)}):
+                with mock.patch(f"{__name__}.PROGRAM", str(program)), mock.patch.dict(os.environ,
+                                                                                      {"TMPDIR": str(rest)}):
                     spoken = Spoken("open")
                     self.addCleanup(spoken.doCleanups)
                     spoken.setUp()
@@ -256,7 +262,8 @@ class Neovim(unittest.TestCase):
         neovim: Optional[str] = shutil.which("nvim")
         if neovim is None:
             self.skipTest("NOT TRIED: neovim is not installed")
-        check = subprocess.run(words_of_server(), input=b"", stdout=subprocess.PIPE, stderr=subprocess.PIPE, check=False)
+        check = subprocess.run(words_of_server(), input=b"", stdout=subprocess.PIPE, stderr=subprocess.PIPE,
+                               check=False)
         if b"apt-get" in check.stderr:
             self.skipTest(f"NOT TRIED: {check.stderr.decode().strip()}")
         with tempfile.TemporaryDirectory() as name:

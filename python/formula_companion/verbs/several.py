@@ -61,8 +61,10 @@ class Several:
         """Prints the sum, and gives the status: 1 where something is refused or warned of."""
         counts = {kind: sum(found.severity == kind for _, found in self.found) for kind in (WARNING, REMARK)}
         if self.as_json:
-            put({**more, "findings": [{"path": path, **found._asdict(), "edits": [edit._asdict() for edit in found.edits]}
-                                      for path, found in self.found], "refused": self.refused, "scores": len(self.paths)})
+            put({**more,
+                 "findings": [{"path": path, **found._asdict(), "edits": [edit._asdict() for edit in found.edits]}
+                                      for path, found in self.found], "refused": self.refused,
+                 "scores": len(self.paths)})
         else:
             words = [counted(count, kind) for kind, count in counts.items()]
             words += [f"{len(self.refused)} refused"] if self.refused else []

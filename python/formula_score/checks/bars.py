@@ -100,7 +100,7 @@ def _amount(span: Span, meter: Meter) -> str:
     if not meter.only:
         begin, end = meter.at(span.begin), meter.at(span.end)
         if meter.start(begin.bar) != span.begin:
-            return f"{meter.length(span.begin - meter.start(begin.bar))} behind a bar line at its beginning"
+            return f"{meter.length(span.begin - meter.start(begin.bar))} after a bar line at its beginning"
         left, bar = span.end - meter.start(end.bar), meter.start(end.bar + 1) - meter.start(end.bar)
     else:
         left, bar = meter.bars(span.begin, span.end)[1], meter.only
@@ -117,7 +117,8 @@ def _lengths(structure: Structure, meter: Meter) -> Iterator[Found]:
         if "" in off or not any(_leaves_the_grid(span, branches, structure, meter) for span in spans):
             continue
         for amount, span in off.items():
-            yield Found(token.line, token.column, "off-the-grid", WARNING, f"phrase {name} is no whole number of bars, and "
+            yield Found(token.line, token.column,
+                        "off-the-grid", WARNING, f"phrase {name} is no whole number of bars, and "
                         f"what follows leaves the bar lines: it has {meter.lasts(span.begin, span.end)}, {amount}")
     for par, played in structure.pars.values():
         yield from _branches(par, played, structure, meter)
@@ -139,7 +140,8 @@ def _branches(par: Statement, played: list[list[Span]], structure: Structure, me
         if len(set(lengths)) > 1:
             listed = ", ".join(f"branch {at + 1} (line {par.blocks[at].head.line}) {meter.lasts(span.begin, span.end)}"
                              for at, span in enumerate(branches))
-            yield Found(first.line, first.column, "branches-uneven", REMARK, "branches are not equally long as written, by "
+            yield Found(first.line, first.column, "branches-uneven", REMARK,
+                        "branches are not equally long as written, by "
                         f"up to {meter.length(max(lengths) - min(lengths))}: {listed}")
             break
     for branches in played:
@@ -147,9 +149,10 @@ def _branches(par: Statement, played: list[list[Span]], structure: Structure, me
         if apart:
             one, other = apart
             ticks = abs(branches[one].last - branches[other].last)
-            yield Found(first.line, first.column, "branches-apart", REMARK, f"branches {one + 1} and {other + 1} are equally "
-                        f"long as written, and end {ticks} ticks ({2 * ticks / meter.whole:.2f} s) apart as played"
-                        f"{_growing(branches[one], branches[other], structure, meter)}")
+            yield Found(first.line, first.column, "branches-apart", REMARK,
+                        f"branches {one + 1} and {other + 1} are equally long as written, and end {ticks} ticks "
+                        f"({2 * ticks / meter.whole:.2f} s) apart as "
+                        f"played{_growing(branches[one], branches[other], structure, meter)}")
             return
 
 

@@ -44,14 +44,16 @@ class Lists(Look):
         """A length of its own that is the next one of the rhythm round it."""
         rhythm = next((entries for entries in reversed(self.walk.open_lists) if entries.kind == "rhythm"), None)
         length = happening.end - happening.begin
-        if rhythm is None or not rhythm.given or len(rhythm.entries) < 2 or not isinstance(happening.statement.length, int):
+        if (rhythm is None or not rhythm.given or len(rhythm.entries) < 2
+                or not isinstance(happening.statement.length, int)):
             return
         if rhythm.entries[rhythm.given % len(rhythm.entries)] == length and length not in (
                 rhythm.entries[(rhythm.given - 1) % len(rhythm.entries)],):
             of, word = happening.statement, "skip" if happening.statement.word == "rest" else "play"
             edits = [Edit(of.first.start, of.last.start, "skip")] if word == "skip" else []
-            self.finds.find("length-in-rhythm", of.first, f"this `{of.word}` has a length of its own and takes none of the "
-                            f"`rhythm`, whose next length is this one: `{word}` takes it", edits)
+            self.finds.find("length-in-rhythm", of.first,
+                            f"this `{of.word}` has a length of its own and takes none of the `rhythm`, whose next "
+                            f"length is this one: `{word}` takes it", edits)
 
     def emptied(self, entries: Entries, process: int) -> None:
         of, given = entries.statement, entries.given
@@ -77,9 +79,11 @@ class Lists(Look):
         if not notes:
             why = "no note is in it"
         elif of.word == "rhythm":
-            why = "nothing in it plays by it: `note` and `rest` have lengths of their own, and `play` and `skip` take them here"
+            why = ("nothing in it plays by it: `note` and `rest` have lengths of their own, and `play` and `skip` take "
+                   "them here")
         else:
-            why = f"each note in it is in another {'`gate` or `artic`' if of.word in ('gate', 'artic') else '`volume` or `loud`'} further in"
+            others = "`gate` or `artic`" if of.word in ("gate", "artic") else "`volume` or `loud`"
+            why = f"each note in it is in another {others} further in"
         self.finds.find("block-without-effect", of.first, f"this `{of.word}` has no effect: {why}",
                         self.finds.unwrapped(of))
 
@@ -152,9 +156,10 @@ class Branches(Look):
         ends = [end for _, end in self.last]
         odd = min((one, other), key=lambda at: (ends.count(ends[at]), at == one and len(ends) == 2))
         rest = one if odd == other else other
-        self.finds.find("branches-apart", par.blocks[odd].head, f"this branch is as long as branch {rest + 1} (line "
-                        f"{par.blocks[rest].head.line}) as written, and as played {ticks} ticks apart at its end: where time "
-                        "is deformed, one `warp` round the `par` keeps voices together")
+        self.finds.find("branches-apart", par.blocks[odd].head,
+                        f"this branch is as long as branch {rest + 1} (line {par.blocks[rest].head.line}) as written, "
+                        f"and as played {ticks} ticks apart at its end: where time is deformed, one `warp` round the "
+                        "`par` keeps voices together")
 
 
 class Drums(Look):
@@ -187,7 +192,8 @@ class Drums(Look):
         if block:
             self.blocks.setdefault(block.first.start, set()).update(happening.values)
         if channel == DRUM_CHANNEL and not all(key in _DRUM_KEYS for key in happening.values):
-            self.finds.find("melody-on-channel-9", happening.statement.first, "channel 9 plays drums, and no drum is at key "
+            self.finds.find("melody-on-channel-9", happening.statement.first,
+                            "channel 9 plays drums, and no drum is at key "
                             f"{next(key for key in happening.values if key not in _DRUM_KEYS)}")
 
     def _block(self, place: Optional[Place]) -> Optional[Statement]:
@@ -200,8 +206,8 @@ class Drums(Look):
     def finish(self) -> None:
         nine = self.keys.get(DRUM_CHANNEL, set())
         if self.program_nine and nine and not nine & (_BASS_DRUMS | _SNARES_AND_HATS):
-            self.finds.find("melody-on-channel-9", self.program_nine.first, "channel 9 plays drums, whatever its program is: "
-                            "these notes need another channel")
+            self.finds.find("melody-on-channel-9", self.program_nine.first,
+                            "channel 9 plays drums, whatever its program is: these notes need another channel")
         ten = self.keys.get(10, set())
         is_set = ten and all(key in _DRUM_SET for key in ten) and (
             ten & _BASS_DRUMS and ten & _SNARES_AND_HATS or len(ten & (_BASS_DRUMS | _SNARES_AND_HATS)) > 1)
@@ -212,14 +218,15 @@ class Drums(Look):
             if statement.word != "channel" or statement.number in self.programs or statement.number == DRUM_CHANNEL:
                 continue
             keys = self.blocks.get(statement.first.start, set())
-            near = " ".join(filter(None, (self.comments.get(statement.line), names.get(statement.line), *self._played(statement))))
+            near = " ".join(filter(None, (self.comments.get(statement.line), names.get(statement.line),
+                                          *self._played(statement))))
             is_named = keys and all(key in _DRUM_KEYS for key in keys) and _DRUM_WORDS.search(near)
             if statement.number == 10 and is_set or is_named:
                 first = first or statement
                 edits.append(replaced(self.finds.behind(statement.first), str(DRUM_CHANNEL)))
         if first:
-            self.finds.find("drums-on-channel-10", first.first, "these are drums, and channels count from 0: drums are on "
-                            f"`channel {DRUM_CHANNEL}`", edits)
+            self.finds.find("drums-on-channel-10", first.first,
+                            f"these are drums, and channels count from 0: drums are on `channel {DRUM_CHANNEL}`", edits)
 
     def _played(self, of: Statement) -> list[str]:
         """The phrases that a block plays."""

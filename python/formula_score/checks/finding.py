@@ -18,7 +18,7 @@ class Edit(NamedTuple):
 
 
 class Found(NamedTuple):
-    """Something that is accepted and hardly meant; in the order of the text. `edits` are in order, and do not overlap."""
+    """Something that is accepted and hardly meant. `edits` are in the order of the text, and do not overlap."""
 
     line: int
     column: int

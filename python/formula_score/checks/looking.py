@@ -1,4 +1,4 @@
-"""A walk over what a score plays, with which several looks go along: each keeps what it needs, and says what it found."""
+"""A walk over what a score plays, with looks that go along: each keeps what it needs, and says what it found."""
 
 from __future__ import annotations
 

@@ -62,8 +62,9 @@ class Plain:
             is_sharp = {"cs", "fs"} <= pitches if letter == "e" else bool(pitches & {"cs", "ds", "fs", "gs"})
             if not is_sharp:
                 key = f"the same key as `f{octave}`" if letter == "e" else "a black key"
-                self.finds.find("sharp-for-flat", token, f"`{token.text}` is {letter.upper()} sharp, {key}; "
-                                f"{letter.upper()} flat is `{letter}b{octave}`", [replaced(token, f"{letter}b{octave}")])
+                self.finds.find("sharp-for-flat", token,
+                                f"`{token.text}` is {letter.upper()} sharp, {key}; {letter.upper()} flat is "
+                                f"`{letter}b{octave}`", [replaced(token, f"{letter}b{octave}")])
 
     def _unused(self) -> None:
         used = {before.text + " " + token.text for before, token in zip(self.tokens, self.tokens[1:])}
@@ -85,13 +86,15 @@ class Plain:
         """A number or a list against what a comment of its line says, or a phrase's name."""
         said = " ".join(comment.text for comment in comments.get(statement.line, ()))
         if statement.word == "loud":
-            said += "".join(f" {phrase.name.text}" for phrase in self.reading.phrases.values() if _in(phrase, statement))
+            said += "".join(f" {phrase.name.text}" for phrase in self.reading.phrases.values()
+                            if _in(phrase, statement))
             says = bool(_RISES.search(said)) - bool(_FALLS.search(said))
             if says and goes(statement.entries) == -says:
                 numbers = [token for token in self._between(statement.first, statement.blocks[0].opened)
                            if token.text.isdigit()]
-                self.finds.find("loud-other-way", statement.first, f"this list gets {'softer' if says > 0 else 'louder'}, "
-                                f"where its name says {'louder' if says > 0 else 'softer'}",
+                self.finds.find("loud-other-way", statement.first,
+                                f"this list gets {'softer' if says > 0 else 'louder'}, where its name says "
+                                f"{'louder' if says > 0 else 'softer'}",
                                 [replaced(token, other.text) for token, other in zip(numbers, reversed(numbers))])
             return
         if not isinstance(statement.amount, int) or not 0 < statement.amount < 128:
@@ -117,7 +120,8 @@ class Plain:
         words = [token.text for token in self.tokens[:9]]
         if "seed" in words and not any(token.text == "pick" for token in self.tokens):
             at = words.index("seed")
-            self.finds.find("seed-without-pick", self.tokens[at], "a `seed` has no effect where nothing is drawn by `pick`",
+            self.finds.find("seed-without-pick", self.tokens[at],
+                            "a `seed` has no effect where nothing is drawn by `pick`",
                             self._without(self.tokens[at], self.tokens[at + 2]))
 
     def _comments(self) -> None:
@@ -125,8 +129,9 @@ class Plain:
             swallowed = None if comment.alone else _STATEMENT.search(comment.text)
             if swallowed:
                 at = Token("", comment.line, comment.column, 0)
-                self.finds.find("statement-in-comment", at, f"`{swallowed[0]}` is in a comment, which goes on to the end of "
-                                "its line, and is not played")
+                self.finds.find("statement-in-comment", at,
+                                f"`{swallowed[0]}` is in a comment, which goes on to the end of its line, and is not "
+                                "played")
 
     # ---- numbers
 
@@ -144,12 +149,13 @@ class Plain:
 
     def _of_loud(self, statement: Statement) -> None:
         if max(statement.entries) < 10:
-            self.finds.find("volume-below-10", statement.first, "entries of `loud` are velocities from 1 to 127: these are "
-                            "hardly heard")
+            self.finds.find("volume-below-10", statement.first,
+                            "entries of `loud` are velocities from 1 to 127: these are hardly heard")
 
     def _of_artic(self, statement: Statement) -> None:
         if max(statement.entries) < 10:
-            self.finds.find("gate-below-10", statement.first, "entries of `artic` are percent: by these nothing is heard")
+            self.finds.find("gate-below-10", statement.first,
+                            "entries of `artic` are percent: by these nothing is heard")
 
     def _of_note(self, statement: Statement) -> None:
         keys = [pitch for pitch in statement.pitches if isinstance(pitch, int)]
@@ -194,8 +200,10 @@ class Plain:
         part = Fraction(ticks, 1920)
         if self.finds.behind(number, -1).text == "ticks" and self.reading.fraction(ticks).numerator not in (1, 2, 3, 4):
             edit = Edit(self.finds.behind(number, -1).start, number.start + len(number.text), str(part))
-            self.finds.find("ticks-of-480", statement.first, f"a quarter note has {self.reading.division} ticks here, so "
-                            f"`ticks {ticks}` is {self.finds.part(ticks)}: of 480 it would be {part}", [edit] if part * self.reading.whole % 1 == 0 else ())
+            self.finds.find("ticks-of-480", statement.first,
+                            f"a quarter note has {self.reading.division} ticks here, so `ticks {ticks}` is "
+                            f"{self.finds.part(ticks)}: of 480 it would be "
+                            f"{part}", [edit] if part * self.reading.whole % 1 == 0 else ())
 
     def _quotient(self, statement: Statement) -> None:
         """A quotient of two numbers as a length, with something left over."""
@@ -204,8 +212,9 @@ class Plain:
             above, below = (side.number for side in value.operands)
             if below and above % below and (above, below) not in self.quotients:
                 self.quotients.add((above, below))
-                self.finds.find("length-rounded", statement.first, f"`{above} / {below}` is {above // below}, rounded down: "
-                                f"{below} of them make {below * (above // below)} ticks, and not {above}")
+                self.finds.find("length-rounded", statement.first,
+                                f"`{above} / {below}` is {above // below}, rounded down: {below} of them make "
+                                f"{below * (above // below)} ticks, and not {above}")
 
     def _of_rhythm(self, statement: Statement) -> None:
         if 0 in statement.entries:
@@ -220,7 +229,8 @@ class Plain:
                             self._without(statement.first, statement.last))
 
     def _empty(self, statement: Statement) -> None:
-        if statement.word not in ("if", "par") and statement.blocks and not any(block.statements for block in statement.blocks):
+        is_block = statement.blocks and statement.word not in ("if", "par")
+        if is_block and not any(block.statements for block in statement.blocks):
             self.finds.find("empty-block", statement.first, f"nothing is in this `{statement.word}`",
                             self._without(statement.first, statement.last))
 

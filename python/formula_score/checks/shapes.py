@@ -46,8 +46,8 @@ class Shapes:
             self._whole_beats(shape)
             if all(part.first == part.last == 1000 and part.kind == "flat" or part.kind in ("pause", "breath") and
                    not part.ticks for part in shape.parts):
-                self.finds.find("shape-without-effect", shape.name, f"shape {shape.name.text} changes nothing: 1000 is as "
-                                "written")
+                self.finds.find("shape-without-effect", shape.name,
+                                f"shape {shape.name.text} changes nothing: 1000 is as written")
 
     def tokens(self, shape: Shape) -> list[list[Token]]:
         """The tokens of each part."""
@@ -72,17 +72,18 @@ class Shapes:
             if part.kind in ("flat", "slope") and part.first in BEATS and part.last in BEATS:
                 by = f"{part.first}" if part.kind == "flat" else f"{part.first} to {part.last}"
                 fast = f"{1000 / part.first:.1f} times as fast as written"
-                self.finds.find("beats-a-minute", shape.name, f"`{part.kind} .. by {by}` of shape {shape.name.text} is in "
-                                f"thousandths, {fast}; for {part.first} quarter notes a minute write by "
-                                f"{round(120_000 / part.first)}",
+                self.finds.find("beats-a-minute", shape.name,
+                                f"`{part.kind} .. by {by}` of shape {shape.name.text} is in thousandths, {fast}; for "
+                                f"{part.first} quarter notes a minute write by {round(120_000 / part.first)}",
                                 [replaced(token, str(round(120_000 / int(token.text)))) for token in
                                  self.stretches(shape, at)])
 
     def _thousandths(self, shape: Shape) -> None:
         if _tempo(shape) and all(part.first <= 10 and part.last <= 10 for part in _tempo(shape)):
             first = _tempo(shape)[0].first
-            self.finds.find("stretch-below-10", shape.name, f"stretches are in thousandths: by {first} is {1000 // first} "
-                            f"times as fast as written, and {first} times as slow is by {1000 * first}",
+            self.finds.find("stretch-below-10", shape.name,
+                            f"stretches are in thousandths: by {first} is {1000 // first} times as fast as written, "
+                            f"and {first} times as slow is by {1000 * first}",
                             [replaced(token, str(1000 * int(token.text))) for at, part in enumerate(shape.parts)
                              if part.kind in ("flat", "slope") for token in self.stretches(shape, at)])
 
@@ -125,8 +126,8 @@ class Shapes:
             meant = _meant(part) if part.kind == "flat" else None
             if meant is not None and meant != _made(part):
                 by = -(-meant * 1000 // part.ticks)
-                said.append(f"`{part.kind} {self.finds.length(part.ticks)} by {part.first}` makes {_made(part)} ticks, and by "
-                            f"{by} {meant}")
+                said.append(f"`{part.kind} {self.finds.length(part.ticks)} by {part.first}` makes {_made(part)} ticks, "
+                            f"and by {by} {meant}")
                 edits.append(replaced(self.stretches(shape, at)[0], str(by)))
         if edits:
             self.finds.find("no-whole-beat", shape.name, f"shape {shape.name.text} makes {total} ticks of "
@@ -166,8 +167,9 @@ class Levels(Look):
             return
         behind = length - shape.length
         warp = getattr(place.node, "first")
-        self.finds.find("shape-short", warp, f"shape {name} ends {self.finds.part(behind)} before its block, which goes on "
-                        f"as it is written: its last stretch is {last.last}, and behind it 1000",
+        self.finds.find("shape-short", warp,
+                        f"shape {name} ends {self.finds.part(behind)} before its block, which goes on as it is "
+                        f"written: its last stretch is {last.last}, and after it 1000",
                         self._longer(shape, behind) if last.kind == "flat" else ())
 
     def _longer(self, shape: Shape, ticks: int) -> list[Edit]:
@@ -187,9 +189,9 @@ class Levels(Look):
             for part in shape.parts:
                 if part.kind in ("pause", "breath") and part.ticks and at > length:
                     self.finds.find("part-not-reached", shape.name, f"the `{part.kind}` of shape {name} is "
-                                    f"{self.finds.part(at - length)} behind the end of its block, and never reached")
+                                    f"{self.finds.part(at - length)} after the end of its block, and never reached")
                 if part.kind == "slope" and at + part.ticks > length and part.first != part.last:
-                    self.finds.find("part-not-reached", shape.name, f"the `slope` of shape {name} ends "
-                                    f"{self.finds.part(at + part.ticks - length)} behind the end of its block, and never "
-                                    f"gets to {part.last}")
+                    self.finds.find("part-not-reached", shape.name,
+                                    f"the `slope` of shape {name} ends {self.finds.part(at + part.ticks - length)} "
+                                    f"after the end of its block, and never gets to {part.last}")
                 at += part.ticks if part.kind in ("flat", "slope") else 0

@@ -73,15 +73,17 @@ class Channels(Look):
                             "control 64 0;")
         elif pedals and 0 < max(each.value for each in pedals) < 64:
             first = next(each for each in pedals if each.value)
-            self.finds.find("pedal-below-64", first.statement.first, f"the pedal is down from 64 on: {first.value} is up",
+            self.finds.find("pedal-below-64", first.statement.first,
+                            f"the pedal is down from 64 on: {first.value} is up",
                             self._amount(first.statement, "127"))
         bends = [each for each in sent if each.word == "bend"]
         most = max((abs(each.value) for each in bends), default=0)
         if 0 < most < 128:
             first = next(each for each in bends if each.value)
             new = min(8191, 4096 * abs(first.value)) * (-1 if first.value < 0 else 1)
-            self.finds.find("bend-below-128", first.statement.first, f"a bend goes to 8191: {first.value} of it is not heard, "
-                            "and two semitones are 8191 on most instruments", self._amount(first.statement, str(abs(new))))
+            self.finds.find("bend-below-128", first.statement.first,
+                            f"a bend goes to 8191: {first.value} of it is not heard, and two semitones are 8191 on "
+                            "most instruments", self._amount(first.statement, str(abs(new))))
             return
         if bends and bends[-1].value:
             self._find_held("bend-held", bends, f"channel {channel} stays bent by {bends[-1].value} from here on: "
@@ -89,7 +91,8 @@ class Channels(Look):
 
     def _find_held(self, rule: str, sent: list[Sent], what: str, end: str) -> None:
         """At the statement from which on nothing takes it back, with the end behind what follows in its block."""
-        last = max((at for at, each in enumerate(sent) if not (each.value >= 64 if rule == "pedal-held" else each.value)),
+        last = max((at for at, each in enumerate(sent)
+                    if not (each.value >= 64 if rule == "pedal-held" else each.value)),
                    default=-1)
         at = sent[last + 1] if rule == "pedal-held" else sent[-1]
         self.finds.find(rule, at.statement.first, what, (self._behind(at.statement, end),))
@@ -120,8 +123,9 @@ class Channels(Look):
                     ticks = heard.setdefault(low, set())
                     ticks.add(each.tick)
                     if low.value == 0 or len(ticks) > 1:
-                        self.finds.find("silent-channel", low.statement.first, f"controller {low.number} of channel "
-                                        f"{channel} stays at {low.value}, and the note on line {each.statement.line} is "
+                        self.finds.find("silent-channel", low.statement.first,
+                                        f"controller {low.number} of channel {channel} stays at {low.value}, and the "
+                                        f"note on line {each.statement.line} is "
                                         f"{'not' if low.value == 0 else 'hardly'} heard")
 
     def _at_one_tick(self, sent: list[Sent]) -> None:
@@ -129,7 +133,8 @@ class Channels(Look):
         for one, other in zip(sent, sent[1:]):
             if one.statement is other.statement and one.tick == other.tick and one.word in ("control", "bend") and \
                     one.value != other.value:
-                self.finds.find("messages-at-one-tick", one.statement.first, "these all come at one tick, since nothing "
+                self.finds.find("messages-at-one-tick", one.statement.first,
+                                "these all come at one tick, since nothing "
                                 "between them takes time, and only the last one is heard")
 
     # ---- instruments
@@ -147,8 +152,9 @@ class Channels(Look):
         for each in sent:
             if each.word == "program":
                 if last and last.value != each.value and last.statement is not each.statement:
-                    self.finds.find("two-programs", last.statement.first, f"channel {channel} gets program {last.value} "
-                                    f"here, and program {each.value} on line {each.statement.line} wins before any note")
+                    self.finds.find("two-programs", last.statement.first,
+                                    f"channel {channel} gets program {last.value} here, and program {each.value} on "
+                                    f"line {each.statement.line} wins before any note")
                 last = each
             elif each.word == "note":
                 last = None
@@ -171,9 +177,10 @@ class Channels(Look):
 
     def _wins(self, channel: int, voice: Optional[Sent], now: Optional[Sent], note: Sent) -> None:
         if voice and now and voice.value != now.value and voice.process != now.process:
-            self.finds.find("two-programs", voice.statement.first, f"channel {channel} gets program {voice.value} here, and "
-                            f"program {now.value} on line {now.statement.line} wins: the note on line {note.statement.line} "
-                            f"sounds as {INSTRUMENTS[now.value]}")
+            self.finds.find("two-programs", voice.statement.first,
+                            f"channel {channel} gets program {voice.value} here, and program {now.value} on line "
+                            f"{now.statement.line} wins: the note on line {note.statement.line} sounds as "
+                            f"{INSTRUMENTS[now.value]}")
 
     def _inherited(self, sent: list[Sent]) -> dict[int, Sent]:
         """Of each branch the program that its `par` found."""
@@ -255,22 +262,23 @@ class Keys(Look):
         start = block.first.start if block else -1
         if start not in self.again:
             self.again.add(start)
-            self.finds.find("key-struck-again", note.statement.first, "this note strikes a key that the note on line "
-                            f"{earlier.statement.line} still sounds, for {ticks} ticks: many players end both at the first "
-                            "note-off")
+            self.finds.find("key-struck-again", note.statement.first,
+                            f"this note strikes a key that the note on line {earlier.statement.line} still sounds, for "
+                            f"{ticks} ticks: many players end both at the first note-off")
 
     def process_ended(self, number: int) -> None:
         last = self.walk.ended[number]
         end = tick_of(last.levels, last.position) if self.waiting else 0
         for off, note in self.waiting:
             if off > end:
-                self.cut(note, off - end, "where its voice ends; a rest behind it would let it ring out")
+                self.cut(note, off - end, "where its voice ends; a rest after it would let it ring out")
         self.waiting = []
 
     def cut(self, note: Happening, ticks: int, how: str) -> None:
         """A note ends too early."""
-        self.finds.find("note-cut", note.statement.first, f"this note sounds for {note.percent} percent of its length, and "
-                        f"is cut {ticks} ticks too early {how}")
+        self.finds.find("note-cut", note.statement.first,
+                        f"this note sounds for {note.percent} percent of its length, and is cut {ticks} ticks too "
+                        f"early {how}")
 
 
 def _branches(place: Optional[Place]) -> Iterator[Place]:
@@ -282,8 +290,8 @@ def _branches(place: Optional[Place]) -> Iterator[Place]:
 
 
 def _struck_while_it_sounds(notes: Sequence[tuple[int, int, int]]) -> tuple[int, ...]:
-    """The two branches of which one strikes a key that sounds in the other, or ends it behind the new note-on of its tick;
-    none where there are none. `notes` have their begin, branch and end, and are in order."""
+    """The two branches of which one strikes a key that sounds in the other, or ends it behind the new note-on of its
+    tick; none where there are none. `notes` have their begin, branch and end, and are in order."""
     last_end, last = -1, -1
     for begin, branch, end in notes:
         if branch != last and (begin < last_end or begin == last_end and branch < last):

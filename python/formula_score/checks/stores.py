@@ -1,4 +1,4 @@
-"""Looks at registers: what is set and never read, what a phrase takes from who plays it; and draws of several voices."""
+"""Looks at registers: what is set and never read, what a phrase takes from its caller; and draws."""
 
 from __future__ import annotations
 
@@ -15,8 +15,8 @@ _SAME_VOICES = re.compile(r"canon|same|echo|unison|imitat|repeats? the|doubl|ans
 
 
 class Store(NamedTuple):
-    """A register as it is set: by which statement, in which phrase that is played, which one set it before, and which one
-    before that phrase was played."""
+    """A register as it is set: by which statement, in which phrase that is played, which one set it before, and which
+    one before that phrase was played."""
 
     by: Statement
     phrase: Optional[Place]
@@ -79,8 +79,9 @@ class Stores(Look):
                         for each in self.reading.every_statement())
         if sets and has_notes and not any(part.of == "r" for each in expressions(sets[0])
                                           for part in parts_of_expression(each)):
-            self.finds.find("register-overwritten", sets[0].first, f"phrase {phrase.node.name.text} sets `r{register}` for "
-                            f"itself, and line {current.line} reads it behind the phrase: take another register here")
+            self.finds.find("register-overwritten", sets[0].first,
+                            f"phrase {phrase.node.name.text} sets `r{register}` for itself, and line {current.line} "
+                            "reads it after the phrase: take another register here")
 
     def finish(self) -> None:
         for start, (of, again) in self.seen.items():
@@ -97,7 +98,8 @@ class Draws(Look):
         self.branches: dict[str, dict[int, Statement]] = {}     # by each phrase that draws the branches that play it
         draws = [token.start for token in self.reading.tokens if token.text == "pick"]
         self.drawing = {name for name, phrase in self.reading.phrases.items()
-                        if bisect_left(draws, phrase.block.opened.start) < bisect_left(draws, phrase.block.closed.start)}
+                        if bisect_left(draws, phrase.block.opened.start)
+                        < bisect_left(draws, phrase.block.closed.start)}
         self.is_said = any(_SAME_VOICES.search(comment.text) for comment in self.reading.comments)
 
     def statement(self, happening: Happening) -> None:
@@ -109,8 +111,9 @@ class Draws(Look):
         for name, played in self.branches.items():
             if len(played) > 1:
                 later = list(played.values())[1]
-                self.finds.find("draws-apart", later.first, f"phrase {name} draws by `pick`, and each branch draws anew: it "
-                                f"plays other notes here than on line {next(iter(played.values())).line}")
+                self.finds.find("draws-apart", later.first,
+                                f"phrase {name} draws by `pick`, and each branch draws anew: it plays other notes here "
+                                f"than on line {next(iter(played.values())).line}")
 
 
 def _phrase(place: Optional[Place]) -> Optional[Place]:

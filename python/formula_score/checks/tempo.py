@@ -42,11 +42,13 @@ class SaidTempos:
             part = flat_of(shape)
             if not part or any(abs(part.first * beats - 120_000) <= beats for beats in said):
                 continue
-            beats = next((beats for beats in said if abs(120 * part.first - 1000 * beats) <= 120 and beats != 120), None)
+            beats = next((beats for beats in said if abs(120 * part.first - 1000 * beats) <= 120 and beats != 120),
+                         None)
             if beats:
                 token = Shapes(self.finds).stretches(shape, 0)[0]
-                self.finds.find("tempo-inverse", shape.name, f"by {part.first} is {round(120_000 / part.first)} quarter notes "
-                                f"a minute: {beats} are by {round(120_000 / beats)}",
+                self.finds.find("tempo-inverse", shape.name,
+                                f"by {part.first} is {round(120_000 / part.first)} quarter notes a minute: {beats} are "
+                                f"by {round(120_000 / beats)}",
                                 [replaced(token, str(round(120_000 / beats)))])
 
 
@@ -86,15 +88,16 @@ class Tempos(Look):
         known = self.breaths.pop(id(level), None)
         for at, between in known[1].items() if known else ():
             if not between:
-                self.finds.find("breath-in-note", level.shape.name, f"the `breath` of shape {warp.name} lies inside a note, "
-                                f"{self.finds.part(at)} behind the beginning of its block, and makes this note longer: a "
-                                "breath is where one note ends and the next begins")
+                self.finds.find("breath-in-note", level.shape.name,
+                                f"the `breath` of shape {warp.name} is inside a note, {self.finds.part(at)} after the "
+                                "beginning of its block, and makes this note longer: a breath is between two notes")
         tempos = [each for each in self.walk.levels if self._is_tempo(each, end)]
         if len(self.walk.levels) == 1:
             self.is_tempo[warp.first.start] = bool(tempos)
         elif level in tempos and len(tempos) > 1:
             by = tempos[-2].shape.parts[0].first * level.shape.parts[0].first // 1000
-            self.finds.find("tempo-in-tempo", warp.first, f"this tempo is inside another one, and both act: by {by} in all, "
+            self.finds.find("tempo-in-tempo", warp.first,
+                            f"this tempo is inside another one, and both act: by {by} in all, "
                             f"{round(120_000 / max(1, by))} quarter notes a minute")
 
     def _is_tempo(self, level: Level, end: int) -> bool:
@@ -104,8 +107,8 @@ class Tempos(Look):
 
     def finish(self) -> None:
         if self.outside and any(self.is_tempo.values()):
-            self.finds.find("outside-the-tempo", self._outermost(self.outside).first, "this is outside the `warp` of the "
-                            "tempo, and plays at 120 quarter notes a minute")
+            self.finds.find("outside-the-tempo", self._outermost(self.outside).first,
+                            "this is outside the `warp` of the tempo, and plays at 120 quarter notes a minute")
 
     def _outermost(self, of: Statement) -> Statement:
         """The first statement outside all blocks that plays it: a `do`, where it is in a phrase."""

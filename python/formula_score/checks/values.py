@@ -125,7 +125,8 @@ class Comparisons(Look):
     def __init__(self, walk: Looking, finds: Finds):
         super().__init__(walk, finds)
         blocks = [phrase.block.statements for phrase in self.reading.phrases.values()]
-        self.drawn = _drawn_registers([statement for block in [*blocks, self.reading.statements] for statement in block])
+        self.drawn = _drawn_registers([statement for block in [*blocks, self.reading.statements]
+                                       for statement in block])
         self.made: dict[int, tuple[Statement, Expression, Optional[list[Range]]]] = {}  # None once it holds
         self.seen: set[int] = set()
 
@@ -158,8 +159,9 @@ class Comparisons(Look):
         if current.word == "if" and of.of not in ("less", "same"):
             self._made(of, (of,))
         if current.word == "if" and of.of == "-" and value < 0:
-            self.finds.find("if-below-0", current.first, f"`if {written(of)}` does not hold where this is below 0, as it is "
-                            "here: it is no test of whether two values differ")
+            self.finds.find("if-below-0", current.first,
+                            f"`if {written(of)}` does not hold where this is below 0, as it is here: it is no test of "
+                            "whether two values differ")
         if id(of) not in self.seen:
             self.seen.add(id(of))
             self._constant(current, of)
@@ -198,8 +200,9 @@ class Clamped(Look):
         if low <= value <= high or current is None or current.word not in _WORDS:
             return
         at = self.finds.part(self.walk.now.written)
-        self.finds.find("clamped", current.first, f"the {_WORDS[current.word]} `{written(of)}` is {value} here, first {at} "
-                        f"behind the beginning, and is played as {low if value < low else high}")
+        self.finds.find("clamped", current.first,
+                        f"the {_WORDS[current.word]} `{written(of)}` is {value} here, first {at} after the beginning, "
+                        f"and is played as {low if value < low else high}")
 
 
 class Registers(Look):
@@ -223,7 +226,7 @@ class Registers(Look):
         if earlier is None:
             return
         self.finds.read.add(earlier.first.start)
-        where = "in each branch" if self.walk.begun[process].place.kind == "branch" else "behind a `par`"
+        where = "in each branch" if self.walk.begun[process].place.kind == "branch" else "after a `par`"
         self.finds.find("register-before-par", current.first, f"`r{of.number}` is 0 here: it is set on line "
                         f"{earlier.line}, and is 0 again {where}", self._setting(process, earlier))
 
