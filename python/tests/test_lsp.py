@@ -21,7 +21,8 @@ phrase tune { note c4 1/4; }
 phrase other { do tune; }
 do tune; do other;
 """
-#: What Neovim's client is asked to do: it opens a score, waits for a refusal, cures it, renames, and tells what it has.
+#: What Neovim's client is asked to do: it opens a score, waits for a refusal, cures it, renames, takes the change of what
+#: lint finds, and tells what it has.
 NEOVIM = """
 local said = {}
 local score, server, out = unpack(ARGUMENTS)
@@ -40,6 +41,19 @@ vim.api.nvim_win_set_cursor(0, { 4, 4 })
 vim.lsp.buf.rename('song')
 waited(function() return vim.api.nvim_buf_get_lines(buffer, 1, 2, false)[1]:find('song') end)
 vim.list_extend(said, vim.api.nvim_buf_get_lines(buffer, 1, 3, false))
+vim.api.nvim_buf_set_lines(buffer, 4, 4, false, { 'note es4 1/4;' })
+vim.api.nvim_win_set_cursor(0, { 5, 6 })
+waited(function() return #vim.diagnostic.get(buffer) > 0 end)
+found = vim.diagnostic.get(buffer)[1]
+table.insert(said, found.severity .. ' ' .. found.lnum .. ':' .. found.col .. ' ' .. found.message)
+local asked = vim.lsp.util.make_range_params()
+asked.context = { diagnostics = {} }
+for _, answer in pairs(vim.lsp.buf_request_sync(buffer, 'textDocument/codeAction', asked, 20000)) do
+  vim.lsp.util.apply_workspace_edit(answer.result[1].edit, 'utf-16')
+end
+vim.list_extend(said, vim.api.nvim_buf_get_lines(buffer, 4, 5, false))
+waited(function() return #vim.diagnostic.get(buffer) == 0 end)
+table.insert(said, #vim.diagnostic.get(buffer) .. ' left')
 vim.fn.writefile(said, out)
 vim.cmd('qa!')
 """
@@ -121,17 +135,15 @@ class Spoken(unittest.TestCase):
                                                  "contentChanges": [{"text": text}]})
         found, = self.diagnostics(7)
         self.assertEqual(found["range"], {"start": {"line": 1, "character": 26}, "end": {"line": 1, "character": 27}})
-        self.assertEqual(found["message"],
-                         "here a `;` is expected, and there is `}` (fault 3)\neach statement ends with `;`: write "
-                         "`note c4 1/4;`")
+        self.assertEqual(found["message"], "here a `;` is expected, and there is `}` (fault 3)\neach statement ends with "
+                                           "`;`: write `note c4 1/4;`")
 
     @needs_program
     def test_what_is_refused_has_quick_fixes(self) -> None:
         self.open(TEXT.replace("note c4 1/4;", "note c' 1/4;"))
         self.assertEqual(len(self.diagnostics(1)), 1)
         place = {"line": 1, "character": 16}
-        actions = self.ask("textDocument/codeAction", {"textDocument": {"uri": URI}, "range": {"start": place,
-                                                                                               "end": place},
+        actions = self.ask("textDocument/codeAction", {"textDocument": {"uri": URI}, "range": {"start": place, "end": place},
                                                        "context": {"diagnostics": []}})
         self.assertEqual([action["edit"]["changes"][URI][0]["newText"] for action in actions],
                          ["phrase tune { note c4 1/4; }", "phrase tune { note c6 1/4; }"])
@@ -139,16 +151,20 @@ class Spoken(unittest.TestCase):
             "start": {"line": 3, "character": 0}, "end": {"line": 3, "character": 0}}, "context": {"diagnostics": []}})
         self.assertEqual(elsewhere, [])
 
-    def test_what_lint_finds_is_a_warning_with_its_change(self) -> None:
+    @needs_program
+    def test_what_lint_and_bars_find_is_a_warning_or_a_hint_with_its_change(self) -> None:
         self.open("formula 1;\nnote es4 1/4;\n")
         found = self.diagnostics(1)
         self.assertEqual([(each["code"], each["severity"], each["range"]["start"]) for each in found],
                          [("sharp-for-flat", 2, {"line": 1, "character": 5})])
         place = {"line": 1, "character": 6}
-        actions = self.ask("textDocument/codeAction", {"textDocument": {"uri": URI}, "range": {"start": place,
-                                                                                               "end": place},
+        actions = self.ask("textDocument/codeAction", {"textDocument": {"uri": URI}, "range": {"start": place, "end": place},
                                                        "context": {"diagnostics": []}})
         self.assertEqual([action["edit"]["changes"][URI][0]["newText"] for action in actions], ["eb4"])
+        self.open("formula 1; repeat 2 { note c4 1/1; } # bars 3 to 4\npar { branch { note c4 1/1; } branch { rest 1/2; } "
+                  "}\n", 2)
+        self.assertEqual([(each["code"], each["severity"]) for each in self.diagnostics(2)],
+                         [("bar-comment", 2), ("branches-uneven", 4)])
 
     def test_words_names_and_the_outline_are_told(self) -> None:
         self.open(TEXT)
@@ -215,8 +231,7 @@ class Spoken(unittest.TestCase):
         for data, answer in ((b"null", None), (b"[" * 100_000, None), (b"{", None), (b"{}", None)):
             head = b"Content-Type: application/vscode-jsonrpc; charset=utf-8\r\ncontent-length: %d\r\n\r\n" % len(data)
             self.server.stdin.write(head + data)
-        self.assertEqual(self.ask("textDocument/documentSymbol", {"textDocument": {"uri": URI}}),
-                         "this document is not open")
+        self.assertEqual(self.ask("textDocument/documentSymbol", {"textDocument": {"uri": URI}}), "this document is not open")
         self.server.stdin.write(b"Content-Length: 1000000000000\r\n\r\n")
         self.server.stdin.flush()
         assert self.server.stderr is not None
@@ -235,12 +250,10 @@ class Failing(unittest.TestCase):
         with tempfile.TemporaryDirectory() as name:
             program, rest = pathlib.Path(name, "program"), pathlib.Path(name, "tmp")
             rest.mkdir()
-            for text, why in (("",
-                               "cannot be run"), ("#!/bin/sh\nkill -9 $$\n", "the signal SIGKILL ended the program")):
+            for text, why in (("", "cannot be run"), ("#!/bin/sh\nkill -9 $$\n", "the signal SIGKILL ended the program")):
                 program.write_text(text)
                 program.chmod(0o755)
-                with mock.patch(f"{__name__}.PROGRAM", str(program)), mock.patch.dict(os.environ,
-                                                                                      {"TMPDIR": str(rest)}):
+                with mock.patch(f"{__name__}.PROGRAM", str(program)), mock.patch.dict(os.environ, {"TMPDIR": str(rest)}):
                     spoken = Spoken("open")
                     self.addCleanup(spoken.doCleanups)
                     spoken.setUp()
@@ -262,8 +275,7 @@ class Neovim(unittest.TestCase):
         neovim: Optional[str] = shutil.which("nvim")
         if neovim is None:
             self.skipTest("NOT TRIED: neovim is not installed")
-        check = subprocess.run(words_of_server(), input=b"", stdout=subprocess.PIPE, stderr=subprocess.PIPE,
-                               check=False)
+        check = subprocess.run(words_of_server(), input=b"", stdout=subprocess.PIPE, stderr=subprocess.PIPE, check=False)
         if b"apt-get" in check.stderr:
             self.skipTest(f"NOT TRIED: {check.stderr.decode().strip()}")
         with tempfile.TemporaryDirectory() as name:
@@ -277,8 +289,9 @@ class Neovim(unittest.TestCase):
                            stdin=subprocess.DEVNULL, stdout=subprocess.DEVNULL, stderr=subprocess.DEVNULL)
             said = (folder / "said").read_text().splitlines()
         self.assertTrue(said[0].startswith("1:26 here a `;` is expected"), said)
-        self.assertIn("0 left", said)
-        self.assertEqual(said[-2:], ["phrase song { note c4 1/4; }", "phrase other { do song; }"])
+        self.assertEqual(said[1:4], ["0 left", "phrase song { note c4 1/4; }", "phrase other { do song; }"])
+        self.assertEqual(said[4:], ["2 4:5 `es4` is E sharp, the same key as `f4`; E flat is `eb4`", "note eb4 1/4;",
+                                    "0 left"])
 
 
 if __name__ == "__main__":

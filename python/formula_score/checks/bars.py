@@ -13,6 +13,8 @@ from ..reading.walk import Place, Played, Process
 from .finding import REMARK, WARNING, Found
 
 _SHOWN = 6
+#: What a finding of bars may be called.
+RULES_OF_BARS = ("bar-comment", "off-the-grid", "branches-uneven", "branches-apart")
 
 
 class Row(NamedTuple):
@@ -29,14 +31,25 @@ class Row(NamedTuple):
 def counted(reading: Reading, meter: Meter) -> tuple[list[Row], list[Found]]:
     """What has how many bars, and what is off, in the order of the text."""
     named = sections(reading, lambda comment: marks.bars_of(comment) is None)
-    wanted = [edge for mark in marks.marks(reading) for edge in (mark.first, mark.last)]
-    structure = Structure(reading, wanted + [edge for section in named for edge in (section.first, section.last)])
-    structure.run()
-    comments = [Found(found.line, found.column, "bar-comment", WARNING, found.what)
-                for found in marks.findings(reading, structure, meter)]
+    structure = structure_of(reading, [edge for section in named for edge in (section.first, section.last)])
     whole = Span(0, structure.end, structure.place, 0, structure.last)
     rows = [*sorted(_rows(reading, structure, meter, named)), _row(0, "the piece", [whole], meter)]
-    return rows, sorted([*_lengths(structure, meter), *comments])
+    return rows, off(structure, meter)
+
+
+def structure_of(reading: Reading, wanted: Sequence[Statement] = (), most: Optional[int] = None) -> Structure:
+    """What is needed to see what is off, and where some statements are played."""
+    structure = Structure(reading, [*wanted, *(edge for mark in marks.marks(reading)
+                                               for edge in (mark.first, mark.last))], most)
+    structure.run()
+    return structure
+
+
+def off(structure: Structure, meter: Meter) -> list[Found]:
+    """What is off, in the order of the text."""
+    comments = [Found(found.line, found.column, "bar-comment", WARNING, found.what)
+                for found in marks.findings(structure.reading, structure, meter)]
+    return sorted([*_lengths(structure, meter), *comments])
 
 
 # ---- the table
@@ -125,12 +138,15 @@ def _lengths(structure: Structure, meter: Meter) -> Iterator[Found]:
 
 
 def _leaves_the_grid(span: Span, branches: dict[int, Span], structure: Structure, meter: Meter) -> bool:
-    """Whether the branch in which it is played, or the piece, ends off the bar lines."""
+    """Whether the branch in which it is played, or the piece, ends off the bar lines; and goes on over the next one, where
+    it is shorter than a bar."""
     place: Optional[Place] = span.place
     while place and place.kind != "branch":
         place = place.outer
     voice = branches.get(id(place)) or Span(0, structure.end, structure.place)
-    return bool(_amount(voice, meter))
+    bar = meter.at(span.end).bar
+    is_short = span.end - span.begin < meter.start(bar + 1) - meter.start(bar)
+    return bool(_amount(voice, meter)) and not (is_short and voice.end <= meter.start(bar + 1))
 
 
 def _branches(par: Statement, played: list[list[Span]], structure: Structure, meter: Meter) -> Iterator[Found]:

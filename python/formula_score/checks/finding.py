@@ -6,7 +6,7 @@ from typing import NamedTuple, Optional
 
 from ..reading.tree import Token
 
-WARNING, REMARK = "warning", "remark"
+ERROR, WARNING, REMARK = "error", "warning", "remark"
 
 
 class Edit(NamedTuple):

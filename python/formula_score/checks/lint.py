@@ -3,12 +3,16 @@
 from __future__ import annotations
 
 import re
-from typing import Iterator, Optional
+from typing import Callable, Iterable, Iterator, Optional
 
-from ..reading.tree import Comment, Reading
+from ..reading.playing import Listing
+from ..reading.ticks import agree
+from ..reading.tree import Comment, Reading, Token
+from ..reading.walk import TooMuch
+from .bars import RULES_OF_BARS
 from .blocks import Branches, Drums, Lists
 from .finding import Found
-from .looking import Finds, Looking, TooMuch
+from .looking import Finds, Looking
 from .plain import Plain
 from .rules import SEVERITIES
 from .shapes import Levels, Shapes
@@ -20,9 +24,13 @@ from .values import Clamped, Comparisons, Registers
 _IGNORED = re.compile(r"lint:\s*ignore\s+([a-z0-9-]+(?:\s*,\s*[a-z0-9-]+)*)")
 
 
-def findings(reading: Reading, most: Optional[int] = None) -> list[Found]:
+#: Gives the listing of the file that the program makes of a text.
+Heard = Callable[[], Listing]
+
+
+def findings(reading: Reading, heard: Optional[Heard] = None, most: Optional[int] = None) -> list[Found]:
     """All that is found and not ignored, in the order of the text; what the text alone shows, where more than `most`
-    statements are played."""
+    statements are played. What is played is compared with what is `heard`, where that is given."""
     finds = Finds(reading)
     Plain(finds).look()
     Shapes(finds).look()
@@ -33,30 +41,29 @@ def findings(reading: Reading, most: Optional[int] = None) -> list[Found]:
     alone = dict(finds.found)
     try:
         walk.run()
+        if heard is not None:
+            agree(walk, heard())
         for look in walk.looks:
             look.finish()
     except TooMuch:
         finds.found = alone
-    silent = set(_silent(reading, finds))
-    return sorted(found for found in finds.found.values()
-                  if not {(found.rule, found.line), (found.rule, 0)} & silent)
+    for comment, name in _ignored(reading):
+        if name not in SEVERITIES and name not in RULES_OF_BARS:
+            place = Token("", comment.line, comment.column, 0)
+            finds.find("ignore-unknown", place, f"there is no rule {name} to ignore")
+    return not_ignored(reading, finds.found.values())
 
 
-def _silent(reading: Reading, finds: Finds) -> Iterator[tuple[str, int]]:
-    """Which rules say nothing of which lines, by comments; of line 0 in the whole text, above its first word."""
+def not_ignored(reading: Reading, found: Iterable[Found]) -> list[Found]:
+    """What no comment says to ignore: of its line, or of line 0, which is the whole text, above its first word."""
+    silent = {(name, line) for comment, name in _ignored(reading) for line in _lines(reading, comment)}
+    return sorted(each for each in found if not {(each.rule, each.line), (each.rule, 0)} & silent)
+
+
+def _ignored(reading: Reading) -> Iterator[tuple[Comment, str]]:
     for comment in reading.comments:
         for words in _IGNORED.findall(comment.text):
-            for name in re.split(r"\s*,\s*", words):
-                if name in SEVERITIES:
-                    yield from ((name, line) for line in _lines(reading, comment))
-                else:
-                    _unknown(finds, comment, name)
-
-
-def _unknown(finds: Finds, comment: Comment, name: str) -> None:
-    found = Found(comment.line, comment.column, "ignore-unknown", SEVERITIES["ignore-unknown"],
-                  f"there is no rule {name} to ignore")
-    finds.found.setdefault((found.line, found.column, found.rule), found)
+            yield from ((comment, name) for name in re.split(r"\s*,\s*", words))
 
 
 def _lines(reading: Reading, comment: Comment) -> list[int]:

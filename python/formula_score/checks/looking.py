@@ -6,7 +6,7 @@ from bisect import bisect_left
 from typing import Callable, Optional, Sequence, Union
 
 from ..reading.tree import Amount, Block, Expression, Length, Phrase, Reading, Statement, Token
-from ..reading.walk import Entries, Happening, Place, Walk
+from ..reading.walk import Entries, Happening, Place, Played
 from .finding import Edit, Found
 from .rules import SEVERITIES
 
@@ -83,16 +83,11 @@ class Look:
         """All was played."""
 
 
-class TooMuch(Exception):
-    """More is played than a look has time for."""
-
-
-class Looking(Walk):
+class Looking(Played):
     """The walk. `current` is the statement whose values are computed, `counts` how often each open loop is played."""
 
     def __init__(self, reading: Reading, most: Optional[int] = None):
-        super().__init__(reading)
-        self.left = most
+        super().__init__(reading, most)
         self.looks: list[Look] = []
         self.listening: dict[str, list[Callable[..., None]]] = {}
         self.current: Optional[Statement] = None
@@ -107,6 +102,7 @@ class Looking(Walk):
                                     if getattr(type(look), name) is not getattr(Look, name)]
 
     def statement(self, happening: Happening) -> None:
+        super().statement(happening)
         for tell in self.listening["statement"]:
             tell(happening)
 
@@ -123,10 +119,6 @@ class Looking(Walk):
             look.process_ended(number)
 
     def _go(self, statement: Statement) -> None:
-        if self.left is not None:
-            self.left -= 1
-            if self.left < 0:
-                raise TooMuch
         outer, self.current = self.current, statement
         super()._go(statement)
         self.current = outer

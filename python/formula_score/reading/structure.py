@@ -63,8 +63,8 @@ def sections(reading: Reading, may_name: Callable[[Comment], bool]) -> list[Sect
 class Structure(Walk):
     """Keeps where phrases, branches and some statements are played."""
 
-    def __init__(self, reading: Reading, wanted: Iterable[Statement]):
-        super().__init__(reading)
+    def __init__(self, reading: Reading, wanted: Iterable[Statement], most: Optional[int] = None):
+        super().__init__(reading, most)
         self.phrases: dict[str, list[Span]] = {}
         self.pars: dict[int, tuple[Statement, list[list[Span]]]] = {}  # by the byte where a `par` begins
         self.spans: dict[int, list[Span]] = {statement.first.start: [] for statement in wanted}
