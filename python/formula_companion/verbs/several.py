@@ -7,8 +7,10 @@ import os
 from typing import Any, Iterator
 
 from formula_score.checks.finding import REMARK, WARNING, Found
+from formula_score.checks.margin import Problem, refused
+from formula_score.explaining.explain import place_of
 from formula_score.making.values import plain
-from formula_score.reading.playing import Failed, counted, judge
+from formula_score.reading.playing import Failed, counted, judge, text_of
 from .options import failure, put
 
 
@@ -27,26 +29,40 @@ def _files(path: str) -> Iterator[str]:
         yield from (os.path.join(folder, name) for name in sorted(names) if name.endswith(".score"))
 
 
+def found_of(text: bytes, problem: Problem) -> Found:
+    """A problem with its line and column; a cure is a part of its words."""
+    begin = text.rfind(b"\n", 0, problem.start) + 1
+    edits = problem.changes[0].edits if problem.changes else ()
+    said = problem.what if not problem.cure else f"{problem.what}: {problem.cure}"
+    return Found(text.count(b"\n", 0, begin) + 1, problem.start - begin + 1, problem.rule, problem.severity,
+                 " ".join(said.split()), edits)
+
+
 class Several:
     """Scores one after another, and what was found in all; as lines, or at the end as JSON."""
 
-    def __init__(self, paths: list[str], as_json: bool):
+    def __init__(self, paths: list[str], as_json: bool, in_lines: bool = False):
         self.is_one = len(paths) == 1 and not os.path.isdir(paths[0])
+        self.in_lines = in_lines or not self.is_one
         self.paths = [file for path in paths for file in _files(path)]
         self.as_json = as_json
         self.found: list[tuple[str, Found]] = []
         self.refused: list[dict[str, Any]] = []
 
     def texts(self) -> Iterator[tuple[str, bytes]]:
-        """Each score that is accepted; of several a refused one is told and counted."""
+        """Each score that is accepted. A refused one ends the verb, or is a line of what is found."""
         for path in self.paths:
             try:
                 text = judge(path)
             except Failed as failed:
-                if self.is_one or failed.status > 2:
+                if not self.in_lines or failed.status > 2:
                     raise
                 self.refused.append({"path": path, **failure(failed, path)})
-                if not self.as_json:
+                place = place_of(failed.said)
+                if place is not None:
+                    text = text_of(path)
+                    self.tell(path, found_of(text, refused(text, place)))
+                elif not self.as_json:
                     print(f"{plain(path)}: {failed.said or failed.why}")
                 continue
             yield path, text

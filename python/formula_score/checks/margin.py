@@ -48,24 +48,25 @@ class Problem(NamedTuple):
     said: str = ""
 
 
-def problems(text: bytes, said: str, heard: Heard, meter: Optional[Callable[[Reading], Meter]] = None) -> list[Problem]:
+def problems(text: bytes, said: str, heard: Heard, meter: Optional[Callable[[Reading], Meter]] = None,
+             most: Optional[int] = MOST) -> list[Problem]:
     """What is to be shown of a text about which the program said this, which is nothing where it accepts it; `heard`
     gives the listing of its file, with which what is played here is compared."""
     place = place_of(said)
     if place is not None or said:
         return [refused(text, place)] if place else []
     reading = read(text)
-    found = findings(reading, heard, MOST)
+    found = findings(reading, heard, most)
     names = {each.rule for each in found}
-    found += [each for each in _of_bars(reading, meter) if each.rule not in names]
+    found += [each for each in _of_bars(reading, meter, most) if each.rule not in names]
     starts = [0, *(end.end() for end in re.finditer(b"\n", text))]
     return [_shown(text, starts[each.line - 1] + each.column - 1, each) for each in sorted(found)]
 
 
-def _of_bars(reading: Reading, meter: Optional[Callable[[Reading], Meter]]) -> list[Found]:
+def _of_bars(reading: Reading, meter: Optional[Callable[[Reading], Meter]], most: Optional[int]) -> list[Found]:
     """What is off in the bars; where nobody knows the meter, in the one of the usual ones in which least is."""
     try:
-        structure = structure_of(reading, (), MOST)
+        structure = structure_of(reading, (), most)
     except TooMuch:
         return []
     usual = (Meter(groups_of(word), Fraction(0), reading.whole) for word in _USUAL)
