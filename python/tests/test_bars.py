@@ -135,7 +135,7 @@ class Comments(unittest.TestCase):
 
     def test_numbers_that_are_wrong(self) -> None:
         self.assertEqual(self.lines(f"{self.BAR}  # bar 1", f"{self.BAR}  # bar 3", f"{self.BAR}  # bar 3"),
-                         ["3:54: `bar 3` begins 1/1 too early: it stands at bar 2"])
+                         ["3:54: `bar 3` begins 1/1 too early: it is in bar 2"])
         self.assertEqual(self.lines(f"{self.BAR} {self.BAR} {self.BAR}  # bars 1 to 2"),
                          ["2:158: `bars 1 to 2` are 1/1 too long"])
         self.assertEqual(self.lines("# bars 1 to 2", self.BAR, "# bar 3", self.BAR),

@@ -3,13 +3,15 @@
 from __future__ import annotations
 
 import argparse
+import functools
 from typing import Any
 
 from formula_score.checks.bars import bars_between, counted, process_name, ring, table, ticks_by_process
 from formula_score.checks.summary import of_score
 from formula_score.making.values import plain
 from formula_score.reading.meter import Meter
-from formula_score.reading.playing import Failed, judge
+from formula_score.reading.playing import Failed, judge, listing_of
+from formula_score.reading.reader import read
 from formula_score.reading.structure import Span
 from formula_score.reading.ticks import agreed, happening_at, position_at
 from formula_score.reading.walk import Happening, Played
@@ -48,9 +50,9 @@ def run(options: argparse.Namespace) -> int:
         return _tell(options)
     lengths: list[dict[str, Any]] = []
     for path, text in several.texts():
-        reading = agreed(text).reading
+        reading = read(text)
         meter = Meter(options.meter, options.upbeat, reading.whole)
-        rows, found = counted(reading, meter)
+        rows, found = counted(reading, meter, functools.partial(listing_of, text))
         lengths += [{"path": path, **row._asdict()} for row in rows]
         if not options.json:
             print(("" if several.is_one else f"{plain(path)}: ") + f"meter {meter}" + (

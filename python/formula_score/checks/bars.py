@@ -2,17 +2,20 @@
 
 from __future__ import annotations
 
-from typing import Iterator, NamedTuple, Optional, Sequence
+from typing import Callable, Iterator, NamedTuple, Optional, Sequence
 
 from ..reading import marks
 from ..reading.meter import Meter
+from ..reading.playing import Listing
 from ..reading.structure import Section, Span, Structure, sections
-from ..reading.ticks import spots_at, ticks_of
+from ..reading.ticks import agree, spots_at, ticks_of
 from ..reading.tree import Phrase, Reading, Statement
 from ..reading.walk import Place, Played, Process
 from .finding import REMARK, WARNING, Found
 
 _SHOWN = 6
+#: Gives the listing of the file that the program makes of a text.
+Heard = Callable[[], Listing]
 #: What a finding of bars may be called.
 RULES_OF_BARS = ("bar-comment", "off-the-grid", "branches-uneven", "branches-apart")
 
@@ -28,21 +31,21 @@ class Row(NamedTuple):
     where: str
 
 
-def counted(reading: Reading, meter: Meter) -> tuple[list[Row], list[Found]]:
-    """What has how many bars, and what is off, in the order of the text."""
+def counted(reading: Reading, meter: Meter, heard: Optional[Heard] = None) -> tuple[list[Row], list[Found]]:
+    """What has how many bars, and what is off, in the order of the text; compared with what is `heard`."""
     named = sections(reading, lambda comment: marks.bars_of(comment) is None)
-    structure = structure_of(reading, [edge for section in named for edge in (section.first, section.last)])
+    structure = Structure(reading, [*edges(reading), *(edge for section in named for edge in (section.first, section.last))])
+    structure.run()
+    if heard is not None:
+        agree(structure, heard())
     whole = Span(0, structure.end, structure.place, 0, structure.last)
     rows = [*sorted(_rows(reading, structure, meter, named)), _row(0, "the piece", [whole], meter)]
     return rows, off(structure, meter)
 
 
-def structure_of(reading: Reading, wanted: Sequence[Statement] = (), most: Optional[int] = None) -> Structure:
-    """What is needed to see what is off, and where some statements are played."""
-    structure = Structure(reading, [*wanted, *(edge for mark in marks.marks(reading)
-                                               for edge in (mark.first, mark.last))], most)
-    structure.run()
-    return structure
+def edges(reading: Reading) -> list[Statement]:
+    """The statements whose places have to be known to see what is off."""
+    return [edge for mark in marks.marks(reading) for edge in (mark.first, mark.last)]
 
 
 def off(structure: Structure, meter: Meter) -> list[Found]:
@@ -183,7 +186,7 @@ def _apart(branches: list[Span]) -> Optional[tuple[int, int]]:
 
 def _growing(one: Span, other: Span, structure: Structure, meter: Meter) -> str:
     """Bar by bar how far two branches are apart, where something begins in both at a bar line."""
-    begins = [structure.begins.get(span.place.process, {}) for span in (one, other)]
+    begins = [structure.begins(span.place.process) for span in (one, other)]
     lines = [(meter.at(written).bar, abs(begins[1][written] - tick)) for written, tick in sorted(begins[0].items())
              if written in begins[1] and meter.start(meter.at(written).bar) == written]
     grows = [line for line, before in zip(lines, [(0, 0), *lines]) if line[1] > before[1]]
