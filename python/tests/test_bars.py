@@ -80,7 +80,7 @@ class Lengths(unittest.TestCase):
                             "16 { warp swing { note c5 1/8; note d5 1/8; } } }\n  branch { repeat 4 { note c3 1/1; } "
                             "}\n}\n")
         self.assertEqual((status, said[-1]), (0,
-                                              "3:1: remark: branches 1 and 2 are equally long as written, and end 16 "
+                                              "5:3: remark: branches 2 and 1 are equally long as written, and end 16 "
                                               "ticks (0.02 s) apart as played: 4 at bar 2, 8 at bar 3, 12 at bar 4 "
                                               "[branches-apart]"))
 

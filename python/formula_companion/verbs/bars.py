@@ -7,6 +7,7 @@ import functools
 from typing import Any
 
 from formula_score.checks.bars import bars_between, counted, process_name, ring, table, ticks_by_process
+from formula_score.checks.lint import not_ignored
 from formula_score.checks.summary import of_score
 from formula_score.making.values import plain
 from formula_score.reading.meter import Meter
@@ -59,7 +60,7 @@ def run(options: argparse.Namespace) -> int:
                 f", upbeat {options.upbeat}" if meter.upbeat else ""))
             for line in table(rows, reading.whole):
                 print(line)
-        for each in found:
+        for each in not_ignored(reading, found):
             several.tell(path, each)
     return several.end(meter=str(Meter(options.meter, options.upbeat, 1920)), lengths=lengths)
 

@@ -34,7 +34,8 @@ class Row(NamedTuple):
 def counted(reading: Reading, meter: Meter, heard: Optional[Heard] = None) -> tuple[list[Row], list[Found]]:
     """What has how many bars, and what is off, in the order of the text; compared with what is `heard`."""
     named = sections(reading, lambda comment: marks.bars_of(comment) is None)
-    structure = Structure(reading, [*edges(reading), *(edge for section in named for edge in (section.first, section.last))])
+    structure = Structure(reading, [*edges(reading), *(edge for section in named
+                                                       for edge in (section.first, section.last))])
     structure.run()
     if heard is not None:
         agree(structure, heard())
@@ -133,16 +134,16 @@ def _lengths(structure: Structure, meter: Meter) -> Iterator[Found]:
         if "" in off or not any(_leaves_the_grid(span, branches, structure, meter) for span in spans):
             continue
         for amount, span in off.items():
-            yield Found(token.line, token.column,
-                        "off-the-grid", WARNING, f"phrase {name} is no whole number of bars, and "
-                        f"what follows leaves the bar lines: it has {meter.lasts(span.begin, span.end)}, {amount}")
+            yield Found(token.line, token.column, "off-the-grid", WARNING,
+                        f"phrase {name} is no whole number of bars, and what follows leaves the bar lines: it has "
+                        f"{meter.lasts(span.begin, span.end)}, {amount}")
     for par, played in structure.pars.values():
         yield from _branches(par, played, structure, meter)
 
 
 def _leaves_the_grid(span: Span, branches: dict[int, Span], structure: Structure, meter: Meter) -> bool:
-    """Whether the branch in which it is played, or the piece, ends off the bar lines; and goes on over the next one, where
-    it is shorter than a bar."""
+    """Whether the branch in which it is played, or the piece, ends off the bar lines; and goes on over the next one,
+    where it is shorter than a bar."""
     place: Optional[Place] = span.place
     while place and place.kind != "branch":
         place = place.outer
@@ -153,34 +154,36 @@ def _leaves_the_grid(span: Span, branches: dict[int, Span], structure: Structure
 
 
 def _branches(par: Statement, played: list[list[Span]], structure: Structure, meter: Meter) -> Iterator[Found]:
-    first = par.first
     for branches in played:
         lengths = [span.end - span.begin for span in branches]
         if len(set(lengths)) > 1:
             listed = ", ".join(f"branch {at + 1} (line {par.blocks[at].head.line}) {meter.lasts(span.begin, span.end)}"
-                             for at, span in enumerate(branches))
-            yield Found(first.line, first.column, "branches-uneven", REMARK,
-                        "branches are not equally long as written, by "
-                        f"up to {meter.length(max(lengths) - min(lengths))}: {listed}")
+                               for at, span in enumerate(branches))
+            yield Found(par.first.line, par.first.column, "branches-uneven", REMARK,
+                        "branches are not equally long as written, by up to "
+                        f"{meter.length(max(lengths) - min(lengths))}: {listed}")
             break
     for branches in played:
-        apart = _apart(branches)
+        apart = apart_of(branches)
         if apart:
-            one, other = apart
-            ticks = abs(branches[one].last - branches[other].last)
-            yield Found(first.line, first.column, "branches-apart", REMARK,
-                        f"branches {one + 1} and {other + 1} are equally long as written, and end {ticks} ticks "
-                        f"({2 * ticks / meter.whole:.2f} s) apart as "
-                        f"played{_growing(branches[one], branches[other], structure, meter)}")
+            odd, other = apart
+            head, ticks = par.blocks[odd].head, abs(branches[odd].last - branches[other].last)
+            yield Found(head.line, head.column, "branches-apart", REMARK,
+                        f"branches {odd + 1} and {other + 1} are equally long as written, and end {ticks} ticks "
+                        f"({2 * ticks / meter.whole:.2f} s) apart as played"
+                        f"{_growing(branches[odd], branches[other], structure, meter)}")
             return
 
 
-def _apart(branches: list[Span]) -> Optional[tuple[int, int]]:
+def apart_of(branches: list[Span]) -> Optional[tuple[int, int]]:
+    """Two branches that are equally long as written, and end apart: first the one that fewer agree with."""
     seen: dict[int, int] = {}
+    ends = [span.last for span in branches]
     for at, span in enumerate(branches):
         other = seen.setdefault(span.end - span.begin, at)
-        if span.last != branches[other].last and span.end > span.begin:
-            return other, at
+        if ends[at] != ends[other] and span.end > span.begin:
+            odd = min((other, at), key=lambda each: (ends.count(ends[each]), each == other and len(ends) == 2))
+            return odd, at if odd == other else other
     return None
 
 

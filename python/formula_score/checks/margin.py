@@ -65,12 +65,20 @@ def problems(text: bytes, said: str, heard: Heard, meter: Optional[Callable[[Rea
 
 
 def _of_bars(walk: Looking, meter: Optional[Callable[[Reading], Meter]]) -> list[Found]:
-    """What is off in the bars; where nobody knows the meter, in the one of the usual ones in which least is."""
+    """What is off in the bars; where nobody knows the meter, in the one of the usual ones in which least is. It may have
+    an upbeat, where a comment says so."""
     reading = walk.reading
-    usual = (Meter(groups_of(word), Fraction(0), reading.whole) for word in _USUAL)
+    parts = range(7 if any("upbeat" in comment.text for comment in reading.comments) else 1)
+    usual = (Meter(groups_of(word), Fraction(part, 8), reading.whole) for part in parts for word in _USUAL)
     meters = [meter(reading)] if meter else list(usual)
-    all_found = [(not_ignored(reading, off(walk, each)), walk.end % each.start(2)) for each in meters]
-    return min(all_found, key=lambda found: len(found[0]) + bool(found[1]))[0]
+    found = [(not_ignored(reading, off(walk, each)), _ends_off(walk.end, each)) for each in meters]
+    return min(found, key=lambda both: len(both[0]) + both[1])[0]
+
+
+def _ends_off(end: int, meter: Meter) -> bool:
+    """Whether a piece ends off the bar lines; its last bar may be shorter by the upbeat."""
+    bar = meter.start(2) - meter.start(1)
+    return bool(end % bar and (end - meter.upbeat) % bar)
 
 
 def _shown(text: bytes, start: int, found: Found) -> Problem:

@@ -112,8 +112,9 @@ class Plain:
     def _registers(self) -> None:
         pairs = list(zip(self.tokens, self.tokens[1:]))
         setting: set[str] = {token.text for before, token in pairs if before.text == "set"}
+        unset = _REGISTERS - setting
         for token in reversed(self.tokens):
-            if token.text in _REGISTERS - setting:
+            if token.text in unset:
                 self.finds.find("register-never-set", token, f"`{token.text}` is read and never set, so it is 0")
 
     def _seed(self) -> None:

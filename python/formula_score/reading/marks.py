@@ -246,7 +246,7 @@ def _told(group: list[tuple[Mark, Verdict]], meter: Meter) -> list[Finding]:
     for mark, verdict in group:
         name = "bar" if mark.first_bar == mark.last_bar else "bars"
         said = f"`{name} {mark.first_bar}{f' to {mark.last_bar}' if name == 'bars' else ''}`"
-        if verdict.begins_wrong and verdict.late != carried:
+        if (verdict.begins_wrong or verdict.late == verdict.over != 0) and verdict.late != carried:
             what = f"{said} begins {_off(verdict.late, meter)}: it is in {meter.tell(max(0, verdict.begin))}"
             found.append(Finding(mark.comment.line, mark.comment.column, what))
             carried = verdict.late
