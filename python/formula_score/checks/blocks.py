@@ -112,8 +112,9 @@ class Lists(Look):
         if taken < count:
             self.finds.find("rhythm-left-over", of.first, f"{said}: the last {count - taken} are never taken" if
                             count - taken > 1 else f"{said}: the last one is never taken")
-        elif taken % count == count - 1 or taken % count == 1 and taken > 2 * count > 5:
-            off = "one is left over" if taken % count == count - 1 else "one more than whole rounds of it"
+        else:
+            over, left = taken % count, count - taken % count
+            off = f"{over} more than whole rounds of it" if over <= left else f"{left} too few for whole rounds of it"
             self.finds.find("rhythm-left-over", of.first, f"{said}: {off}")
 
 

@@ -11,11 +11,12 @@ from ..reading.walk import TooMuch
 from .bars import RULES_OF_BARS, Heard
 from .blocks import Branches, Drums, Lists
 from .finding import Found
+from .keys import Keys
 from .looking import Finds, Looking
 from .plain import Plain
 from .rules import SEVERITIES
 from .shapes import Levels, Shapes
-from .sounding import Channels, Keys
+from .sounding import Channels
 from .stores import Draws, Stores
 from .tempo import SaidTempos, Tempos
 from .values import Clamped, Comparisons, Registers
