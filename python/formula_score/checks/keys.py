@@ -2,6 +2,7 @@
 
 from __future__ import annotations
 
+from collections import Counter
 from typing import Iterator, Optional, Sequence
 
 from ..making.expected import MOST_WAITING, outside
@@ -9,8 +10,17 @@ from ..reading.tree import Statement
 from ..reading.walk import Happening, Place, parts_of, tick_of
 from .looking import Finds, Look, Looking
 
-#: Of each channel and key where its notes begin and end.
-Struck = dict[tuple[int, int], list[tuple[int, int]]]
+#: Of each channel and key its notes.
+Struck = dict[tuple[int, int], list[Happening]]
+
+
+def _begins(note: Happening) -> int:
+    return tick_of(note.levels, note.position)
+
+
+def _ends(note: Happening) -> int:
+    sounds = (note.end - note.begin) * note.percent // 100
+    return outside(parts_of(note.levels), note.position + sounds, False)
 
 
 class Keys(Look):
@@ -38,12 +48,11 @@ class Keys(Look):
         """Keys that two branches share."""
         played = self.branches[-len(par.blocks):]
         del self.branches[-len(par.blocks):]
-        notes: dict[tuple[int, int], list[tuple[int, int, int]]] = {}  # with the branch of each
-        for at, struck in enumerate(played):
-            for place, spans in struck.items():
-                notes.setdefault(place, []).extend((begin, at, end) for begin, end in spans)
-        for (channel, key), several in sorted(notes.items()):
-            twice = _struck_while_it_sounds(sorted(several))
+        shared = [place for place, count in Counter(place for struck in played for place in struck).items() if count > 1]
+        for channel, key in sorted(shared):
+            twice = _struck_while_it_sounds(sorted(
+                (_begins(note), at, _ends(note)) for at, struck in enumerate(played)
+                for note in struck.get((channel, key), ())))
             if twice:
                 lines = " and ".join(str(par.blocks[branch].head.line) for branch in twice)
                 self.finds.find("key-in-two-branches", par.first, f"branches {twice[0] + 1} and {twice[1] + 1} (lines "
@@ -53,10 +62,13 @@ class Keys(Look):
 
     def sounds(self, note: Happening) -> None:
         """A note begins."""
-        branches = list(_branches(note.place))
-        if note.percent <= 100 and not self.waiting and not branches:
+        for place in _branches(note.place):
+            struck = self.struck.setdefault(id(place), (place, {}))[1]
+            for key in note.values:
+                struck.setdefault((note.channel, key), []).append(note)
+        if note.percent <= 100 and not self.waiting:
             return
-        begin = tick_of(note.levels, note.position)
+        begin = _begins(note)
         self.waiting = [waiting for waiting in self.waiting if waiting[0] > begin]
         for end, earlier in self.waiting:
             if set(earlier.values) & set(note.values) and earlier.channel == note.channel and earlier.percent > 100:
@@ -64,13 +76,7 @@ class Keys(Look):
         while len(self.waiting) + len(note.values) > MOST_WAITING:
             end, cut = self.waiting.pop(0)
             self.cut(cut, end - begin, f"by the note on line {note.statement.line}, since 16 pitches sound at most")
-        sounds = (note.end - note.begin) * note.percent // 100
-        end = outside(parts_of(note.levels), note.position + sounds, False)
-        for place in branches:
-            struck = self.struck.setdefault(id(place), (place, {}))[1]
-            for key in note.values:
-                struck.setdefault((note.channel, key), []).append((begin, end))
-        self.waiting += [(end, note) for _ in note.values]
+        self.waiting += [(_ends(note), note) for _ in note.values]
 
     def _again(self, note: Happening, earlier: Happening, ticks: int) -> None:
         """Told once for its block."""

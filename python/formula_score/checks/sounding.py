@@ -8,11 +8,12 @@ from ..making.midi import INSTRUMENTS
 from ..reading.tree import Statement
 from ..reading.walk import Happening, tick_of
 from .finding import Edit, replaced
-from .looking import Finds, Look, Looking
+from .looking import Look
 
 #: Of more notes than these none is kept for what a channel is sent.
 MOST_NOTES = 300_000
 _PEDAL, _VOLUME, _EXPRESSION = 64, 7, 11
+_NOTES = {"note", "play"}
 
 
 class Sent(NamedTuple):
@@ -28,36 +29,34 @@ class Sent(NamedTuple):
     end: int
 
 
+def _sent(of: Happening, order: int) -> Sent:
+    word = "note" if of.statement.word in _NOTES else of.statement.word
+    return Sent(tick_of(of.levels, of.position), of.process, order, word, of.statement.number, of.values[0], of.statement,
+                tick_of(of.levels, of.position + of.end - of.begin))
+
+
 class Channels(Look):
     """What each channel is sent, in the order of the file."""
 
-    def __init__(self, walk: Looking, finds: Finds):
-        super().__init__(walk, finds)
-        self.sent: dict[int, list[Sent]] = {}
-        self.count = 0
-
-    def statement(self, happening: Happening) -> None:
-        word = happening.statement.word
-        if word in ("note", "play"):
-            word, self.count = "note", self.count + 1
-        if word in ("note", "control", "program", "bend") and self.count <= MOST_NOTES:
-            tick = tick_of(happening.levels, happening.position)
-            self.sent.setdefault(happening.channel, []).append(Sent(
-                tick, happening.process, len(self.sent.get(happening.channel, ())), word, happening.statement.number,
-                happening.values[0], happening.statement,
-                tick_of(happening.levels, happening.position + happening.end - happening.begin)))
-
     def finish(self) -> None:
-        if self.count > MOST_NOTES:
-            return
-        for channel, sent in self.sent.items():
-            sent.sort()
-            notes = [each for each in sent if each.word == "note"]
-            if not notes and self.count:
-                self.finds.find("channel-without-notes", sent[0].statement.first,
-                                f"channel {channel} has no note: this is heard by nothing")
-            if not notes:
-                continue
+        channels: dict[int, list[Happening]] = {}
+        for happening in self.walk.happenings:
+            if happening.values:
+                channels.setdefault(happening.channel, []).append(happening)
+        words = {channel: [happening.statement.word for happening in own] for channel, own in channels.items()}
+        notes = {channel: sum(word in _NOTES for word in each) for channel, each in words.items()}
+        if sum(notes.values()) <= MOST_NOTES:
+            for channel, own in channels.items():
+                self._channel(channel, own, notes[channel], {*words[channel]} - _NOTES)
+
+    def _channel(self, channel: int, own: list[Happening], notes: int, others: set[str]) -> None:
+        if notes and (not others or others == {"program"} and notes == len(own) - 1):
+            return  # of notes, and an instrument at most, there is nothing to say
+        sent = sorted(_sent(happening, order) for order, happening in enumerate(own))
+        if not notes and any(happening.statement.word in _NOTES for happening in self.walk.happenings):
+            self.finds.find("channel-without-notes", sent[0].statement.first,
+                            f"channel {channel} has no note: this is heard by nothing")
+        if notes:
             self._held(channel, sent)
             self._silent(channel, sent)
             self._at_one_tick(sent)

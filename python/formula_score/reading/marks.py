@@ -121,6 +121,8 @@ def _place(found: tuple[Sequence, int, int]) -> int:
 
 def marks(reading: Reading) -> list[Mark]:
     """All comments of the score that count bars, and that stand at statements."""
+    if not any(map(bars_of, reading.comments)):
+        return []
     every = sequences(reading)
     lines, phrases = _Lines(every, reading.comments_above()), _phrases(every)
     sought = []
