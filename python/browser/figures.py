@@ -1,10 +1,10 @@
-"""How long it takes from a keystroke to the picture and to the margin: a tune of 16 bars, 1,000 lines, 100,000 notes, and
-a text of a mebibyte.
+"""How long it takes from a keystroke to the picture and to the margin: a tune of 16 bars, 1,000 lines, 100,000 notes,
+and a text of a mebibyte.
 
     python/browser/run --figures
 
-Each is changed some times, and the times from the change to the drawn picture, and to what is found in the text, are told
-in milliseconds, the median and the longest. Of the text of a mebibyte it is also told how long the page did not answer at a time.
+Each is changed some times, and the times from the change to the drawn picture, and to what is found in the text, are
+told in milliseconds, the median and the longest; and how long the page did not draw at a time.
 """
 
 from __future__ import annotations
@@ -46,12 +46,13 @@ def mebibyte() -> str:
 
 
 def thousand() -> str:
-    """A score of a thousand lines: phrases of four bars, played by two voices under a tempo."""
+    """A score of a thousand lines: phrases of four bars, each played once by one of two voices under a tempo."""
     bar = "  note c4 1/8; note e4 1/8; note g4, c5 1/4; volume 90 { note a4 1/8; note f4 1/8; note d4 1/4; }\n"
     phrases = [f"phrase p{number} {{\n{bar * 4}}}\n" for number in range(160)]
-    played = " ".join(f"do p{number};" for number in range(160))
-    return "".join(["formula 1;\nshape tempo = flat 500/1 by 1250, flat 500/1 by 1250;\n", *phrases, "warp tempo { par {\n", f"  branch {{ "
-                    f"{played} }}\n  branch {{ channel 1 {{ {played} }} }}\n}} }}\n", "# the end\n" * 34])
+    one, other = (" ".join(f"do p{number};" for number in range(first, 160, 2)) for first in (0, 1))
+    return "".join(["formula 1;\nshape tempo = flat 500/1 by 1250, flat 500/1 by 1250;\n", *phrases,
+                    f"warp tempo {{ par {{\n  branch {{ {one} }}\n  branch {{ channel 1 {{ {other} }} }}\n}} }}\n",
+                    "# the end\n" * 34])
 
 
 def timed(browser: Any, text: str) -> list[tuple[float, float]]:
