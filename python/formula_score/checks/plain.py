@@ -160,7 +160,7 @@ class Plain:
         """A list for all places of a round, where a rest takes no entry."""
         count, notes = len(statement.entries), sum(word in ("note", "play") for word in words)
         rests = sum(word in ("rest", "skip") for word in words)
-        if rests and notes + rests == len(words) == count:
+        if notes and count % notes and notes + rests == len(words) == count:
             self.finds.find("loud-list", statement.first, f"this `loud` list has {count} entries, and each round of its "
                             f"loop {notes} notes: a rest takes no entry, so the list slips against the rounds")
 
