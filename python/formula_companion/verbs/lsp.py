@@ -3,6 +3,7 @@
 from __future__ import annotations
 
 import argparse
+import gc
 import os
 import sys
 
@@ -26,6 +27,7 @@ def run(_: argparse.Namespace) -> int:
     from ..lsp.judging import program_for_judging
     from ..lsp.server import Server  # it needs the library
 
+    gc.set_threshold(100_000)  # a long text is a million objects, which the usual 700 would have looked through too often
     answers = os.fdopen(os.dup(1), "wb")
     os.dup2(2, 1)  # what is printed is no answer
     return Server(sys.stdin.buffer, answers, program_for_judging()).serve()
