@@ -15,9 +15,9 @@ def arguments(parser: argparse.ArgumentParser) -> None:
     """What the verb takes."""
     parser.description = f"""{parser.description}
 
-An editor starts it, and speaks LSP with it on standard input and output. It tells at each change what is refused, or what
-lint and bars find, with the place and what to do, and has the changes as quick fixes; what may be written at a place;
-what a word means; where a phrase or shape is defined and used; the outline; and it renames phrases and shapes.
+An editor starts it, and speaks LSP with it on standard input and output. It tells at each change what is refused, or
+what lint and bars find, with the place and what to do, and has the changes as quick fixes; what may be written at a
+place; what a word means; where a phrase or shape is defined and used; the outline; and it renames phrases and shapes.
 editors/README.md says how Neovim starts it. It needs Debian's package {names("lsp")[0]}."""
 
 
