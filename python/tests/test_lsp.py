@@ -48,9 +48,14 @@ found = vim.diagnostic.get(buffer)[1]
 table.insert(said, found.severity .. ' ' .. found.lnum .. ':' .. found.col .. ' ' .. found.message)
 local asked = vim.lsp.util.make_range_params()
 asked.context = { diagnostics = {} }
-for _, answer in pairs(vim.lsp.buf_request_sync(buffer, 'textDocument/codeAction', asked, 20000)) do
-  vim.lsp.util.apply_workspace_edit(answer.result[1].edit, 'utf-16')
-end
+local action
+waited(function()
+  for _, answer in pairs(vim.lsp.buf_request_sync(buffer, 'textDocument/codeAction', asked, 20000) or {}) do
+    action = answer.result and answer.result[1]
+  end
+  return action
+end)
+vim.lsp.util.apply_workspace_edit(action.edit, 'utf-16')
 vim.list_extend(said, vim.api.nvim_buf_get_lines(buffer, 4, 5, false))
 waited(function() return #vim.diagnostic.get(buffer) == 0 end)
 table.insert(said, #vim.diagnostic.get(buffer) .. ' left')

@@ -4,6 +4,7 @@ from __future__ import annotations
 
 import argparse
 import functools
+from typing import Any, NoReturn
 
 from formula_score.checks.bars import RULES_OF_BARS
 from formula_score.checks.finding import WARNING
@@ -17,6 +18,18 @@ from .options import json_argument, meter_arguments
 from .several import Several, found_of, several_arguments
 
 
+class _Rules(argparse.Action):
+    """Prints the table of rules, and ends."""
+
+    def __init__(self, **given: Any):
+        super().__init__(nargs=0, **given)
+
+    def __call__(self, parser: argparse.ArgumentParser, *_: object) -> NoReturn:
+        for rule in RULES:
+            print(f"{rule.name}{'' if rule.severity == WARNING else ' (remark)'}: {rule.says}")
+        parser.exit()
+
+
 def arguments(parser: argparse.ArgumentParser) -> None:
     """What the verb takes."""
     several_arguments(parser)
@@ -24,15 +37,14 @@ def arguments(parser: argparse.ArgumentParser) -> None:
                         "same form, and what `bars` finds")
     meter_arguments(parser, None)
     json_argument(parser, "the `findings` of all scores, and those `refused`")
-    rows = "\n".join(f"  {rule.name}{'' if rule.severity == WARNING else ' (remark)'}: {rule.says}" for rule in RULES)
+    parser.add_argument("--rules", action=_Rules, help="print the rules, and end")
     parser.description = f"""{parser.description}
 
 It ends with 1 where a score is refused, or it warns, else with 0: remarks alone are 0. `# lint: ignore NAME` behind a
 line, or on a line of its own before it, says that a thing is meant there; above the first word, in all of the text.
 With --all this holds of {", ".join(RULES_OF_BARS)}, too; where no --meter is given, it is 4/4 or 3/4.
 
-It looks for:
-{rows}"""
+--rules prints what it looks for."""
 
 
 def run(options: argparse.Namespace) -> int:
