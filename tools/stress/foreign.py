@@ -38,6 +38,8 @@ BRANCHES, TICKS, BYTES = 0.60, 0.25, 0.90
 #: Of how large a part of the channels with notes there are at most as many branches as notes sound at once, and three.
 CHANNELS = 0.98
 FEW = 8
+#: In how many of 100 lines of a score lint finds something, at most.
+LINT = 2
 SEVENTHS = re.compile(r"/(?:7|14|28|56)\b")
 
 
@@ -166,7 +168,8 @@ def tried(file: File, program: str, count: harness.Count, with_exact: bool = Tru
         if not count.judge(" ".join([file.package, file.name, *words]), problem):
             return None
     found = look(text, file.data, program)
-    count.judge(f"{file.package} {file.name}, by lint", "; ".join(found.lint))
+    many = 100 * len(found.lint) > max(100, text.count("\n")) * LINT
+    count.judge(f"{file.package} {file.name}, by lint", "; ".join(found.lint) if many else "")
     return found
 
 
