@@ -10,11 +10,7 @@ import re
 from fractions import Fraction
 from typing import TYPE_CHECKING, Any, Iterable, Optional
 
-<<<<<<< HEAD
-=======
 from formula_score.checks.margin import refused as refusal
-from formula_score.checks.summary import Summary
->>>>>>> 4aeb0d6a77944bb00c1586e1ed17f20f04758f33
 from formula_score.explaining.explain import file_place_of, place_of
 from formula_score.language.tokens import tokens
 from formula_score.reading.meter import groups_of, part_of
