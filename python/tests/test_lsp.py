@@ -43,8 +43,10 @@ waited(function() return vim.api.nvim_buf_get_lines(buffer, 1, 2, false)[1]:find
 vim.list_extend(said, vim.api.nvim_buf_get_lines(buffer, 1, 3, false))
 vim.api.nvim_buf_set_lines(buffer, 4, 4, false, { 'note es4 1/4;' })
 vim.api.nvim_win_set_cursor(0, { 5, 6 })
-waited(function() return #vim.diagnostic.get(buffer) > 0 end)
-found = vim.diagnostic.get(buffer)[1]
+waited(function() -- while it renames, the text is refused
+  found = vim.diagnostic.get(buffer)[1]
+  return found and found.severity == 2
+end)
 table.insert(said, found.severity .. ' ' .. found.lnum .. ':' .. found.col .. ' ' .. found.message)
 local asked = vim.lsp.util.make_range_params()
 asked.context = { diagnostics = {} }
