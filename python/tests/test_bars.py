@@ -16,12 +16,13 @@ TUTORIAL = TOP / "examples" / "tutorial"
 
 
 def bars(text: str, *words: object) -> tuple[int, list[str]]:
-    """The lines that the verb tells of a text; those of findings without the file's name."""
+    """The lines that the verb tells of a text, but for the sum; those of findings without the file's name."""
     with tempfile.TemporaryDirectory() as folder:
         path = pathlib.Path(folder, "tune.score")
         path.write_text(text)
         answer = score("bars", path, *words)
-        return answer.status, answer.said.replace(f"{path}:", "").splitlines()
+        lines = answer.said.replace(f"{path}:", "").splitlines()
+        return answer.status, [line for line in lines if not line.startswith("1 score: ")]
 
 
 class Meters(unittest.TestCase):
@@ -51,24 +52,45 @@ class Lengths(unittest.TestCase):
             self.assertEqual(score("bars", path).status, 0, path)
         said = score("bars", TUTORIAL / "8_end.score").said.splitlines()
         self.assertEqual(said[0], "meter 4/4")
-        self.assertEqual([" ".join(line.split()) for line in said[1:4] + said[-2:]],
-                         ["line 4 phrase opening 3 bars 3 times: bar 1, bar 5, bar 13",
-                          "line 9 phrase half_close 1 bar bar 4", "line 10 phrase close 1 bar bar 8",
-                          "line 35 branch 2 16 bars bars 1 to 16", "the piece 16 bars bars 1 to 16"])
+        self.assertEqual([" ".join(line.split()) for line in said[1:4] + said[-3:-1]],
+                         ["line 4 phrase opening 3 bars 7,200 to 7,680 ticks 7.50 to 8.00 s 3 times: bar 1, bar 5, "
+                          "bar 13",
+                          "line 9 phrase half_close 1 bar 2,400 ticks 2.50 s bar 4",
+                          "line 10 phrase close 1 bar 2,400 ticks 2.50 s bar 8",
+                          "line 35 branch 2 16 bars 42,120 ticks 43.88 s bars 1 to 16",
+                          "the piece 16 bars 42,120 ticks 43.88 s bars 1 to 16"])
 
     def test_a_phrase_and_branches_that_do_not_fit(self) -> None:
         status, said = bars("formula 1;\nphrase p { note c4 7/8; }\ndo p;\npar {\n  branch { rest 1/1; }\n"
                             "  branch { rest 1/2; }\n}\n")
         self.assertEqual((status, said[-3:]), (1, [
-            "2:8: phrase p is no whole number of bars: it has 7/8, 1/8 too short",
-            "4:1: branches are not equally long, by up to 1/2: branch 1 (line 5) 1 bar, branch 2 (line 6) 1/2",
-            "6:3: branch 2 is no whole number of bars: it has 1/2, 1/2 too short"]))
+            "        the piece  1 bar and 7/8  3,600 ticks  3.75 s  bar 1 to bar 2, beat 4 and 1/8",
+            "2:8: warning: phrase p is no whole number of bars, and what follows leaves the bar lines: it has 7/8, "
+            "1/8 too short [off-the-grid]",
+            "4:1: remark: branches are not equally long as written, by up to 1/2: branch 1 (line 5) 1 bar, branch 2 "
+            "(line 6) 1/2 [branches-uneven]"]))
+
+    def test_a_motif_is_no_fault_where_what_follows_is_on_the_grid(self) -> None:
+        status, said = bars("formula 1;\nphrase p { note c4 1/4; }\ndo p; do p; note c4 1/2;\n")
+        self.assertEqual((status, len(said)), (0, 3))
+
+    def test_voices_that_drift_are_remarked_bar_by_bar(self) -> None:
+        # an eighth of 240 ticks is 319 by 1,333 and 160 by 667: 479 of 480, four times a bar
+        status, said = bars("formula 1;\nshape swing = flat 1/8 by 1333, flat 1/8 by 667;\npar {\n  branch { repeat "
+                            "16 { warp swing { note c5 1/8; note d5 1/8; } } }\n  branch { repeat 4 { note c3 1/1; } "
+                            "}\n}\n")
+        self.assertEqual((status, said[-1]), (0,
+                                              "3:1: remark: branches 1 and 2 are equally long as written, and end 16 "
+                                              "ticks (0.02 s) apart as played: 4 at bar 2, 8 at bar 3, 12 at bar 4 "
+                                              "[branches-apart]"))
 
     def test_a_length_that_is_computed_is_counted(self) -> None:
         status, said = bars("formula 1;\nphrase p { repeat (3 + n0) max 9 { note c4 ticks (480) max 480; } }\n"
                             "repeat 2 { do p; }\n", "--meter", "3/4")
         self.assertEqual((status, " ".join(said[1].split())),
-                         (0, "line 2 phrase p 1 bar or 1 bar and 1/4 2 times: bar 1, bar 2"))
+                         (0,
+                          "line 2 phrase p 1 bar or 1 bar and 1/4 1,440 to 1,920 ticks 1.50 to 2.00 s 2 times: bar 1, "
+                          "bar 2"))
 
     def test_with_an_upbeat_the_piece_may_end_in_a_short_bar(self) -> None:
         text = "formula 1;\nphrase p { note g4 1/4; note c4 7/4; }\ndo p;\n"
@@ -79,8 +101,9 @@ class Lengths(unittest.TestCase):
     def test_sections_are_named_by_comments(self) -> None:
         _, said = bars("# A piece.\nformula 1;\n# Verse\nnote c4 2/1;\n# Chorus\n# loud\nnote c4 1/1; rest 1/1;\n")
         self.assertEqual([" ".join(line.split()) for line in said[1:]],
-                         ["line 3 section Verse 2 bars bars 1 to 2", "line 5 section Chorus 2 bars bars 3 to 4",
-                          "the piece 4 bars bars 1 to 4"])
+                         ["line 3 section Verse 2 bars 3,840 ticks 4.00 s bars 1 to 2",
+                          "line 5 section Chorus 2 bars 3,840 ticks 4.00 s bars 3 to 4",
+                          "the piece 4 bars 7,680 ticks 8.00 s bars 1 to 4"])
 
 
 @needs_program
@@ -89,7 +112,7 @@ class Comments(unittest.TestCase):
 
     def findings(self, text: str, *words: object) -> list[str]:
         status, said = bars(text, *words)
-        found = [line for line in said if line[:1].isdigit()]
+        found = [line.replace(" warning:", "").replace(" [bar-comment]", "") for line in said if line[:1].isdigit()]
         self.assertEqual(status, 1 if found else 0, said)
         return found
 

@@ -9,7 +9,7 @@ from formula_companion.editing.names import renamed, same_name, use_at
 from formula_companion.editing.outline import Part, outline
 from formula_companion.editing.places import Places, Position
 from formula_companion.editing.reference import SAYS, form_of, row_at
-from formula_companion.editing.refusal import refused
+from formula_score.checks.margin import refused
 from formula_score.explaining.explain import Place
 from formula_score.language.grammar import KEYWORDS
 
@@ -37,17 +37,22 @@ class Positions(unittest.TestCase):
         self.assertEqual(places.byte_of(2, 2), byte + 3)
 
     def test_a_refusal_is_underlined_where_it_is_told(self) -> None:
-        refusal = refused("formula 1; # 𝄞\nnote c4 1/4\nnote d4 1/4;".encode(), Place(3, 1, 3))
-        self.assertEqual((refusal.range.start, refusal.range.end), (Position(1, 10), Position(1, 11)))
-        self.assertIn("a `;` is expected", refusal.heading)
+        text = "formula 1; # 𝄞\nnote c4 1/4\nnote d4 1/4;".encode()
+        refusal = refused(text, Place(3, 1, 3))
+        places = Places(text)
+        self.assertEqual(places.range(refusal.start, refusal.end), (Position(1, 10), Position(1, 11)))
+        self.assertIn("a `;` is expected", refusal.what)
         self.assertEqual(refusal.cure, "each statement ends with `;`: write `note c4 1/4;`")
-        self.assertEqual([(fix.title, fix.range, fix.new) for fix in refusal.fixes],
-                         [("write `note c4 1/4;`", (Position(1, 0), Position(1, 11)), "note c4 1/4;")])
+        change, = refusal.changes
+        edit, = change.edits
+        self.assertEqual((change.title, places.range(edit.start, edit.end), edit.new),
+                         ("write `note c4 1/4;`", (Position(1, 0), Position(1, 11)), "note c4 1/4;"))
         word = refused(b"formula 1; volume 200 { }", Place(1, 19, 7))
-        self.assertEqual((word.range.start, word.range.end), (Position(0, 18), Position(0, 21)))
+        self.assertEqual((word.start, word.end), (18, 21))
         byte = refused("formula 1; note 𝄞 1/4;".encode(), Place(1, 17, 1))
-        self.assertEqual((byte.range.start, byte.range.end), (Position(0, 16), Position(0, 18)))
-        self.assertEqual(refused(b"", Place(1, 1, 3)).range, (Position(0, 0), Position(0, 0)))
+        self.assertEqual((byte.start, byte.end), (16, 20))
+        empty = refused(b"", Place(1, 1, 3))
+        self.assertEqual((empty.start, empty.end), (0, 0))
 
 
 class Names(unittest.TestCase):

@@ -66,7 +66,7 @@ class Editors(unittest.TestCase):
         with open(os.path.join(VS_CODE, "package.json"), encoding="utf-8") as file:
             pattern = json.load(file)["contributes"]["problemMatchers"][0]["pattern"]
         with open(os.path.join(VS_CODE, "tasks.json"), encoding="utf-8") as file:
-            task, = json.load(file)["tasks"]
+            task, _ = json.load(file)["tasks"]
         self.assertEqual(task["type"], "process")
         for name in "tune", "it's rock & roll|100% \\1":
             with tempfile.TemporaryDirectory() as folder:

@@ -21,7 +21,8 @@ phrase tune { note c4 1/4; }
 phrase other { do tune; }
 do tune; do other;
 """
-#: What Neovim's client is asked to do: it opens a score, waits for a refusal, cures it, renames, and tells what it has.
+#: What Neovim's client is asked to do: it opens a score, waits for a refusal, cures it, renames, takes the change of what
+#: lint finds, and tells what it has.
 NEOVIM = """
 local said = {}
 local score, server, out = unpack(ARGUMENTS)
@@ -40,6 +41,19 @@ vim.api.nvim_win_set_cursor(0, { 4, 4 })
 vim.lsp.buf.rename('song')
 waited(function() return vim.api.nvim_buf_get_lines(buffer, 1, 2, false)[1]:find('song') end)
 vim.list_extend(said, vim.api.nvim_buf_get_lines(buffer, 1, 3, false))
+vim.api.nvim_buf_set_lines(buffer, 4, 4, false, { 'note es4 1/4;' })
+vim.api.nvim_win_set_cursor(0, { 5, 6 })
+waited(function() return #vim.diagnostic.get(buffer) > 0 end)
+found = vim.diagnostic.get(buffer)[1]
+table.insert(said, found.severity .. ' ' .. found.lnum .. ':' .. found.col .. ' ' .. found.message)
+local asked = vim.lsp.util.make_range_params()
+asked.context = { diagnostics = {} }
+for _, answer in pairs(vim.lsp.buf_request_sync(buffer, 'textDocument/codeAction', asked, 20000)) do
+  vim.lsp.util.apply_workspace_edit(answer.result[1].edit, 'utf-16')
+end
+vim.list_extend(said, vim.api.nvim_buf_get_lines(buffer, 4, 5, false))
+waited(function() return #vim.diagnostic.get(buffer) == 0 end)
+table.insert(said, #vim.diagnostic.get(buffer) .. ' left')
 vim.fn.writefile(said, out)
 vim.cmd('qa!')
 """
@@ -137,6 +151,21 @@ class Spoken(unittest.TestCase):
             "start": {"line": 3, "character": 0}, "end": {"line": 3, "character": 0}}, "context": {"diagnostics": []}})
         self.assertEqual(elsewhere, [])
 
+    @needs_program
+    def test_what_lint_and_bars_find_is_a_warning_or_a_hint_with_its_change(self) -> None:
+        self.open("formula 1;\nnote es4 1/4;\n")
+        found = self.diagnostics(1)
+        self.assertEqual([(each["code"], each["severity"], each["range"]["start"]) for each in found],
+                         [("sharp-for-flat", 2, {"line": 1, "character": 5})])
+        place = {"line": 1, "character": 6}
+        actions = self.ask("textDocument/codeAction", {"textDocument": {"uri": URI}, "range": {"start": place, "end": place},
+                                                       "context": {"diagnostics": []}})
+        self.assertEqual([action["edit"]["changes"][URI][0]["newText"] for action in actions], ["eb4"])
+        self.open("formula 1; repeat 2 { note c4 1/1; } # bars 3 to 4\npar { branch { note c4 1/1; } branch { rest 1/2; } "
+                  "}\n", 2)
+        self.assertEqual([(each["code"], each["severity"]) for each in self.diagnostics(2)],
+                         [("bar-comment", 2), ("branches-uneven", 4)])
+
     def test_words_names_and_the_outline_are_told(self) -> None:
         self.open(TEXT)
         self.assertIn("starts up to 16 pitches", self.at("hover", 1, 15)["contents"]["value"])
@@ -158,9 +187,10 @@ class Spoken(unittest.TestCase):
     def test_notes_of_a_comment_are_written_and_a_text_is_set(self) -> None:
         def actions(line: int) -> Any:
             place = {"line": line, "character": 3}
-            return self.ask("textDocument/codeAction", {"textDocument": {"uri": URI}, "range": {"start": place,
-                                                                                                "end": place},
-                                                        "context": {"diagnostics": []}})
+            found = self.ask("textDocument/codeAction", {"textDocument": {"uri": URI}, "range": {"start": place,
+                                                                                                 "end": place},
+                                                         "context": {"diagnostics": []}})
+            return [action for action in found if action["kind"] == "refactor.rewrite"]
 
         self.open("formula 1;\nvolume 9 {\n  # notes 3/4: c4 d/8 e f/4 | g/2.\n}\n# notes: x\n  note c4 1/4 ;\n")
         action, = actions(2)
@@ -259,8 +289,9 @@ class Neovim(unittest.TestCase):
                            stdin=subprocess.DEVNULL, stdout=subprocess.DEVNULL, stderr=subprocess.DEVNULL)
             said = (folder / "said").read_text().splitlines()
         self.assertTrue(said[0].startswith("1:26 here a `;` is expected"), said)
-        self.assertIn("0 left", said)
-        self.assertEqual(said[-2:], ["phrase song { note c4 1/4; }", "phrase other { do song; }"])
+        self.assertEqual(said[1:4], ["0 left", "phrase song { note c4 1/4; }", "phrase other { do song; }"])
+        self.assertEqual(said[4:], ["2 4:5 `es4` is E sharp, the same key as `f4`; E flat is `eb4`", "note eb4 1/4;",
+                                    "0 left"])
 
 
 if __name__ == "__main__":

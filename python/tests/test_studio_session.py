@@ -67,11 +67,12 @@ class Sessions(StudioTest):
 
     def test_a_text_is_played_and_then_looked_at(self) -> None:
         self.page.send(do="text", number=1, text=self.TUNE)
-        frames = [self.page.next() for _ in range(3)]
-        self.assertEqual([(frame.head["kind"], frame.head["number"]) for frame in frames],
+        frames = {frame.head["kind"]: frame for frame in (self.page.next() for _ in range(4))}
+        self.assertEqual([(kind, frame.head["number"]) for kind, frame in frames.items() if kind != "problems"],
                          [("file", 1), ("picture", 1), ("bars", 1)])
-        self.assertEqual(frames[0].body, render(self.TUNE, PROGRAM))
-        self.assertEqual(frames[2].head["bars"][:1], [[0, 1]])
+        self.assertEqual(frames["file"].body, render(self.TUNE, PROGRAM))
+        self.assertEqual(frames["bars"].head["bars"][:1], [[0, 1]])
+        self.assertEqual(frames["problems"].head["problems"], [])
         self.page.send(do="facts", question=7, event=0)
         facts = self.page.next().head
         self.assertEqual((facts["question"], facts["facts"][0]), (7, ["Note", "c4, key 60, velocity 64, channel 0"]))
@@ -79,9 +80,10 @@ class Sessions(StudioTest):
     def test_a_refusal_is_told_with_its_place(self) -> None:
         self.page.send(do="text", number=1, text="formula 1;\nnote c4 1/4\n")
         head = self.page.next().head
-        self.assertEqual((head["kind"], head["refusal"]["number"], head["refusal"]["range"]),
-                         ("refusal", 3, [[1, 10], [1, 11]]))
-        self.assertIn("write `note c4 1/4;`", head["refusal"]["cure"])
+        problem, = head["problems"]
+        self.assertEqual((head["kind"], problem["severity"], problem["rule"], problem["range"]),
+                         ("problems", "error", "fault 3", [[1, 10], [1, 11]]))
+        self.assertIn("write `note c4 1/4;`", problem["cure"])
 
     def test_what_may_be_written_is_told(self) -> None:
         self.page.send(do="text", number=1, text="formula 1;\nno")
@@ -106,7 +108,7 @@ class OutOfDate(unittest.TestCase):
             page.send(do="text", number=1, text="formula 1; # slow")
             pids = self.waited(lambda: list(folder.glob("*.pid")))
             page.send(do="text", number=2, text="formula 1; note c4 1/4;")
-            self.assertEqual([page.next().head["number"] for _ in range(3)], [2, 2, 2])
+            self.assertEqual([page.next().head["number"] for _ in range(4)], [2] * 4)
             self.assertTrue(self.waited(lambda: not os.path.exists(f"/proc/{pids[0].stem}")))
 
     def waited(self, what: Any) -> Any:

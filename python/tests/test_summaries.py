@@ -84,8 +84,9 @@ class Summaries(unittest.TestCase):
 
     def test_json_of_bars_and_lint(self) -> None:
         status, value = self.json("bars", self.path)
-        self.assertEqual((status, value["lengths"][-1]), (0, {"line": 0, "what": "the piece", "lasts": "3 bars",
-                                                              "where": "bars 1 to 3"}))
+        whole = {"path": str(self.path), "line": 0, "what": "the piece", "lasts": "3 bars", "ticks": [7680],
+                 "where": "bars 1 to 3"}
+        self.assertEqual((status, value["lengths"][-1]), (0, whole))
         self.assertEqual(self.json("bars", self.path, "--tick", 3), (0, {"bar": 3, "ticks": [{"tick": 5760,
                                                                                               "processes": [3]}]}))
         self.assertEqual(self.json("bars", self.path, "--bar", 3840), (0, {"tick": 3840, "places": [

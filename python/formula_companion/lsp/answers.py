@@ -2,8 +2,10 @@
 
 from __future__ import annotations
 
-from typing import Any, Iterator, Optional
+from typing import Any, Iterator, Optional, Sequence
 
+from formula_score.checks.finding import ERROR, REMARK, WARNING
+from formula_score.checks.margin import Problem
 from formula_score.language.tokens import kind_of
 from formula_score.reading.reader import read
 from formula_score.rewriting.layout import formatted
@@ -12,13 +14,12 @@ from ..editing.names import definition, renamed, same_name, use_at
 from ..editing.outline import Part, outline
 from ..editing.places import Places, Position, Range
 from ..editing.reference import row_at
-from ..editing.refusal import Refusal
 from ..editing.short_notes import written
 
 #: The numbers of LSP for kinds of symbols and of completions, and for how bad a diagnostic is.
 _SYMBOLS = {"phrase": 12, "shape": 13, "branch": 3}
 _KEYWORD, _VALUE, _REFERENCE = 14, 12, 18
-_ERROR = 1
+_SEVERITIES = {ERROR: 1, WARNING: 2, REMARK: 4}
 _REWRITE = "refactor.rewrite"
 
 Value = dict[str, Any]
@@ -44,21 +45,30 @@ class Text:
         """A range of LSP, of bytes."""
         return _range(self.places.range(start, end))
 
-    def diagnostics(self, refusal: Optional[Refusal]) -> Value:
-        """What is published of a text: its refusal, or nothing."""
-        found = [] if refusal is None else [{
-            "range": _range(refusal.range), "severity": _ERROR, "code": refusal.number, "source": "formula",
-            "message": f"{refusal.heading}\n{refusal.cure}".strip()}]
-        return {"uri": self.uri, "version": self.version, "diagnostics": found}
+    def diagnostics(self, problems: Sequence[Problem]) -> Value:
+        """What is published of a text."""
+        return {"uri": self.uri, "version": self.version, "diagnostics": [self._diagnostic(each) for each in problems]}
 
-    def actions(self, line: int, refusal: Optional[Refusal]) -> list[Value]:
-        """The changes that the cure of a refusal names, where it is on a line."""
-        if refusal is None or not refusal.range.start.line <= line <= refusal.range.end.line:
-            return self.notes(line)
-        return [{"title": fix.title, "kind": "quickfix", "isPreferred": len(refusal.fixes) == 1,
-                 "diagnostics": self.diagnostics(refusal)["diagnostics"],
-                 "edit": {"changes": {self.uri: [{"range": _range(fix.range), "newText": fix.new}]}}}
-                for fix in refusal.fixes]
+    def _diagnostic(self, problem: Problem) -> Value:
+        return {"range": self.range(problem.start, problem.end), "severity": _SEVERITIES[problem.severity],
+                "code": problem.rule, "source": "formula-score", "message": f"{problem.what}\n{problem.cure}".strip()}
+
+    def actions(self, line: int, problems: Sequence[Problem]) -> list[Value]:
+        """The changes of what is found on a line, and what writes its short notes."""
+        found = [self._action(problem, number) for problem in problems
+                 if self._first_line(problem) <= line <= self.places.position(problem.end).line
+                 for number in range(len(problem.changes))]
+        return found + self.notes(line)
+
+    def _first_line(self, problem: Problem) -> int:
+        return self.places.position(problem.start).line
+
+    def _action(self, problem: Problem, number: int) -> Value:
+        change = problem.changes[number]
+        return {"title": change.title, "kind": "quickfix", "isPreferred": len(problem.changes) == 1,
+                "diagnostics": [self._diagnostic(problem)],
+                "edit": {"changes": {self.uri: [{"range": self.range(edit.start, edit.end), "newText": edit.new}
+                                                for edit in change.edits]}}}
 
     def notes(self, line: int) -> list[Value]:
         """What writes the notes of a comment `# notes: ..` on a line, or why it does not."""

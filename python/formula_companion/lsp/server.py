@@ -12,10 +12,10 @@ from pylsp_jsonrpc.exceptions import JsonRpcInvalidParams
 from pylsp_jsonrpc.streams import JsonRpcStreamWriter
 
 from formula_score import __version__
+from formula_score.checks.margin import Problem
 from formula_score.reading.playing import Failed
-from ..editing.refusal import Refusal
 from .answers import Text, Value
-from .judging import Judge
+from .judging import Judge, Metered, metered
 
 #: Whole texts are sent with each change.
 _FULL = 1
@@ -55,7 +55,8 @@ class Server:
         self.told: set[str] = set()
         self.texts: dict[str, Text] = {}
         self.judges: dict[str, Judge] = {}
-        self.refusals: dict[str, Optional[Refusal]] = {}    # what was published last of each text
+        self.problems: dict[str, list[Problem]] = {}    # what was published last of each text
+        self.meter: Optional[Metered] = None
         self.is_shut_down = False
         self.incoming, self.write = incoming, JsonRpcStreamWriter(outgoing).write
         self.is_over = False
@@ -95,8 +96,11 @@ class Server:
 
     # ---- the beginning and the end
 
-    def initialize(self, _: Value) -> Value:
-        """What the server can do."""
+    def initialize(self, asked: Value) -> Value:
+        """What the server can do. The options may name the meter of all texts, and an upbeat."""
+        options = asked.get("initializationOptions")
+        if isinstance(options, dict) and "meter" in options:
+            self.meter = metered(str(options["meter"]), str(options.get("upbeat", "")))
         return {"serverInfo": {"name": "formula-score", "version": __version__}, "capabilities": {
             "positionEncoding": "utf-16", "textDocumentSync": {"openClose": True, "change": _FULL},
             "hoverProvider": True, "completionProvider": {"triggerCharacters": [" "]}, "definitionProvider": True,
@@ -154,14 +158,14 @@ class Server:
 
     def _take(self, text: Text) -> None:
         self.texts[text.uri] = text
-        self.refusals.pop(text.uri, None)
+        self.problems.pop(text.uri, None)
         if self.program is not None:
-            judge = self.judges.setdefault(text.uri, Judge(self.program, self._warn))
-            judge.judge(text.data, lambda refusal: self._publish(text, refusal))
+            judge = self.judges.setdefault(text.uri, Judge(self.program, self._warn, self.meter))
+            judge.judge(text.data, lambda problems: self._publish(text, problems))
 
-    def _publish(self, text: Text, refusal: Optional[Refusal]) -> None:
-        self.refusals[text.uri] = refusal
-        self.endpoint.notify("textDocument/publishDiagnostics", text.diagnostics(refusal))
+    def _publish(self, text: Text, problems: list[Problem]) -> None:
+        self.problems[text.uri] = problems
+        self.endpoint.notify("textDocument/publishDiagnostics", text.diagnostics(problems))
 
     def _text(self, asked: Value) -> Text:
         text = self.texts.get(asked["textDocument"]["uri"])
@@ -170,9 +174,9 @@ class Server:
         return text
 
     def actions(self, asked: Value) -> list[Value]:
-        """The changes that mend what is refused at a place, or that write the notes of a comment."""
+        """The changes of what is found at a place, or that write the notes of a comment."""
         text = self._text(asked)
-        return text.actions(asked["range"]["start"]["line"], self.refusals.get(text.uri))
+        return text.actions(asked["range"]["start"]["line"], self.problems.get(text.uri, []))
 
     def rename(self, asked: Value) -> Value:
         """The changes for a new name, or why it may not be one."""

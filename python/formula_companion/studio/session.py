@@ -1,8 +1,8 @@
 """One page that is open: its text comes with each change, and answers go back as they are known.
 
 Each text has a number, and so has all that is told of it. A newer one ends what is still running for an older one. The
-first answer is the program's: its file, or its refusal. The companion's follow: processes and places of the events, and
-bars. A question about the file waits for that of its own text; of a refused text it is answered `refused`.
+first answer is the program's: its file, or its refusal. The companion's follow: what lint and bars find, processes and
+places of the events, and bars. A question about the file waits for that of its own text; of a refused text it is answered `refused`.
 """
 
 from __future__ import annotations
@@ -21,9 +21,9 @@ from .runs import Program, Ran, Workers, remove
 #: A frame is sent to the page by this.
 Send = Callable[[bytes], Awaitable[None]]
 #: What the page asks beside its text, and which of it a newer one of the same kind ends.
-ASKED = ("bars", "facts", "curves", "complete", "hover", "outline", "names")
+ASKED = ("bars", "problems", "facts", "curves", "complete", "hover", "outline", "names")
 #: What is looked up in the file.
-OF_FILE = ("picture", "bars", "facts", "curves")
+OF_FILE = ("picture", "bars", "problems", "facts", "curves")
 
 
 class Session:
@@ -74,7 +74,7 @@ class Session:
             return
         if ran.status != 0:
             remove(ran.file)
-            await self._refuse(ran, text, number)
+            await self._refuse(ran, text, number, message)
             self._played.set_result(None)
             return
         old, self.file = self.file, ran.file
@@ -84,27 +84,30 @@ class Session:
             data = file.read()
         await self.send(packed({"kind": "file", "number": number, "seconds": time.monotonic() - begun}, data))
         self._played.set_result(ran.file)
+        await asyncio.gather(self._answer("problems", message, text, number), self._draw(text, number, message))
+
+    async def _draw(self, text: bytes, number: int, message: dict[str, Any]) -> None:
         await self._answer("picture", {}, text, number)
         await self._answer("bars", message, text, number)
 
-    async def _refuse(self, ran: Ran, text: bytes, number: int) -> None:
-        place = place_of(ran.said)
-        if place is None:
+    async def _refuse(self, ran: Ran, text: bytes, number: int, message: dict[str, Any]) -> None:
+        if place_of(ran.said) is None:
             why = explanation(ran.status, ran.said, ["--", "score", ran.file])
             await self.send(packed({"kind": "failed", "number": number, "failed": why or ran.said}))
             return
-        await self._answer("refusal", {"place": list(place)}, text, number)
+        await self._answer("problems", {**message, "said": ran.said}, text, number)
 
     async def _ask(self, kind: str, message: dict[str, Any]) -> None:
         await self._answer(kind, message, self.text, self.number)
 
     async def _answer(self, kind: str, message: dict[str, Any], text: bytes, number: int) -> None:
         """Lets a worker answer, and hands it on with the number of the text and of the question."""
-        head = {name: message[name] for name in ("meter", "upbeat", "event", "process", "position", "place")
+        head = {name: message[name] for name in ("meter", "upbeat", "event", "process", "position", "said")
                 if name in message}
         told = {"kind": kind, "number": number, "question": message.get("question")}
-        file = await asyncio.shield(self._played) if kind in OF_FILE else None
-        if kind in OF_FILE and file is None:
+        is_of_file = kind in OF_FILE and "said" not in head
+        file = await asyncio.shield(self._played) if is_of_file else None
+        if is_of_file and file is None:
             await self.send(packed({**told, "refused": True}))
             return
         answer = await self.workers.ask({**head, "do": kind, "file": file or os.devnull}, text)

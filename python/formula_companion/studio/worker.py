@@ -15,7 +15,7 @@ import sys
 import traceback
 from typing import Any, Callable, Optional
 
-from formula_score.explaining.explain import Place
+from formula_score.checks.margin import Problem, problems
 from formula_score.pictures.roll import picture as drawn
 from formula_score.reading.meter import groups_of, part_of
 from formula_score.reading.playing import Failed, listing_of_file
@@ -25,7 +25,6 @@ from ..editing.names import definition, same_name, use_at
 from ..editing.outline import Part, outline
 from ..editing.places import Places, Position
 from ..editing.reference import row_at
-from ..editing.refusal import refused
 from .frames import Frame, packed, read
 from .picture import Picture, meter_of
 
@@ -41,7 +40,7 @@ class Worker:
         self.version = ""
         self.picture: Optional[Picture] = None
         self.tasks: dict[str, Callable[[dict[str, Any], bytes], Frame]] = {
-            "refusal": self.refusal, "picture": self.processes, "bars": self.bars, "facts": self.facts,
+            "problems": self.problems, "picture": self.processes, "bars": self.bars, "facts": self.facts,
             "curves": self.curves, "complete": self.complete, "hover": self.hover, "outline": self.outline,
             "names": self.names, "svg": self.svg,
         }
@@ -65,9 +64,12 @@ class Worker:
             self.picture, self.version = Picture(text, head["file"]), version
         return self.picture
 
-    def refusal(self, head: dict[str, Any], text: bytes) -> Frame:
-        """What is told of a refused text."""
-        return Frame({"refusal": refused(text, Place(*head["place"]))._asdict()}, b"")
+    def problems(self, head: dict[str, Any], text: bytes) -> Frame:
+        """What is refused in a text, or what lint and bars find in it."""
+        places = Places(text)
+        found = problems(text, head.get("said", ""), lambda: listing_of_file(head["file"]),
+                         lambda reading: meter_of(reading, head["meter"], head["upbeat"]))
+        return Frame({"problems": [_shown(problem, places) for problem in found]}, b"")
 
     def processes(self, head: dict[str, Any], text: bytes) -> Frame:
         """The processes of a text, and of each event its process and its place."""
@@ -133,6 +135,12 @@ class Worker:
         except argparse.ArgumentTypeError as error:
             raise Failed(2, str(error)) from error
         return Frame({}, drawn(listing_of_file(head["file"]), read_score(text), options).encode())
+
+
+def _shown(problem: Problem, places: Places) -> dict[str, Any]:
+    changes = [{"title": change.title, "edits": [{"range": places.range(edit.start, edit.end), "new": edit.new}
+                                                 for edit in change.edits]} for change in problem.changes]
+    return {**problem._asdict(), "range": places.range(problem.start, problem.end), "changes": changes}
 
 
 def main() -> None:

@@ -3,22 +3,23 @@
 from __future__ import annotations
 
 import argparse
+from typing import Any
 
 from formula_score.checks.bars import bars_between, counted, process_name, ring, table, ticks_by_process
 from formula_score.checks.summary import of_score
 from formula_score.making.values import plain
 from formula_score.reading.meter import Meter
 from formula_score.reading.playing import Failed, judge
-from formula_score.reading.reader import read
 from formula_score.reading.structure import Span
 from formula_score.reading.ticks import agreed, happening_at, position_at
 from formula_score.reading.walk import Happening, Played
 from .options import json_argument, meter_arguments, process_argument, put, show_summary, summary_argument
+from .several import Several, several_arguments
 
 
 def arguments(parser: argparse.ArgumentParser) -> None:
     """What the verb takes."""
-    parser.add_argument("score", metavar="SCORE", help="the text of a score")
+    several_arguments(parser)
     meter_arguments(parser)
     process_argument(parser)
     asked = parser.add_mutually_exclusive_group()
@@ -30,35 +31,44 @@ def arguments(parser: argparse.ArgumentParser) -> None:
     json_argument(parser, "`lengths` and `findings`, or the `ticks` or `places` that are asked for")
     parser.description = f"""{parser.description}
 
-Lengths are counted as they are written, as if no `warp` stood there. Told as wrong are: a phrase or branch that is no
-whole number of bars, branches of one `par` that are not equally long, and a comment `# bar 12` or `# bars 9 to 12`
-that stands elsewhere. A comment behind statements speaks of its line, one on a line of its own of what follows. In a
-phrase, loop or branch the numbers may also count from its beginning. A section is what stands between two comments on
-lines of their own."""
+Bars are counted as they are written, as if no `warp` was there; ticks and seconds are as played. It warns of a phrase
+of no whole number of bars, where its voice ends off the bar lines; and of a comment `# bar 12` or `# bars 9 to 12` at
+another bar. It remarks branches of a `par` that are not equally long as written, or are so and not as played. It ends
+with 1 where it warns, or a score is refused; remarks alone are 0. A comment behind statements speaks of its line, one
+on a line of its own of what follows. In a phrase, loop or branch the numbers may also count from its beginning. A
+section is what is between two comments on lines of their own."""
 
 
 def run(options: argparse.Namespace) -> int:
     """Tells what is asked; 1 where something is off."""
-    text = judge(options.score)
-    reading = read(text)
-    meter = Meter(options.meter, options.upbeat, reading.whole)
+    several = Several(options.scores, options.json)
+    if options.summary or options.tick is not None or options.bar is not None:
+        if not several.is_one:
+            raise Failed(2, "--tick, --bar and --summary take one score")
+        return _tell(options)
+    lengths: list[dict[str, Any]] = []
+    for path, text in several.texts():
+        reading = agreed(text).reading
+        meter = Meter(options.meter, options.upbeat, reading.whole)
+        rows, found = counted(reading, meter)
+        lengths += [{"path": path, **row._asdict()} for row in rows]
+        if not options.json:
+            print(("" if several.is_one else f"{plain(path)}: ") + f"meter {meter}" + (
+                f", upbeat {options.upbeat}" if meter.upbeat else ""))
+            for line in table(rows, reading.whole):
+                print(line)
+        for each in found:
+            several.tell(path, each)
+    return several.end(meter=str(Meter(options.meter, options.upbeat, 1920)), lengths=lengths)
+
+
+def _tell(options: argparse.Namespace) -> int:
+    """The summary, or what --tick and --bar ask of one score."""
+    walk = agreed(judge(options.scores[0]))
+    meter = Meter(options.meter, options.upbeat, walk.reading.whole)
     if options.summary:
-        return show_summary(of_score(agreed(text), meter), options.json)
-    if options.tick is not None:
-        return _tell_tick(agreed(text), meter, options)
-    if options.bar is not None:
-        return _tell_bar(agreed(text), meter, options)
-    rows, found = counted(reading, meter)
-    if options.json:
-        put({"meter": str(meter), "lengths": [row._asdict() for row in rows],
-             "findings": [each._asdict() for each in found]})
-        return 1 if found else 0
-    print(f"meter {meter}" + (f", upbeat {options.upbeat}" if meter.upbeat else ""))
-    for line in table(rows):
-        print(line)
-    for finding in found:
-        print(f"{plain(options.score)}:{finding.line}:{finding.column}: {finding.what}")
-    return 1 if found else 0
+        return show_summary(of_score(walk, meter), options.json)
+    return (_tell_bar if options.tick is None else _tell_tick)(walk, meter, options)
 
 
 def _tell_tick(walk: Played, meter: Meter, options: argparse.Namespace) -> int:

@@ -1,38 +1,49 @@
-"""The verb `lint`: what a score says that is accepted, and hardly meant."""
+"""The verb `lint`: what scores say that is accepted, and hardly meant."""
 
 from __future__ import annotations
 
 import argparse
 
-from formula_score.checks.lint import BEATS, findings
-from formula_score.making.values import plain
-from formula_score.reading.playing import judge
+from formula_score.checks.bars import RULES_OF_BARS
+from formula_score.checks.finding import WARNING
+from formula_score.checks.lint import findings
+from formula_score.checks.margin import problems
+from formula_score.checks.rules import RULES
+from formula_score.reading.meter import Meter
+from formula_score.reading.playing import Listing, listing_of
 from formula_score.reading.reader import read
-from .options import json_argument, put
+from .options import json_argument, meter_arguments
+from .several import Several, found_of, several_arguments
 
 
 def arguments(parser: argparse.ArgumentParser) -> None:
     """What the verb takes."""
-    parser.add_argument("score", metavar="SCORE", help="the text of a score")
-    json_argument(parser, "the `findings`")
+    several_arguments(parser)
+    parser.add_argument("--all", action="store_true", help="all that an editor shows: what is refused as a line of the "
+                        "same form, and what `bars` finds")
+    meter_arguments(parser, None)
+    json_argument(parser, "the `findings` of all scores, and those `refused`")
+    rows = "\n".join(f"  {rule.name}{'' if rule.severity == WARNING else ' (remark)'}: {rule.says}" for rule in RULES)
     parser.description = f"""{parser.description}
 
-It says nothing and ends with 0 where it finds nothing, else with 1. It looks for
-- branches of one `par` that strike a key of a channel while it sounds in another of them
-- a `loud` list that has more or fewer entries than its passage notes, and is no whole number of rounds of them; and one
-  that rises or falls all along, and starts again
-- a shape that ends before its block, at another stretch than 1000; where the block is at least twice as long as the
-  shape, and the shape ends in a slope, this is taken as meant
-- E sharp and A sharp (`es4`, `as4`) where the score has no other sharps that go with them: flats end in `b`
-- a stretch from {BEATS.start} to {BEATS.stop - 1}, which reads like beats a minute and is a number of thousandths
-- a note that sounds on over the next ones, and is cut where its voice ends or by a seventeenth pitch"""
+It ends with 1 where a score is refused, or it warns, else with 0: remarks alone are 0. `# lint: ignore NAME` behind a
+line, or on a line of its own before it, says that a thing is meant there; above the first word, in all of the text.
+With --all this holds of {", ".join(RULES_OF_BARS)}, too; where no --meter is given, it is 4/4 or 3/4.
+
+It looks for:
+{rows}"""
 
 
 def run(options: argparse.Namespace) -> int:
     """Prints what it finds."""
-    found = findings(read(judge(options.score)))
-    if options.json:
-        put({"findings": [finding._asdict() for finding in found]})
-    for finding in () if options.json else found:
-        print(f"{plain(options.score)}:{finding.line}:{finding.column}: {finding.what}")
-    return 1 if found else 0
+    several = Several(options.scores, options.json, options.all)
+    meter = options.meter and (lambda reading: Meter(options.meter, options.upbeat, reading.whole))
+    for path, text in several.texts():
+        def heard(played: bytes = text) -> Listing:
+            return listing_of(played)
+
+        found = ([found_of(text, problem) for problem in problems(text, "", heard, meter, None)] if options.all
+                 else findings(read(text), heard))
+        for each in found:
+            several.tell(path, each)
+    return several.end()

@@ -10,12 +10,12 @@ import re
 from fractions import Fraction
 from typing import Any, Iterable, Optional
 
+from formula_score.checks.margin import refused as refusal
 from formula_score.checks.summary import Summary
 from formula_score.explaining.explain import file_place_of, place_of
 from formula_score.language.tokens import tokens
 from formula_score.reading.meter import groups_of, part_of
 from formula_score.reading.playing import Failed, text_of
-from ..editing.refusal import refused as refusal
 
 
 def meter_arguments(parser: argparse.ArgumentParser, otherwise: Optional[str] = "4/4") -> None:
@@ -71,7 +71,7 @@ def failure(failed: Failed, path: str) -> dict[str, Any]:
     place, byte = place_of(failed.said), file_place_of(failed.said)
     if place is not None:
         found = refusal(text_of(path), place)
-        refused = {"line": place.line, "column": place.column, "fault": place.number, "heading": found.heading,
+        refused = {"line": place.line, "column": place.column, "fault": place.number, "heading": found.what,
                    "cure": found.cure}
     elif byte is not None:
         refused = {"byte": byte[0], "fault": byte[1], "heading": failed.why}

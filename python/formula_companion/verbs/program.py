@@ -150,7 +150,8 @@ def _without_verb(given: Sequence[str], name: str) -> Optional[int]:
 def _failed(failed: Failed, options: Optional[argparse.Namespace]) -> int:
     """Says why a verb ended, and gives the status."""
     if options and getattr(options, "json", False):
-        put(failure(failed, getattr(options, "score", "") or getattr(options, "file", "")))
+        paths = [getattr(options, name, "") for name in ("score", "file")] + getattr(options, "scores", [])[:1]
+        put(failure(failed, next(filter(None, paths), "")))
         return failed.status
     if failed.said:
         print(failed.said)

@@ -2,38 +2,54 @@
 
 from __future__ import annotations
 
-from typing import Iterable, Iterator, NamedTuple, Optional
+from typing import Iterator, NamedTuple, Optional, Sequence
 
 from ..reading import marks
-from ..reading.marks import Finding
 from ..reading.meter import Meter
 from ..reading.structure import Section, Span, Structure, sections
 from ..reading.ticks import spots_at, ticks_of
 from ..reading.tree import Phrase, Reading, Statement
 from ..reading.walk import Place, Played, Process
+from .finding import REMARK, WARNING, Found
 
 _SHOWN = 6
+#: What a finding of bars may be called.
+RULES_OF_BARS = ("bar-comment", "off-the-grid", "branches-uneven", "branches-apart")
 
 
 class Row(NamedTuple):
-    """Something that has bars: its line, 0 for the piece, what it is, how long, and where it is played."""
+    """Something that has bars: its line, 0 for the piece, what it is, how long it is as written, the least and the most
+    ticks as played, where two differ, and where it is played."""
 
     line: int
     what: str
     lasts: str
+    ticks: tuple[int, ...]
     where: str
 
 
-def counted(reading: Reading, meter: Meter) -> tuple[list[Row], list[Finding]]:
+def counted(reading: Reading, meter: Meter) -> tuple[list[Row], list[Found]]:
     """What has how many bars, and what is off, in the order of the text."""
     named = sections(reading, lambda comment: marks.bars_of(comment) is None)
-    wanted = [edge for mark in marks.marks(reading) for edge in (mark.first, mark.last)]
-    structure = Structure(reading, wanted + [edge for section in named for edge in (section.first, section.last)])
+    structure = structure_of(reading, [edge for section in named for edge in (section.first, section.last)])
+    whole = Span(0, structure.end, structure.place, 0, structure.last)
+    rows = [*sorted(_rows(reading, structure, meter, named)), _row(0, "the piece", [whole], meter)]
+    return rows, off(structure, meter)
+
+
+def structure_of(reading: Reading, wanted: Sequence[Statement] = (), most: Optional[int] = None) -> Structure:
+    """What is needed to see what is off, and where some statements are played."""
+    structure = Structure(reading, [*wanted, *(edge for mark in marks.marks(reading)
+                                               for edge in (mark.first, mark.last))], most)
     structure.run()
-    found = sorted([*_lengths(structure, meter), *marks.findings(reading, structure, meter)])
-    rows = sorted(_rows(reading, structure, meter, named))
-    whole = Span(0, structure.end, structure.place)
-    return [*rows, Row(0, "the piece", meter.lasts(0, structure.end), bars_between(whole, meter))], found
+    return structure
+
+
+def off(structure: Structure, meter: Meter) -> list[Found]:
+    """What is off, in the order of the text."""
+    comments = [Found(found.line, found.column, "bar-comment", WARNING, found.what)
+                for found in marks.findings(structure.reading, structure, meter)]
+    return sorted([*_lengths(structure, meter), *comments])
 
 
 # ---- the table
@@ -54,33 +70,38 @@ def _times(spans: list[Span], meter: Meter) -> str:
     return bars_between(spans[0], meter) if len(spans) == 1 else f"{len(spans)} times: {begins}"
 
 
+def _row(line: int, what: str, spans: list[Span], meter: Meter) -> Row:
+    ticks = [span.last - span.first for span in spans]
+    lasts = sorted({meter.lasts(span.begin, span.end) for span in spans})
+    return Row(line, what, " or ".join(lasts), tuple(sorted({min(ticks), max(ticks)})),
+               bars_between(spans[0], meter) if len(spans) == 1 and not line else _times(spans, meter))
+
+
 def _rows(reading: Reading, structure: Structure, meter: Meter,
           named: list[Section]) -> Iterator[Row]:
     for name, phrase in reading.phrases.items():
         spans = structure.phrases.get(name, [])
-        lasts = sorted({meter.lasts(span.begin, span.end) for span in spans})
-        if not spans:
-            known = reading.length(phrase.block.statements)
-            lasts = [meter.lasts(meter.upbeat, meter.upbeat + known)] if known is not None else ["?"]
-        where = _times(spans, meter) if spans else "never played"
-        yield Row(phrase.name.line, f"phrase {name}", " or ".join(lasts), where)
+        known = reading.length(phrase.block.statements)
+        lasts = meter.lasts(meter.upbeat, meter.upbeat + known) if known is not None else "?"
+        yield (_row(phrase.name.line, f"phrase {name}", spans, meter) if spans else
+               Row(phrase.name.line, f"phrase {name}", lasts, (), "never played"))
     for par, played in structure.pars.values():
         for at, block in enumerate(par.blocks):
-            spans = [branches[at] for branches in played]
-            lasts = sorted({meter.lasts(span.begin, span.end) for span in spans})
-            yield Row(block.head.line, f"branch {at + 1}", " or ".join(lasts), _times(spans, meter))
+            yield _row(block.head.line, f"branch {at + 1}", [branches[at] for branches in played], meter)
     for section in named:
         begins, ends = structure.spans[section.first.first.start], structure.spans[section.last.first.start]
-        spans = [Span(begin.begin, end.end, begin.place) for begin, end in zip(begins, ends)]
+        spans = [Span(begin.begin, end.end, begin.place, begin.first, end.last) for begin, end in zip(begins, ends)]
         if spans:
-            lasts = sorted({meter.lasts(span.begin, span.end) for span in spans})
-            yield Row(section.line, f"section {section.name}", " or ".join(lasts), _times(spans, meter))
+            yield _row(section.line, f"section {section.name}", spans, meter)
 
 
-def table(rows: Iterable[Row]) -> Iterator[str]:
-    """The rows as lines."""
-    cells = [(f"line {row.line}" if row.line else "", *row[1:]) for row in rows]
-    widths = [min(60, max(len(row[at]) for row in cells)) for at in range(3)]
+def table(rows: Sequence[Row], whole: int) -> Iterator[str]:
+    """The rows as lines, where a whole note has so many ticks; a file has 120 quarter notes a minute."""
+    cells = [(f"line {row.line}" if row.line else "", row.what, row.lasts,
+              " to ".join(f"{each:,}" for each in row.ticks) + " ticks" * bool(row.ticks),
+              " to ".join(f"{2 * each / whole:.2f}" for each in row.ticks) + " s" * bool(row.ticks), row.where)
+             for row in rows]
+    widths = [min(60, max(len(row[at]) for row in cells)) for at in range(5)]
     for row in cells:
         yield "  ".join(f"{cell:<{width}}" for cell, width in zip(row, [*widths, 0])).rstrip()
 
@@ -92,7 +113,7 @@ def _amount(span: Span, meter: Meter) -> str:
     if not meter.only:
         begin, end = meter.at(span.begin), meter.at(span.end)
         if meter.start(begin.bar) != span.begin:
-            return f"{meter.length(span.begin - meter.start(begin.bar))} behind a bar line at its beginning"
+            return f"{meter.length(span.begin - meter.start(begin.bar))} after a bar line at its beginning"
         left, bar = span.end - meter.start(end.bar), meter.start(end.bar + 1) - meter.start(end.bar)
     else:
         left, bar = meter.bars(span.begin, span.end)[1], meter.only
@@ -101,32 +122,74 @@ def _amount(span: Span, meter: Meter) -> str:
     return f"{meter.length(left)} too long" if 2 * left < bar else f"{meter.length(bar - left)} too short"
 
 
-def _lengths(structure: Structure, meter: Meter) -> Iterator[Finding]:
+def _lengths(structure: Structure, meter: Meter) -> Iterator[Found]:
+    branches = {id(span.place): span for _, played in structure.pars.values() for each in played for span in each}
     for name, spans in structure.phrases.items():
         token = structure.reading.phrases[name].name
-        amounts = {_amount(span, meter): span for span in spans}
-        if "" not in amounts:
-            for amount, span in amounts.items():
-                yield Finding(token.line, token.column, f"phrase {name} is no whole number of bars: it has "
-                              f"{meter.lasts(span.begin, span.end)}, {amount}")
+        off = {_amount(span, meter): span for span in spans}
+        if "" in off or not any(_leaves_the_grid(span, branches, structure, meter) for span in spans):
+            continue
+        for amount, span in off.items():
+            yield Found(token.line, token.column,
+                        "off-the-grid", WARNING, f"phrase {name} is no whole number of bars, and "
+                        f"what follows leaves the bar lines: it has {meter.lasts(span.begin, span.end)}, {amount}")
     for par, played in structure.pars.values():
-        yield from _branches(par, played, meter)
+        yield from _branches(par, played, structure, meter)
 
 
-def _branches(par: Statement, played: list[list[Span]], meter: Meter) -> Iterator[Finding]:
-    for at, block in enumerate(par.blocks):
-        amounts = {_amount(branches[at], meter): branches[at] for branches in played}
-        for amount, span in amounts.items() if "" not in amounts else ():
-            yield Finding(block.head.line, block.head.column, f"branch {at + 1} is no whole number of bars: it has "
-                          f"{meter.lasts(span.begin, span.end)}, {amount}")
+def _leaves_the_grid(span: Span, branches: dict[int, Span], structure: Structure, meter: Meter) -> bool:
+    """Whether the branch in which it is played, or the piece, ends off the bar lines; and goes on over the next one, where
+    it is shorter than a bar."""
+    place: Optional[Place] = span.place
+    while place and place.kind != "branch":
+        place = place.outer
+    voice = branches.get(id(place)) or Span(0, structure.end, structure.place)
+    bar = meter.at(span.end).bar
+    is_short = span.end - span.begin < meter.start(bar + 1) - meter.start(bar)
+    return bool(_amount(voice, meter)) and not (is_short and voice.end <= meter.start(bar + 1))
+
+
+def _branches(par: Statement, played: list[list[Span]], structure: Structure, meter: Meter) -> Iterator[Found]:
+    first = par.first
     for branches in played:
         lengths = [span.end - span.begin for span in branches]
         if len(set(lengths)) > 1:
             listed = ", ".join(f"branch {at + 1} (line {par.blocks[at].head.line}) {meter.lasts(span.begin, span.end)}"
                              for at, span in enumerate(branches))
-            yield Finding(par.first.line, par.first.column, "branches are not equally long, by up to "
-                          f"{meter.length(max(lengths) - min(lengths))}: {listed}")
+            yield Found(first.line, first.column, "branches-uneven", REMARK,
+                        "branches are not equally long as written, by "
+                        f"up to {meter.length(max(lengths) - min(lengths))}: {listed}")
+            break
+    for branches in played:
+        apart = _apart(branches)
+        if apart:
+            one, other = apart
+            ticks = abs(branches[one].last - branches[other].last)
+            yield Found(first.line, first.column, "branches-apart", REMARK,
+                        f"branches {one + 1} and {other + 1} are equally long as written, and end {ticks} ticks "
+                        f"({2 * ticks / meter.whole:.2f} s) apart as "
+                        f"played{_growing(branches[one], branches[other], structure, meter)}")
             return
+
+
+def _apart(branches: list[Span]) -> Optional[tuple[int, int]]:
+    seen: dict[int, int] = {}
+    for at, span in enumerate(branches):
+        other = seen.setdefault(span.end - span.begin, at)
+        if span.last != branches[other].last and span.end > span.begin:
+            return other, at
+    return None
+
+
+def _growing(one: Span, other: Span, structure: Structure, meter: Meter) -> str:
+    """Bar by bar how far two branches are apart, where something begins in both at a bar line."""
+    begins = [structure.begins.get(span.place.process, {}) for span in (one, other)]
+    lines = [(meter.at(written).bar, abs(begins[1][written] - tick)) for written, tick in sorted(begins[0].items())
+             if written in begins[1] and meter.start(meter.at(written).bar) == written]
+    grows = [line for line, before in zip(lines, [(0, 0), *lines]) if line[1] > before[1]]
+    shown = [*grows[:_SHOWN], *grows[-1:]] if len(grows) > _SHOWN else grows
+    said = ", ".join(f"{ticks} at bar {bar}" for bar, ticks in dict.fromkeys(shown))
+    return f": {said}" if said else ""
 
 
 # ---- bars and ticks

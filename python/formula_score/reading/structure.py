@@ -5,7 +5,7 @@ from __future__ import annotations
 from typing import Callable, Iterable, NamedTuple, Optional, Union
 
 from .tree import Block, Comment, Phrase, Reading, Statement
-from .walk import Happening, Place, Walk
+from .walk import Happening, Place, Walk, tick_of
 
 
 class Sequence(NamedTuple):
@@ -27,11 +27,13 @@ def sequences(reading: Reading) -> list[Sequence]:
 
 
 class Span(NamedTuple):
-    """From where to where something is played, as written, and in which place."""
+    """From where to where something is played, as written, in which place, and from which tick to which."""
 
     begin: int
     end: int
     place: Place
+    first: int = 0
+    last: int = 0
 
 
 class Section(NamedTuple):
@@ -61,17 +63,28 @@ def sections(reading: Reading, may_name: Callable[[Comment], bool]) -> list[Sect
 class Structure(Walk):
     """Keeps where phrases, branches and some statements are played."""
 
-    def __init__(self, reading: Reading, wanted: Iterable[Statement]):
-        super().__init__(reading)
+    def __init__(self, reading: Reading, wanted: Iterable[Statement], most: Optional[int] = None):
+        super().__init__(reading, most)
         self.phrases: dict[str, list[Span]] = {}
         self.pars: dict[int, tuple[Statement, list[list[Span]]]] = {}  # by the byte where a `par` begins
         self.spans: dict[int, list[Span]] = {statement.first.start: [] for statement in wanted}
         self._open: list[Span] = []
+        self._opened: list[int] = []                    # of each phrase and branch that is open its first tick
+        #: of each process the ticks at which what takes time begins, by its position as written
+        self.begins: dict[int, dict[int, int]] = {}
+
+    def _inside(self, kind: str, node: Union[Statement, Phrase], block: Block, number: int = 0) -> None:
+        if kind in ("phrase", "branch"):
+            self._opened.append(tick_of(self.levels, self.now.position))
+        super()._inside(kind, node, block, number)
 
     def statement(self, happening: Happening) -> None:
         spans = self.spans.get(happening.statement.first.start)
         if spans is not None:
-            spans.append(Span(happening.begin, happening.end, happening.place))
+            spans.append(Span(happening.begin, happening.end, happening.place,
+                              tick_of(happening.levels, happening.position), tick_of(self.levels, self.now.position)))
+        if happening.statement.word in ("note", "play", "rest", "skip"):
+            self.begins.setdefault(happening.process, {})[happening.begin] = tick_of(happening.levels, happening.position)
         if happening.statement.word == "par":
             count = len(happening.statement.blocks)
             _, played = self.pars.setdefault(happening.statement.first.start, (happening.statement, []))
@@ -79,7 +92,9 @@ class Structure(Walk):
             del self._open[-count:]
 
     def closed(self, place: Place, end: int) -> None:
-        span = Span(place.begin, end, place)
+        if place.kind != "branch" and not isinstance(place.node, Phrase):
+            return
+        span = Span(place.begin, end, place, self._opened.pop(), tick_of(self.levels, self.now.position))
         if place.kind == "branch":
             self._open.append(span)
         elif isinstance(place.node, Phrase):
@@ -89,3 +104,9 @@ class Structure(Walk):
     def end(self) -> int:
         """Where the score ends, as written."""
         return self.ended[len(self.begun) - 1].written
+
+    @property
+    def last(self) -> int:
+        """The tick at which it ends."""
+        last = self.ended[len(self.begun) - 1]
+        return tick_of(last.levels, last.position)

@@ -11,7 +11,7 @@ from bisect import bisect_left
 from typing import Iterator, Optional, Sequence
 
 from ..making.shapes import Part
-from .playing import Failed, listing_of, located
+from .playing import Failed, Listing, listing_of, located
 from .reader import read
 from .tree import Reading
 from .walk import Happening, Level, Played, tick_of
@@ -33,7 +33,12 @@ def agreed(text: bytes) -> Played:
     """The walk over a text, which plays each event at the tick at which the program does."""
     walk = Played(read(text))
     walk.run()
-    listing = listing_of(text)
+    agree(walk, listing_of(text))
+    return walk
+
+
+def agree(walk: Played, listing: Listing) -> None:
+    """Refuses to go on where a walk is not what the program plays."""
     heard = [(event.tick, event.message) for event in listing.events if event.message[0] < 0xF0]
     expected = [(event.tick, event.message) for event in walk.events()]
     last = walk.tick_of_end(len(walk.begun) - 1)
@@ -42,7 +47,6 @@ def agreed(text: bytes) -> Played:
                        min(len(heard), len(expected)))
         raise Failed(1, f"this companion reads the score otherwise than the program plays it, from event {differs} on: "
                         "this is a fault of the companion, and nothing is told")
-    return walk
 
 
 def _part(part: Part) -> str:

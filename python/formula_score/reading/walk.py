@@ -106,12 +106,17 @@ _OPERATORS: dict[str, Callable[[int, int], int]] = {
 }
 
 
-class Walk:
-    """Goes over what a reading plays. After `run`, `begun` and `ended` have each process by its number, and `waits_for`
-    the processes that end where it begins."""
+class TooMuch(Exception):
+    """More is played than somebody has time for."""
 
-    def __init__(self, reading: Reading):
+
+class Walk:
+    """Goes over what a reading plays, at most so many statements of it, where a number is given. After `run`, `begun`
+    and `ended` have each process by its number, and `waits_for` the processes that end where it begins."""
+
+    def __init__(self, reading: Reading, most: Optional[int] = None):
         self.reading = reading
+        self._left = most if most is not None else _WORD
         self.begun: list[Process] = []
         self.ended: dict[int, Process] = {}
         self.waits_for: list[tuple[int, ...]] = []
@@ -161,6 +166,9 @@ class Walk:
         return Process(self.now.written, self.now.position, self.levels, self.place)
 
     def _go(self, statement: Statement) -> None:
+        self._left -= 1
+        if self._left < 0:
+            raise TooMuch
         now, place, levels, channel = self.now, self.place, self.levels, self.channel
         begin, position = now.written, now.position
         sent: Optional[_Sent] = getattr(self, f"on_{statement.word}")(statement)
@@ -300,8 +308,8 @@ class Walk:
 class Played(Walk):
     """Each statement that makes an event, or takes time, in `happenings`, and what is heard of them."""
 
-    def __init__(self, reading: Reading):
-        super().__init__(reading)
+    def __init__(self, reading: Reading, most: Optional[int] = None):
+        super().__init__(reading, most)
         self.happenings: list[Happening] = []
 
     def statement(self, happening: Happening) -> None:

@@ -12,6 +12,7 @@ interface Editor {
   getLine(line: number): string; focus(): void; refresh(): void; clearHistory(): void;
   on(what: string, listener: (...given: any[]) => void): void; execCommand(name: string): void;
   markText(from: Place, to: Place, options: object): Mark; setGutterMarker(line: number, gutter: string, mark: HTMLElement | null): void;
+  lineInfo(line: number): { gutterMarkers?: { [gutter: string]: HTMLElement } };
   clearGutter(gutter: string): void; operation(work: () => void): void; showHint(options?: object): void;
   scrollIntoView(place: Place, margin?: number): void; getInputField(): HTMLElement; setOption(name: string, value: unknown): void;
   setSelection(from: Place, to: Place): void; lineCount(): number; getWrapperElement(): HTMLElement;

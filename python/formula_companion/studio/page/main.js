@@ -36,7 +36,7 @@ const axis = new Axis(), palette = new Palette(about.colours, about.darker);
 const session = new Session(take, () => tell("the studio has ended: start it again"));
 /** @type {Writing} */
 const writing = new Writing(byId("editor", HTMLDivElement), byId("refusal", HTMLDivElement),
-  (what, more) => session.ask(what, more), () => files.save());
+  byId("problems", HTMLUListElement), (what, more) => session.ask(what, more), () => files.save());
 /** @type {Files} */
 const files = new Files(about, { text: () => writing.text, show: (text) => writing.open(text), tell });
 const sound = new Sound(about.silent, tell, transport);
@@ -68,9 +68,11 @@ const keys = /** @type {{[key: string]: () => void}} */ ({
 // ---- from a keystroke to the picture
 
 let changed = 0, timer = 0, slowest = 0;
-/** How long each picture took, in ms from the keystroke.
+/** How long each picture took, and each margin, in ms from the keystroke.
  * @type {number[]} */
 const times = [];
+/** @type {number[]} */
+const margins = [];
 /** @type {{lines: Int32Array, characters: Int32Array, happenings: Int32Array} | null} */
 let places = null;
 /** @type {Worker | null} */
@@ -91,12 +93,7 @@ function take(head, body) {
   if (head.number !== session.number) return;  // a newer text is on its way
   if (head.failed) return takeFailure(head);
   if (head.kind === "file") takeFile(head, body);
-  if (head.kind === "refusal") {
-    holds();
-    writing.refuse(head.refusal);
-    seeing.classList.add("stale");
-    measured();
-  }
+  if (head.kind === "problems") takeProblems(head);
   if (head.kind === "picture") takePicture(head, body);
   if (head.kind === "bars") takeBars(head);
 }
@@ -115,7 +112,7 @@ function takeFailure(head) {
   tell(head.failed || "");
   failing = true;
   if (head.kind === "failed") {  // there is no file of this text
-    writing.refuse(null);
+    writing.show([]);
     seeing.classList.add("stale");
     measured();
   }
@@ -141,7 +138,7 @@ function takeFile(head, body) {
 /** @param {import("./midi.js").Piece} piece @param {Uint8Array} file */
 function showPiece(piece, file) {
   holds();
-  writing.refuse(null);
+  writing.accept();
   seeing.classList.remove("stale");
   places = null;
   roll.processes = null;
@@ -179,6 +176,17 @@ function takeBars(head) {
   roll.bars = { bars: head.bars, beats: head.beats, first: head.first, last: head.last };
   rollHome.setAttribute("aria-label", roll.words);
   selected();
+}
+
+/** @param {import("./session.js").Head} head */
+function takeProblems(head) {
+  writing.show(head.problems);
+  const begun = changed;
+  requestAnimationFrame(() => margins.push(performance.now() - begun));
+  if (!head.problems.some((/** @type {import("./editor.js").Problem} */ each) => each.severity === "error")) return;
+  holds();
+  seeing.classList.add("stale");
+  measured();
 }
 
 function measured() {
@@ -257,6 +265,8 @@ for (const input of [fromBar, toBar, loop]) input.addEventListener("change", sel
 for (const input of [meter, upbeat]) input.addEventListener("change", async () => {
   const answer = await session.ask("bars", counted());
   if (answer.failed) tell(answer.failed); else if (!answer.refused) takeBars(answer);
+  const found = await session.ask("problems", counted());
+  if (found.problems) writing.show(found.problems);
 });
 
 // ---- sound
@@ -315,7 +325,7 @@ addEventListener("keydown", (event) => {
 // ---- the beginning
 
 /** For tests, and for whoever looks: what the page knows. */
-Object.assign(globalThis, { studio: { axis, files, lanes, mixer, roll, session, sound, tempo, times, writing,
+Object.assign(globalThis, { studio: { axis, files, lanes, margins, mixer, roll, session, sound, tempo, times, writing,
   get places() { return places; } } });
 
 if (about.opened) await files.open(about.opened);
