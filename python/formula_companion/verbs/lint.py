@@ -36,7 +36,7 @@ It looks for:
 
 def run(options: argparse.Namespace) -> int:
     """Prints what it finds."""
-    several = Several(options.scores, options.json, options.all)
+    several = Several(options.scores, options.json, options.all, options.text_places)
     meter = options.meter and (lambda reading: Meter(options.meter, options.upbeat, reading.whole))
     for path, text in several.texts():
         def heard(played: bytes = text) -> Listing:
