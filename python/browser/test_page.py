@@ -46,6 +46,21 @@ class Typed(PageTest):
         self.assertEqual((self.text("refusal"), self.value("studio.writing.text")),
                          ("", "formula 1;\nnote c4 1/4;\nnote e4 1/4;"))
 
+    def test_what_lint_and_bars_find_is_underlined_told_and_changed(self) -> None:
+        self.write("formula 1;\nnote es4 1/1;\nnote c4 1/1; # bar 3\n")
+        rows = "[...document.querySelectorAll('#problems li')].map((each) => each.innerText.replace(/\\s+/g, ' '))"
+        self.waited(lambda: len(self.value(rows)) == 2, "both findings")
+        self.assertEqual(self.value("[...document.querySelectorAll('.warned')].map((each) => each.textContent)"),
+                         ["es4", "#"])
+        first, second = self.value(rows)
+        self.assertTrue(first.startswith("line 2 warning: `es4` is E sharp"), first)
+        self.assertTrue(second.startswith("line 3 warning: `bar 3` begins 1/1 too early"), second)
+        self.assertEqual(self.value("document.querySelectorAll('.warned-sign').length"), 2)
+        self.browser.execute_script("[...document.querySelectorAll('#problems li button')][1].click()")
+        self.waited(lambda: len(self.value(rows)) == 1, "one finding")
+        self.assertEqual(self.value("studio.writing.text"), "formula 1;\nnote eb4 1/1;\nnote c4 1/1; # bar 3\n")
+        self.shown([63, 60])
+
     def test_a_run_that_is_killed_fades_the_picture_and_says_why(self) -> None:
         folder, killed = self.downloads / "killed", self.downloads / "is_killed"
         program = self.downloads / "program"

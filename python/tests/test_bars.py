@@ -80,7 +80,7 @@ class Lengths(unittest.TestCase):
                             "16 { warp swing { note c5 1/8; note d5 1/8; } } }\n  branch { repeat 4 { note c3 1/1; } "
                             "}\n}\n")
         self.assertEqual((status, said[-1]), (0,
-                                              "3:1: remark: branches 1 and 2 are equally long as written, and end 16 "
+                                              "5:3: remark: branches 2 and 1 are equally long as written, and end 16 "
                                               "ticks (0.02 s) apart as played: 4 at bar 2, 8 at bar 3, 12 at bar 4 "
                                               "[branches-apart]"))
 
@@ -135,7 +135,7 @@ class Comments(unittest.TestCase):
 
     def test_numbers_that_are_wrong(self) -> None:
         self.assertEqual(self.lines(f"{self.BAR}  # bar 1", f"{self.BAR}  # bar 3", f"{self.BAR}  # bar 3"),
-                         ["3:54: `bar 3` begins 1/1 too early: it stands at bar 2"])
+                         ["3:54: `bar 3` begins 1/1 too early: it is in bar 2"])
         self.assertEqual(self.lines(f"{self.BAR} {self.BAR} {self.BAR}  # bars 1 to 2"),
                          ["2:158: `bars 1 to 2` are 1/1 too long"])
         self.assertEqual(self.lines("# bars 1 to 2", self.BAR, "# bar 3", self.BAR),

@@ -8,6 +8,9 @@ import tempfile
 import unittest
 from typing import Iterator
 
+from .companion import score
+from .program import needs_program
+
 TOP = os.path.dirname(os.path.dirname(os.path.dirname(os.path.abspath(__file__))))
 VIM, VS_CODE = os.path.join(TOP, "editors", "vim"), os.path.join(TOP, "editors", "vscode")
 REFUSED = "formula: score refused: 2:12 fault 3"
@@ -80,6 +83,22 @@ class Editors(unittest.TestCase):
                 assert match is not None
                 self.assertEqual([done.returncode, *(match[pattern[group]] for group in ("file", "line", "column", "message"))],
                                  [3, score, "2", "12", "fault 3"])
+
+    @needs_program
+    def test_vs_code_finds_what_an_editor_shows(self) -> None:
+        with open(os.path.join(VS_CODE, "package.json"), encoding="utf-8") as file:
+            pattern = json.load(file)["contributes"]["problemMatchers"][1]["pattern"]
+        with tempfile.TemporaryDirectory() as folder:
+            for name, text in (("a", "formula 1;\nnote c4 1/4\n"), ("b", "formula 1;\nnote es4 1/1; repeat 2 { }\n")):
+                with open(os.path.join(folder, f"{name}.score"), "w", encoding="utf-8") as file:
+                    file.write(text)
+            *lines, last = score("lint", "--all", folder).said.splitlines()
+            found = [match.group(*(pattern[group] for group in ("file", "line", "column", "severity", "code")))
+                     for match in (re.match(pattern["regexp"], line) for line in lines) if match]
+            self.assertEqual(last, "2 scores: 1 warning, 1 remark, 1 refused")
+            self.assertEqual(found, [(f"{folder}/a.score", "2", "11", "error", "fault 3"),
+                                     (f"{folder}/b.score", "2", "6", "warning", "sharp-for-flat"),
+                                     (f"{folder}/b.score", "2", "15", "remark", "empty-block")])
 
     @unittest.skipUnless(shutil.which("vim"), "NOT TRIED: vim is not installed")
     def test_vim_jumps_to_the_place_of_a_refusal(self) -> None:

@@ -90,6 +90,8 @@ class Lint(unittest.TestCase):
         self.finds(f"loud [60, 70, 80] {{ {notes} }}", "2:1", "the last one starts the list again")
         self.finds(f"loud [50, 60, 70, 80, 90] {{ repeat 10 {{ note c4, e4 1/4; }} }}", "2:1",
                    "starts again with note 6")
+        self.finds("loud [90, 60, 60, 60] { repeat 4 { note c4 1/8; rest 1/8; note d4 1/8; note e4 1/8; } }", "2:1",
+                   "each round of its loop 3 notes")
         self.finds(f"loud [60, 70] {{ par {{ branch {{ {notes} }} branch {{ channel 1 {{ note c4 1/4; }} }} }} }}",
                    "2:1", "its passage 1 note,")
         self.assertEqual(self.found(f"loud [100, 60] {{ {notes} volume 50 {{ note c4 1/4; }} }}"

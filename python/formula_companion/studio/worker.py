@@ -9,6 +9,7 @@ in its head says why there is none.
 from __future__ import annotations
 
 import argparse
+import gc
 import hashlib
 import os
 import sys
@@ -167,6 +168,7 @@ def _shown(problem: Problem, places: Places) -> dict[str, Any]:
 
 def main() -> None:
     """Answers until there is no more request."""
+    gc.set_threshold(100_000)  # a long text is a million objects, which the usual 700 has looked through too often
     answers = os.fdopen(os.dup(1), "wb")
     os.dup2(2, 1)  # what a function prints is no answer
     worker = Worker()

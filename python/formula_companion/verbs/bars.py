@@ -3,14 +3,17 @@
 from __future__ import annotations
 
 import argparse
+import functools
 from typing import Any
 
 from formula_score.checks.bars import bars_between, counted, process_name, ring, table, ticks_by_process
+from formula_score.checks.lint import not_ignored
 from formula_score.checks.summary import of_score
 from formula_score.making.values import plain
 from formula_score.reading.made import in_python, line_at, piece_of, placed
 from formula_score.reading.meter import Meter
-from formula_score.reading.playing import Failed, judge
+from formula_score.reading.playing import Failed, judge, listing_of
+from formula_score.reading.reader import read
 from formula_score.reading.structure import Span
 from formula_score.reading.ticks import agreed, happening_at, position_at
 from formula_score.reading.walk import Happening, Played
@@ -49,9 +52,9 @@ def run(options: argparse.Namespace) -> int:
         return _tell(options)
     lengths: list[dict[str, Any]] = []
     for path, text in several.texts():
-        reading = agreed(text).reading
+        reading = read(text)
         meter = Meter(options.meter, options.upbeat, reading.whole)
-        rows, found = counted(reading, meter)
+        rows, found = counted(reading, meter, functools.partial(listing_of, text))
         piece = piece_of(path)
         rows = [row._replace(line=line_at(piece, row.line)) if piece and row.line else row for row in rows]
         lengths += [{"path": path, **row._asdict()} for row in rows]
@@ -60,7 +63,7 @@ def run(options: argparse.Namespace) -> int:
                 f", upbeat {options.upbeat}" if meter.upbeat else ""))
             for line in table(rows, reading.whole):
                 print(line)
-        for each in found:
+        for each in not_ignored(reading, found):
             several.tell(path, each)
     return several.end(meter=str(Meter(options.meter, options.upbeat, 1920)), lengths=lengths)
 

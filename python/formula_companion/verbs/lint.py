@@ -3,6 +3,7 @@
 from __future__ import annotations
 
 import argparse
+import functools
 
 from formula_score.checks.bars import RULES_OF_BARS
 from formula_score.checks.finding import WARNING
@@ -10,7 +11,7 @@ from formula_score.checks.lint import findings
 from formula_score.checks.margin import problems
 from formula_score.checks.rules import RULES
 from formula_score.reading.meter import Meter
-from formula_score.reading.playing import Listing, listing_of
+from formula_score.reading.playing import listing_of
 from formula_score.reading.reader import read
 from .options import json_argument, meter_arguments
 from .several import Several, found_of, several_arguments
@@ -39,9 +40,7 @@ def run(options: argparse.Namespace) -> int:
     several = Several(options.scores, options.json, options.all, options.text_places)
     meter = options.meter and (lambda reading: Meter(options.meter, options.upbeat, reading.whole))
     for path, text in several.texts():
-        def heard(played: bytes = text) -> Listing:
-            return listing_of(played)
-
+        heard = functools.partial(listing_of, text)
         found = ([found_of(text, problem) for problem in problems(text, "", heard, meter, None)] if options.all
                  else findings(read(text), heard))
         for each in found:

@@ -37,7 +37,8 @@ def found_of(text: bytes, problem: Problem) -> Found:
     """A problem with its line and column; a cure is a part of its words."""
     begin = text.rfind(b"\n", 0, problem.start) + 1
     edits = problem.changes[0].edits if problem.changes else ()
-    said = problem.what if not problem.cure else f"{problem.what}: {problem.cure}"
+    what = problem.what.removesuffix(f" ({problem.rule})")
+    said = f"{what}: {problem.cure}" if problem.cure else what
     return Found(text.count(b"\n", 0, begin) + 1, problem.start - begin + 1, problem.rule, problem.severity,
                  " ".join(said.split()), edits)
 

@@ -2,17 +2,20 @@
 
 from __future__ import annotations
 
-from typing import Iterator, NamedTuple, Optional, Sequence
+from typing import Callable, Iterator, NamedTuple, Optional, Sequence
 
 from ..reading import marks
 from ..reading.meter import Meter
+from ..reading.playing import Listing
 from ..reading.structure import Section, Span, Structure, sections
-from ..reading.ticks import spots_at, ticks_of
+from ..reading.ticks import agree, spots_at, ticks_of
 from ..reading.tree import Phrase, Reading, Statement
 from ..reading.walk import Place, Played, Process
 from .finding import REMARK, WARNING, Found
 
 _SHOWN = 6
+#: Gives the listing of the file that the program makes of a text.
+Heard = Callable[[], Listing]
 #: What a finding of bars may be called.
 RULES_OF_BARS = ("bar-comment", "off-the-grid", "branches-uneven", "branches-apart")
 
@@ -28,21 +31,22 @@ class Row(NamedTuple):
     where: str
 
 
-def counted(reading: Reading, meter: Meter) -> tuple[list[Row], list[Found]]:
-    """What has how many bars, and what is off, in the order of the text."""
+def counted(reading: Reading, meter: Meter, heard: Optional[Heard] = None) -> tuple[list[Row], list[Found]]:
+    """What has how many bars, and what is off, in the order of the text; compared with what is `heard`."""
     named = sections(reading, lambda comment: marks.bars_of(comment) is None)
-    structure = structure_of(reading, [edge for section in named for edge in (section.first, section.last)])
+    structure = Structure(reading, [*edges(reading), *(edge for section in named
+                                                       for edge in (section.first, section.last))])
+    structure.run()
+    if heard is not None:
+        agree(structure, heard())
     whole = Span(0, structure.end, structure.place, 0, structure.last)
     rows = [*sorted(_rows(reading, structure, meter, named)), _row(0, "the piece", [whole], meter)]
     return rows, off(structure, meter)
 
 
-def structure_of(reading: Reading, wanted: Sequence[Statement] = (), most: Optional[int] = None) -> Structure:
-    """What is needed to see what is off, and where some statements are played."""
-    structure = Structure(reading, [*wanted, *(edge for mark in marks.marks(reading)
-                                               for edge in (mark.first, mark.last))], most)
-    structure.run()
-    return structure
+def edges(reading: Reading) -> list[Statement]:
+    """The statements whose places have to be known to see what is off."""
+    return [edge for mark in marks.marks(reading) for edge in (mark.first, mark.last)]
 
 
 def off(structure: Structure, meter: Meter) -> list[Found]:
@@ -130,16 +134,16 @@ def _lengths(structure: Structure, meter: Meter) -> Iterator[Found]:
         if "" in off or not any(_leaves_the_grid(span, branches, structure, meter) for span in spans):
             continue
         for amount, span in off.items():
-            yield Found(token.line, token.column,
-                        "off-the-grid", WARNING, f"phrase {name} is no whole number of bars, and "
-                        f"what follows leaves the bar lines: it has {meter.lasts(span.begin, span.end)}, {amount}")
+            yield Found(token.line, token.column, "off-the-grid", WARNING,
+                        f"phrase {name} is no whole number of bars, and what follows leaves the bar lines: it has "
+                        f"{meter.lasts(span.begin, span.end)}, {amount}")
     for par, played in structure.pars.values():
         yield from _branches(par, played, structure, meter)
 
 
 def _leaves_the_grid(span: Span, branches: dict[int, Span], structure: Structure, meter: Meter) -> bool:
-    """Whether the branch in which it is played, or the piece, ends off the bar lines; and goes on over the next one, where
-    it is shorter than a bar."""
+    """Whether the branch in which it is played, or the piece, ends off the bar lines; and goes on over the next one,
+    where it is shorter than a bar."""
     place: Optional[Place] = span.place
     while place and place.kind != "branch":
         place = place.outer
@@ -150,40 +154,42 @@ def _leaves_the_grid(span: Span, branches: dict[int, Span], structure: Structure
 
 
 def _branches(par: Statement, played: list[list[Span]], structure: Structure, meter: Meter) -> Iterator[Found]:
-    first = par.first
     for branches in played:
         lengths = [span.end - span.begin for span in branches]
         if len(set(lengths)) > 1:
             listed = ", ".join(f"branch {at + 1} (line {par.blocks[at].head.line}) {meter.lasts(span.begin, span.end)}"
-                             for at, span in enumerate(branches))
-            yield Found(first.line, first.column, "branches-uneven", REMARK,
-                        "branches are not equally long as written, by "
-                        f"up to {meter.length(max(lengths) - min(lengths))}: {listed}")
+                               for at, span in enumerate(branches))
+            yield Found(par.first.line, par.first.column, "branches-uneven", REMARK,
+                        "branches are not equally long as written, by up to "
+                        f"{meter.length(max(lengths) - min(lengths))}: {listed}")
             break
     for branches in played:
-        apart = _apart(branches)
+        apart = apart_of(branches)
         if apart:
-            one, other = apart
-            ticks = abs(branches[one].last - branches[other].last)
-            yield Found(first.line, first.column, "branches-apart", REMARK,
-                        f"branches {one + 1} and {other + 1} are equally long as written, and end {ticks} ticks "
-                        f"({2 * ticks / meter.whole:.2f} s) apart as "
-                        f"played{_growing(branches[one], branches[other], structure, meter)}")
+            odd, other = apart
+            head, ticks = par.blocks[odd].head, abs(branches[odd].last - branches[other].last)
+            yield Found(head.line, head.column, "branches-apart", REMARK,
+                        f"branches {odd + 1} and {other + 1} are equally long as written, and end {ticks} ticks "
+                        f"({2 * ticks / meter.whole:.2f} s) apart as played"
+                        f"{_growing(branches[odd], branches[other], structure, meter)}")
             return
 
 
-def _apart(branches: list[Span]) -> Optional[tuple[int, int]]:
+def apart_of(branches: list[Span]) -> Optional[tuple[int, int]]:
+    """Two branches that are equally long as written, and end apart: first the one that fewer agree with."""
     seen: dict[int, int] = {}
+    ends = [span.last for span in branches]
     for at, span in enumerate(branches):
         other = seen.setdefault(span.end - span.begin, at)
-        if span.last != branches[other].last and span.end > span.begin:
-            return other, at
+        if ends[at] != ends[other] and span.end > span.begin:
+            odd = min((other, at), key=lambda each: (ends.count(ends[each]), each == other and len(ends) == 2))
+            return odd, at if odd == other else other
     return None
 
 
 def _growing(one: Span, other: Span, structure: Structure, meter: Meter) -> str:
     """Bar by bar how far two branches are apart, where something begins in both at a bar line."""
-    begins = [structure.begins.get(span.place.process, {}) for span in (one, other)]
+    begins = [structure.begins(span.place.process) for span in (one, other)]
     lines = [(meter.at(written).bar, abs(begins[1][written] - tick)) for written, tick in sorted(begins[0].items())
              if written in begins[1] and meter.start(meter.at(written).bar) == written]
     grows = [line for line, before in zip(lines, [(0, 0), *lines]) if line[1] > before[1]]

@@ -6,8 +6,10 @@ import re
 from typing import Optional
 
 from ..making.midi import DRUM_CHANNEL, INSTRUMENTS
+from ..reading.structure import Span
 from ..reading.tree import Statement
-from ..reading.walk import Entries, Happening, Place, tick_of
+from ..reading.walk import Entries, Happening, Place
+from .bars import apart_of
 from .finding import Edit, replaced
 from .looking import Finds, Look, Looking
 
@@ -110,8 +112,9 @@ class Lists(Look):
         if taken < count:
             self.finds.find("rhythm-left-over", of.first, f"{said}: the last {count - taken} are never taken" if
                             count - taken > 1 else f"{said}: the last one is never taken")
-        elif taken % count == count - 1 or taken % count == 1 and taken > 2 * count > 5:
-            off = "one is left over" if taken % count == count - 1 else "one more than whole rounds of it"
+        else:
+            over, left = taken % count, count - taken % count
+            off = f"{over} more than whole rounds of it" if over <= left else f"{left} too few for whole rounds of it"
             self.finds.find("rhythm-left-over", of.first, f"{said}: {off}")
 
 
@@ -122,44 +125,29 @@ def goes(entries: tuple[int, ...]) -> int:
 
 
 class Branches(Look):
-    """Branches of a `par` that are equally long as written, and not as played."""
+    """Branches of a `par` that are equally long as written, and not as played; and one that ends a little early."""
 
-    def __init__(self, walk: Looking, finds: Finds):
-        super().__init__(walk, finds)
-        self.ends: list[tuple[int, int]] = []             # of the branches that were played, up to their `par`
-        self.last: list[tuple[int, int]] = []             # those of the last `par`
+    def finish(self) -> None:
+        for par, played in self.walk.pars.values():
+            for branches in played:
+                self._apart(par, branches)
+                self._uneven(par, [span.end - span.begin for span in branches])
 
-    def closed(self, place: Place, end: int) -> None:
-        if place.kind == "branch":
-            self.ends.append((end - place.begin, tick_of(self.walk.levels, self.walk.now.position)))
+    def _uneven(self, par: Statement, lengths: list[int]) -> None:
+        early = max(lengths) - min(lengths)
+        if 0 < early < self.reading.whole and min(lengths) >= 4 * early:
+            self.finds.find("branches-uneven", par.blocks[lengths.index(min(lengths))].head,
+                            f"this branch ends {self.finds.part(early)} before the longest one of its `par`")
 
-    def statement(self, happening: Happening) -> None:
-        par = happening.statement
-        if par.word != "par":
-            return
-        played = self.last = self.ends[-len(par.blocks):]
-        del self.ends[-len(par.blocks):]
-        first: dict[int, tuple[int, int]] = {}            # by its length as written a branch, and its end as played
-        for at, (length, end) in enumerate(played):
-            other, other_end = first.setdefault(length, (at, end))
-            if end != other_end and length:
-                self._apart(par, other, at, abs(end - other_end))
-                return
-        lengths = sorted(length for length, _ in played)
-        if 0 < lengths[-1] - lengths[0] < self.reading.whole and lengths[0] >= 4 * (lengths[-1] - lengths[0]):
-            at = min(range(len(played)), key=lambda at: played[at][0])
-            self.finds.find("branches-uneven", par.blocks[at].head, f"this branch ends "
-                            f"{self.finds.part(lengths[-1] - lengths[0])} before the longest one of its `par`")
-
-    def _apart(self, par: Statement, one: int, other: int, ticks: int) -> None:
-        """Told at the branch in which nothing is deformed, where the others agree."""
-        ends = [end for _, end in self.last]
-        odd = min((one, other), key=lambda at: (ends.count(ends[at]), at == one and len(ends) == 2))
-        rest = one if odd == other else other
-        self.finds.find("branches-apart", par.blocks[odd].head,
-                        f"this branch is as long as branch {rest + 1} (line {par.blocks[rest].head.line}) as written, "
-                        f"and as played {ticks} ticks apart at its end: where time is deformed, one `warp` round the "
-                        "`par` keeps voices together")
+    def _apart(self, par: Statement, branches: list[Span]) -> None:
+        apart = apart_of(branches)
+        if apart:
+            odd, other = apart
+            ticks = abs(branches[odd].last - branches[other].last)
+            self.finds.find("branches-apart", par.blocks[odd].head,
+                            f"this branch is as long as branch {other + 1} (line {par.blocks[other].head.line}) as "
+                            f"written, and as played {ticks} ticks apart at its end: where time is deformed, one "
+                            "`warp` round the `par` keeps voices together")
 
 
 class Drums(Look):

@@ -3,20 +3,20 @@
 from __future__ import annotations
 
 import re
-from typing import Callable, Iterable, Iterator, Optional
+from typing import Iterable, Iterator, Optional
 
-from ..reading.playing import Listing
 from ..reading.ticks import agree
 from ..reading.tree import Comment, Reading, Token
 from ..reading.walk import TooMuch
-from .bars import RULES_OF_BARS
+from .bars import RULES_OF_BARS, Heard
 from .blocks import Branches, Drums, Lists
 from .finding import Found
+from .keys import Keys
 from .looking import Finds, Looking
 from .plain import Plain
 from .rules import SEVERITIES
 from .shapes import Levels, Shapes
-from .sounding import Channels, Keys
+from .sounding import Channels
 from .stores import Draws, Stores
 from .tempo import SaidTempos, Tempos
 from .values import Clamped, Comparisons, Registers
@@ -24,20 +24,21 @@ from .values import Clamped, Comparisons, Registers
 _IGNORED = re.compile(r"lint:\s*ignore\s+([a-z0-9-]+(?:\s*,\s*[a-z0-9-]+)*)")
 
 
-#: Gives the listing of the file that the program makes of a text.
-Heard = Callable[[], Listing]
-
-
 def findings(reading: Reading, heard: Optional[Heard] = None, most: Optional[int] = None) -> list[Found]:
     """All that is found and not ignored, in the order of the text; what the text alone shows, where more than `most`
     statements are played. What is played is compared with what is `heard`, where that is given."""
+    return looked(Looking(reading, (), most), heard)[0]
+
+
+def looked(walk: Looking, heard: Optional[Heard]) -> tuple[list[Found], bool]:
+    """What is found, and whether all was played."""
+    reading, is_whole = walk.reading, True
     finds = Finds(reading)
     Plain(finds).look()
     Shapes(finds).look()
     SaidTempos(finds).look()
-    walk = Looking(reading, most)
     walk.take([look(walk, finds) for look in (Lists, Branches, Drums, Levels, Tempos, Channels, Keys, Comparisons,
-                                                 Clamped, Registers, Stores, Draws)])
+                                              Clamped, Registers, Stores, Draws)])
     alone = dict(finds.found)
     try:
         walk.run()
@@ -46,12 +47,12 @@ def findings(reading: Reading, heard: Optional[Heard] = None, most: Optional[int
         for look in walk.looks:
             look.finish()
     except TooMuch:
-        finds.found = alone
+        finds.found, is_whole = alone, False
     for comment, name in _ignored(reading):
         if name not in SEVERITIES and name not in RULES_OF_BARS:
             place = Token("", comment.line, comment.column, 0)
             finds.find("ignore-unknown", place, f"there is no rule {name} to ignore")
-    return not_ignored(reading, finds.found.values())
+    return not_ignored(reading, finds.found.values()), is_whole
 
 
 def not_ignored(reading: Reading, found: Iterable[Found]) -> list[Found]:

@@ -5,8 +5,9 @@ from __future__ import annotations
 from bisect import bisect_left
 from typing import Callable, Optional, Sequence, Union
 
+from ..reading.structure import Structure
 from ..reading.tree import Amount, Block, Expression, Length, Phrase, Reading, Statement, Token
-from ..reading.walk import Entries, Happening, Place, Played
+from ..reading.walk import Entries, Happening, Place
 from .finding import Edit, Found
 from .rules import SEVERITIES
 
@@ -83,11 +84,11 @@ class Look:
         """All was played."""
 
 
-class Looking(Played):
+class Looking(Structure):
     """The walk. `current` is the statement whose values are computed, `counts` how often each open loop is played."""
 
-    def __init__(self, reading: Reading, most: Optional[int] = None):
-        super().__init__(reading, most)
+    def __init__(self, reading: Reading, wanted: Sequence[Statement] = (), most: Optional[int] = None):
+        super().__init__(reading, wanted, most)
         self.looks: list[Look] = []
         self.listening: dict[str, list[Callable[..., None]]] = {}
         self.current: Optional[Statement] = None
@@ -107,6 +108,7 @@ class Looking(Played):
             tell(happening)
 
     def closed(self, place: Place, end: int) -> None:
+        super().closed(place, end)
         for tell in self.listening["closed"]:
             tell(place, end)
 

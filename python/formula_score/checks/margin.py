@@ -11,11 +11,11 @@ from ..language.tokens import tokens
 from ..reading.meter import Meter, groups_of
 from ..reading.reader import read
 from ..reading.tree import Reading
-from ..reading.walk import TooMuch
 from ..repair import told
-from .bars import off, structure_of
+from .bars import Heard, edges, off
 from .finding import ERROR, Edit, Found
-from .lint import Heard, findings, not_ignored
+from .lint import looked, not_ignored
+from .looking import Looking
 
 #: Of a text that plays more statements only what shows without playing is found.
 MOST = 20_000
@@ -56,23 +56,29 @@ def problems(text: bytes, said: str, heard: Heard, meter: Optional[Callable[[Rea
     if place is not None or said:
         return [refused(text, place)] if place else []
     reading = read(text)
-    found = findings(reading, heard, most)
+    walk = Looking(reading, edges(reading), most)
+    found, is_whole = looked(walk, heard)
     names = {each.rule for each in found}
-    found += [each for each in _of_bars(reading, meter, most) if each.rule not in names]
+    found += [each for each in (_of_bars(walk, meter) if is_whole else ()) if each.rule not in names]
     starts = [0, *(end.end() for end in re.finditer(b"\n", text))]
     return [_shown(text, starts[each.line - 1] + each.column - 1, each) for each in sorted(found)]
 
 
-def _of_bars(reading: Reading, meter: Optional[Callable[[Reading], Meter]], most: Optional[int]) -> list[Found]:
-    """What is off in the bars; where nobody knows the meter, in the one of the usual ones in which least is."""
-    try:
-        structure = structure_of(reading, (), most)
-    except TooMuch:
-        return []
-    usual = (Meter(groups_of(word), Fraction(0), reading.whole) for word in _USUAL)
+def _of_bars(walk: Looking, meter: Optional[Callable[[Reading], Meter]]) -> list[Found]:
+    """What is off in the bars; where nobody knows the meter, in the one of the usual ones in which least is. It may have
+    an upbeat, where a comment says so."""
+    reading = walk.reading
+    parts = range(7 if any("upbeat" in comment.text for comment in reading.comments) else 1)
+    usual = (Meter(groups_of(word), Fraction(part, 8), reading.whole) for part in parts for word in _USUAL)
     meters = [meter(reading)] if meter else list(usual)
-    all_found = [(not_ignored(reading, off(structure, each)), structure.end % each.start(2)) for each in meters]
-    return min(all_found, key=lambda found: len(found[0]) + bool(found[1]))[0]
+    found = [(not_ignored(reading, off(walk, each)), _ends_off(walk.end, each)) for each in meters]
+    return min(found, key=lambda both: len(both[0]) + both[1])[0]
+
+
+def _ends_off(end: int, meter: Meter) -> bool:
+    """Whether a piece ends off the bar lines; its last bar may be shorter by the upbeat."""
+    bar = meter.start(2) - meter.start(1)
+    return bool(end % bar and (end - meter.upbeat) % bar)
 
 
 def _shown(text: bytes, start: int, found: Found) -> Problem:

@@ -112,8 +112,9 @@ class Plain:
     def _registers(self) -> None:
         pairs = list(zip(self.tokens, self.tokens[1:]))
         setting: set[str] = {token.text for before, token in pairs if before.text == "set"}
+        unset = _REGISTERS - setting
         for token in reversed(self.tokens):
-            if token.text in _REGISTERS - setting:
+            if token.text in unset:
                 self.finds.find("register-never-set", token, f"`{token.text}` is read and never set, so it is 0")
 
     def _seed(self) -> None:
@@ -151,6 +152,17 @@ class Plain:
         if max(statement.entries) < 10:
             self.finds.find("volume-below-10", statement.first,
                             "entries of `loud` are velocities from 1 to 127: these are hardly heard")
+        loop, *others = statement.blocks[0].statements or (statement,)
+        if loop.word == "repeat" and not others:
+            self._slipping(statement, [inner.word for inner in loop.blocks[0].statements])
+
+    def _slipping(self, statement: Statement, words: list[str]) -> None:
+        """A list for all places of a round, where a rest takes no entry."""
+        count, notes = len(statement.entries), sum(word in ("note", "play") for word in words)
+        rests = sum(word in ("rest", "skip") for word in words)
+        if notes and count % notes and notes + rests == len(words) == count:
+            self.finds.find("loud-list", statement.first, f"this `loud` list has {count} entries, and each round of its "
+                            f"loop {notes} notes: a rest takes no entry, so the list slips against the rounds")
 
     def _of_artic(self, statement: Statement) -> None:
         if max(statement.entries) < 10:

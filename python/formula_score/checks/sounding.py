@@ -1,19 +1,19 @@
-"""Looks at what a channel is sent: pedals, bends and instruments, notes, and keys that sound twice."""
+"""Looks at what a channel is sent: pedals, bends and instruments, and notes of which nothing is heard."""
 
 from __future__ import annotations
 
-from typing import Iterator, NamedTuple, Optional, Sequence
+from typing import NamedTuple, Optional
 
-from ..making.expected import MOST_WAITING, outside
 from ..making.midi import INSTRUMENTS
 from ..reading.tree import Statement
-from ..reading.walk import Happening, Place, parts_of, tick_of
+from ..reading.walk import Happening, tick_of
 from .finding import Edit, replaced
-from .looking import Finds, Look, Looking
+from .looking import Look
 
 #: Of more notes than these none is kept for what a channel is sent.
 MOST_NOTES = 300_000
 _PEDAL, _VOLUME, _EXPRESSION = 64, 7, 11
+_NOTES = {"note", "play"}
 
 
 class Sent(NamedTuple):
@@ -29,36 +29,34 @@ class Sent(NamedTuple):
     end: int
 
 
+def _sent(of: Happening, order: int) -> Sent:
+    word = "note" if of.statement.word in _NOTES else of.statement.word
+    return Sent(tick_of(of.levels, of.position), of.process, order, word, of.statement.number, of.values[0], of.statement,
+                tick_of(of.levels, of.position + of.end - of.begin))
+
+
 class Channels(Look):
     """What each channel is sent, in the order of the file."""
 
-    def __init__(self, walk: Looking, finds: Finds):
-        super().__init__(walk, finds)
-        self.sent: dict[int, list[Sent]] = {}
-        self.count = 0
-
-    def statement(self, happening: Happening) -> None:
-        word = happening.statement.word
-        if word in ("note", "play"):
-            word, self.count = "note", self.count + 1
-        if word in ("note", "control", "program", "bend") and self.count <= MOST_NOTES:
-            tick = tick_of(happening.levels, happening.position)
-            self.sent.setdefault(happening.channel, []).append(Sent(
-                tick, happening.process, len(self.sent.get(happening.channel, ())), word, happening.statement.number,
-                happening.values[0], happening.statement,
-                tick_of(happening.levels, happening.position + happening.end - happening.begin)))
-
     def finish(self) -> None:
-        if self.count > MOST_NOTES:
-            return
-        for channel, sent in self.sent.items():
-            sent.sort()
-            notes = [each for each in sent if each.word == "note"]
-            if not notes and self.count:
-                self.finds.find("channel-without-notes", sent[0].statement.first,
-                                f"channel {channel} has no note: this is heard by nothing")
-            if not notes:
-                continue
+        channels: dict[int, list[Happening]] = {}
+        for happening in self.walk.happenings:
+            if happening.values:
+                channels.setdefault(happening.channel, []).append(happening)
+        words = {channel: [happening.statement.word for happening in own] for channel, own in channels.items()}
+        notes = {channel: sum(word in _NOTES for word in each) for channel, each in words.items()}
+        if sum(notes.values()) <= MOST_NOTES:
+            for channel, own in channels.items():
+                self._channel(channel, own, notes[channel], {*words[channel]} - _NOTES)
+
+    def _channel(self, channel: int, own: list[Happening], notes: int, others: set[str]) -> None:
+        if notes and (not others or others == {"program"} and notes == len(own) - 1):
+            return  # of notes, and an instrument at most, there is nothing to say
+        sent = sorted(_sent(happening, order) for order, happening in enumerate(own))
+        if not notes and any(happening.statement.word in _NOTES for happening in self.walk.happenings):
+            self.finds.find("channel-without-notes", sent[0].statement.first,
+                            f"channel {channel} has no note: this is heard by nothing")
+        if notes:
             self._held(channel, sent)
             self._silent(channel, sent)
             self._at_one_tick(sent)
@@ -192,110 +190,3 @@ class Channels(Look):
                 if forked:
                     found[process] = forked
         return found
-
-
-#: Of each channel and key where its notes begin and end.
-Struck = dict[tuple[int, int], list[tuple[int, int]]]
-
-
-class Keys(Look):
-    """Keys that are struck while they sound, and notes that are cut."""
-
-    def __init__(self, walk: Looking, finds: Finds):
-        super().__init__(walk, finds)
-        self.struck: dict[int, tuple[Place, Struck]] = {}      # of each branch that is played, by its place
-        self.branches: list[Struck] = []                       # of those that were played, up to their `par`
-        self.waiting: list[tuple[int, Happening]] = []         # of each pitch its note-off, the oldest first
-        self.again: set[int] = set()                           # the blocks in which a key was struck again
-
-    def statement(self, happening: Happening) -> None:
-        if happening.statement.word in ("note", "play"):
-            self.sounds(happening)
-        elif happening.statement.word == "par":
-            self.voices(happening.statement)
-
-    def closed(self, place: Place, end: int) -> None:
-        if place.kind == "branch":
-            self.branches.append(self.struck.pop(id(place), (place, {}))[1])
-
-    def voices(self, par: Statement) -> None:
-        """Keys that two branches share."""
-        played = self.branches[-len(par.blocks):]
-        del self.branches[-len(par.blocks):]
-        notes: dict[tuple[int, int], list[tuple[int, int, int]]] = {}  # with the branch of each
-        for at, struck in enumerate(played):
-            for place, spans in struck.items():
-                notes.setdefault(place, []).extend((begin, at, end) for begin, end in spans)
-        for (channel, key), several in sorted(notes.items()):
-            twice = _struck_while_it_sounds(sorted(several))
-            if twice:
-                lines = " and ".join(str(par.blocks[branch].head.line) for branch in twice)
-                self.finds.find("key-in-two-branches", par.first, f"branches {twice[0] + 1} and {twice[1] + 1} (lines "
-                                f"{lines}) strike key {key} of channel {channel}, one while the other sounds it: many "
-                                "players end both at the first note-off")
-                return
-
-    def sounds(self, note: Happening) -> None:
-        """A note begins."""
-        branches = list(_branches(note.place))
-        if note.percent <= 100 and not self.waiting and not branches:
-            return
-        begin = tick_of(note.levels, note.position)
-        self.waiting = [waiting for waiting in self.waiting if waiting[0] > begin]
-        for end, earlier in self.waiting:
-            if set(earlier.values) & set(note.values) and earlier.channel == note.channel and earlier.percent > 100:
-                self._again(note, earlier, end - begin)
-        while len(self.waiting) + len(note.values) > MOST_WAITING:
-            end, cut = self.waiting.pop(0)
-            self.cut(cut, end - begin, f"by the note on line {note.statement.line}, since 16 pitches sound at most")
-        sounds = (note.end - note.begin) * note.percent // 100
-        end = outside(parts_of(note.levels), note.position + sounds, False)
-        for place in branches:
-            struck = self.struck.setdefault(id(place), (place, {}))[1]
-            for key in note.values:
-                struck.setdefault((note.channel, key), []).append((begin, end))
-        self.waiting += [(end, note) for _ in note.values]
-
-    def _again(self, note: Happening, earlier: Happening, ticks: int) -> None:
-        """Told once for its block."""
-        block = next((entries.statement for entries in reversed(self.walk.open_lists) if entries.kind == "artic"), None)
-        start = block.first.start if block else -1
-        if start not in self.again:
-            self.again.add(start)
-            self.finds.find("key-struck-again", note.statement.first,
-                            f"this note strikes a key that the note on line {earlier.statement.line} still sounds, for "
-                            f"{ticks} ticks: many players end both at the first note-off")
-
-    def process_ended(self, number: int) -> None:
-        last = self.walk.ended[number]
-        end = tick_of(last.levels, last.position) if self.waiting else 0
-        for off, note in self.waiting:
-            if off > end:
-                self.cut(note, off - end, "where its voice ends; a rest after it would let it ring out")
-        self.waiting = []
-
-    def cut(self, note: Happening, ticks: int, how: str) -> None:
-        """A note ends too early."""
-        self.finds.find("note-cut", note.statement.first,
-                        f"this note sounds for {note.percent} percent of its length, and is cut {ticks} ticks too "
-                        f"early {how}")
-
-
-def _branches(place: Optional[Place]) -> Iterator[Place]:
-    """The branches round a place."""
-    while place:
-        if place.kind == "branch":
-            yield place
-        place = place.outer
-
-
-def _struck_while_it_sounds(notes: Sequence[tuple[int, int, int]]) -> tuple[int, ...]:
-    """The two branches of which one strikes a key that sounds in the other, or ends it behind the new note-on of its
-    tick; none where there are none. `notes` have their begin, branch and end, and are in order."""
-    last_end, last = -1, -1
-    for begin, branch, end in notes:
-        if branch != last and (begin < last_end or begin == last_end and branch < last):
-            return tuple(sorted((last, branch)))
-        if end > last_end:
-            last_end, last = end, branch
-    return ()

@@ -121,6 +121,8 @@ def _place(found: tuple[Sequence, int, int]) -> int:
 
 def marks(reading: Reading) -> list[Mark]:
     """All comments of the score that count bars, and that stand at statements."""
+    if not any(map(bars_of, reading.comments)):
+        return []
     every = sequences(reading)
     lines, phrases = _Lines(every, reading.comments_above()), _phrases(every)
     sought = []
@@ -246,8 +248,8 @@ def _told(group: list[tuple[Mark, Verdict]], meter: Meter) -> list[Finding]:
     for mark, verdict in group:
         name = "bar" if mark.first_bar == mark.last_bar else "bars"
         said = f"`{name} {mark.first_bar}{f' to {mark.last_bar}' if name == 'bars' else ''}`"
-        if verdict.begins_wrong and verdict.late != carried:
-            what = f"{said} begins {_off(verdict.late, meter)}: it stands at {meter.tell(max(0, verdict.begin))}"
+        if (verdict.begins_wrong or verdict.late == verdict.over != 0) and verdict.late != carried:
+            what = f"{said} begins {_off(verdict.late, meter)}: it is in {meter.tell(max(0, verdict.begin))}"
             found.append(Finding(mark.comment.line, mark.comment.column, what))
             carried = verdict.late
         elif verdict.ends_wrong and verdict.over != carried:

@@ -5,7 +5,7 @@ from __future__ import annotations
 from typing import Callable, Iterable, NamedTuple, Optional, Union
 
 from .tree import Block, Comment, Phrase, Reading, Statement
-from .walk import Happening, Place, Walk, tick_of
+from .walk import Happening, Place, Played, tick_of
 
 
 class Sequence(NamedTuple):
@@ -60,8 +60,8 @@ def sections(reading: Reading, may_name: Callable[[Comment], bool]) -> list[Sect
     return found
 
 
-class Structure(Walk):
-    """Keeps where phrases, branches and some statements are played."""
+class Structure(Played):
+    """Keeps where phrases, branches and some statements are played, too."""
 
     def __init__(self, reading: Reading, wanted: Iterable[Statement], most: Optional[int] = None):
         super().__init__(reading, most)
@@ -70,8 +70,6 @@ class Structure(Walk):
         self.spans: dict[int, list[Span]] = {statement.first.start: [] for statement in wanted}
         self._open: list[Span] = []
         self._opened: list[int] = []                    # of each phrase and branch that is open its first tick
-        #: of each process the ticks at which what takes time begins, by its position as written
-        self.begins: dict[int, dict[int, int]] = {}
 
     def _inside(self, kind: str, node: Union[Statement, Phrase], block: Block, number: int = 0) -> None:
         if kind in ("phrase", "branch"):
@@ -79,12 +77,11 @@ class Structure(Walk):
         super()._inside(kind, node, block, number)
 
     def statement(self, happening: Happening) -> None:
+        super().statement(happening)
         spans = self.spans.get(happening.statement.first.start)
         if spans is not None:
             spans.append(Span(happening.begin, happening.end, happening.place,
                               tick_of(happening.levels, happening.position), tick_of(self.levels, self.now.position)))
-        if happening.statement.word in ("note", "play", "rest", "skip"):
-            self.begins.setdefault(happening.process, {})[happening.begin] = tick_of(happening.levels, happening.position)
         if happening.statement.word == "par":
             count = len(happening.statement.blocks)
             _, played = self.pars.setdefault(happening.statement.first.start, (happening.statement, []))
@@ -99,6 +96,10 @@ class Structure(Walk):
             self._open.append(span)
         elif isinstance(place.node, Phrase):
             self.phrases.setdefault(place.node.name.text, []).append(span)
+
+    def begins(self, process: int) -> dict[int, int]:
+        """The ticks at which what a process plays begins, by its position as written."""
+        return {each.begin: tick_of(each.levels, each.position) for each in self.happenings if each.process == process}
 
     @property
     def end(self) -> int:
