@@ -18,7 +18,7 @@ from formula_score.reading.made import calls_at
 from formula_score.running.pieces import Limits, Piece, Runner, Unmade, jailed, named
 
 from .companion import Answer, score
-from .program import needs_program
+from .program import TOP, needs_program
 
 PIECE = '''"""Two bars."""
 from formula_score import Meter, Score, melody, note, phrase, seq, warp, flat
@@ -233,6 +233,12 @@ class Pieces(unittest.TestCase):
         piece = self.made("import random\nfrom formula_score import *\nfrom helper import LENGTH\n"
                           "random.seed(1)\nscore = Score(melody(open('data').read(), LENGTH))\n")
         self.assertIn(b"note c4 1/8; note e4 1/8;", piece.text)
+
+    def test_examples_make_scores(self) -> None:
+        for path in sorted((TOP / "examples" / "python").glob("*.py")):
+            data = path.read_bytes()
+            self.assertLessEqual(data.count(b"\n"), 40)
+            self.assertGreater(Runner().run(str(path), data, Limits()).text.count(b"note "), 8, path)
 
     def test_numpy_works(self) -> None:
         found = subprocess.run([sys.executable, "-c", "import numpy"], stderr=subprocess.DEVNULL, check=False)

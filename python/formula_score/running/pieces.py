@@ -76,7 +76,7 @@ def shown(data: bytes, calls: Sequence[Place]) -> list[str]:
         before = "".join("\t" if c == "\t" else " " for c in lines[calls[0].line - 1][:calls[0].column - 1])
         found.append(f"{' ' * gutter}| {before}^")
     return [*found, *(f"called from line {line}" + (f": {lines[line - 1].strip()}" if line <= len(lines) else "")
-                      for line, _ in calls[1:])]
+                      for (before, _), (line, _) in zip(calls, calls[1:]) if line != before)]
 
 
 def named(path: str) -> Optional[tuple[str, str]]:
