@@ -2,7 +2,7 @@
 from formula_score import Score, channel, drum, drums, dynamics, euclid, hits, instrument, melody, par, tempo
 
 #: of each drum its hits, its steps and its loudness
-RHYTHMS = (("bass drum", 4, 16, "f"), ("acoustic snare", 5, 16, "mf"), ("closed hi-hat", 11, 16, "p"),
+RHYTHMS = (("bass drum", 4, 16, "f"), ("snare", 5, 16, "mf"), ("closed hi-hat", 11, 16, "p"),
            ("low conga", 7, 16, "mf"))
 
 voices = [drums(dynamics(loud, 8 * hits(euclid(count, steps), drum(name), "1/16")))

@@ -62,7 +62,7 @@ class Score:
         self.step_count = totals.steps + self.process_count
         _judge(totals, self.end, self.version)
         #: the text of the score
-        self.text = text_of(self.body, self.seed, self.version, self.division)
+        self.text, self._made_by = _written(self.body, self.seed, self.version, self.division)
         if len(self.text) > MAX_BYTES:
             raise ScoreError(f"a score has at most 1,048,576 bytes, and this one {len(self.text):,}: "
                              "name what comes again as a phrase")
@@ -279,7 +279,7 @@ def text_of(body: tuple[Music, ...], seed: int = 0, version: int = 1, division: 
 
 def origins_of(score: Score) -> list[Calls]:
     """Of each statement of a score's text, in its order, what made it."""
-    return _written(score.body, score.seed, score.version, score.division)[1]
+    return score._made_by
 
 
 def _written(body: tuple[Music, ...], seed: int, version: int, division: int) -> tuple[str, list[Calls]]:
