@@ -20,8 +20,8 @@ from .program import TOP
 sys.path.insert(0, str(TOP / "tools" / "package"))
 debian: Any = importlib.import_module("debian")
 
-USERS = "fluidsynth fluid-soundfont-gm python3-aiohttp libjs-codemirror python3-pylsp-jsonrpc musescore3 abcmidi abcm2ps ghostscript " \
-    "python3-distributed vim"
+USERS = "fluidsynth fluid-soundfont-gm python3-aiohttp libjs-codemirror bubblewrap python3-pylsp-jsonrpc musescore3 " \
+    "abcmidi abcm2ps ghostscript python3-distributed vim"
 
 
 class Needs(unittest.TestCase):

@@ -47,12 +47,13 @@ class Page:
 
     def next(self) -> Frame:
         """The next frame from the studio."""
-        _, size = self.file.read(2)
+        first, size = self.file.read(2)
         if size == 126:
             size, = struct.unpack(">H", self.file.read(2))
         elif size == 127:
             size, = struct.unpack(">Q", self.file.read(8))
-        return unpacked(self.file.read(size))
+        data = self.file.read(size)
+        return self.next() if first & 15 == 9 else unpacked(data)  # a busy machine is sent pings
 
     def close(self) -> None:
         self.file.close()

@@ -10,6 +10,7 @@ import re
 from typing import Iterator, Optional
 
 from formula_score.running.outs import file_without_a_name
+from formula_score.running.pieces import ENDING, Asked, Runner
 
 #: Bytes as the program prints them, where they are no text.
 RAW = "surrogateescape"
@@ -32,10 +33,16 @@ class Batch:
     A piece is a score, under one of the seeds where there are some, and has a number. `name` is that of its file.
     """
 
-    def __init__(self, folder: str, out: str, program: str, is_audited: bool, seeds: Optional[range] = None):
+    def __init__(self, folder: str, out: str, program: str, is_audited: bool, seeds: Optional[range] = None,
+                 with_python: bool = False):
         self.program, self.is_audited, self.seeds = program, is_audited, seeds
         self.folder, self.out = os.path.realpath(folder), os.path.realpath(out)
-        self.names = sorted(found(self.folder, ".score"))
+        #: the names of Python files that make scores, where they are taken too
+        self.made = set(found(self.folder, ENDING)) if with_python else set[str]()
+        scores = list(found(self.folder, ".score"))
+        for name in self.made.intersection(scores):
+            raise Failed(f"{name}.score and {name}{ENDING} would both become {name}.mid: rename the one or the other")
+        self.names = sorted([*scores, *self.made])
         if not self.names:
             raise Failed(f"there is no score in {folder}")
         for name in self.names if seeds else ():
@@ -67,16 +74,19 @@ class Batch:
 
     def score(self, number: int) -> str:
         """The name of the score of a piece."""
-        return f"{self.names[number // len(self.seeds or [0])]}.score"
+        name = self.names[number // len(self.seeds or [0])]
+        return name + (ENDING if name in self.made else ".score")
 
     def path(self, number: int) -> str:
         """The file of the score of a piece."""
         return f"{self.folder}/{self.score(number)}"
 
     def text(self, number: int) -> tuple[bytes, int]:
-        """The text of a piece, and when its score was changed."""
+        """The text of a piece, and when its score was changed; `Unmade` where a Python file makes none."""
         with open(self.path(number), "rb") as file:
             text, time = file.read(), os.fstat(file.fileno()).st_mtime_ns
+        if self.path(number).endswith(ENDING):
+            text = Runner().run(self.path(number), text, Asked.limits, Asked.arguments).text
         return text if self.seeds is None else seeded(text, self.seeds[number % len(self.seeds)]), time
 
     def make_folders(self) -> None:

@@ -8,6 +8,7 @@ import os
 from typing import Iterable, Iterator, NamedTuple, Optional, Sequence, Union
 
 from formula_score.running.many import Played, Unplayed, play_all
+from formula_score.running.pieces import Unmade
 from .engines import Engine
 from .folder import FULL, Batch, Failed, remove, write
 from .results import AUDITED, BELIEVED, PLAYED
@@ -65,6 +66,8 @@ class Playing:
                 text, self.times[number] = self.batch.text(number)
             except OSError as error:
                 self.wrong[number] = Became(ERROR, error.strerror or "it cannot be read", PLAYED)
+            except Unmade as unmade:
+                self.wrong[number] = Became("3", f"{unmade.place.line}:{unmade.place.column}: {unmade.why}", PLAYED)
             else:
                 yield number, text
 

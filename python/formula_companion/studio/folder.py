@@ -15,6 +15,8 @@ import threading
 from typing import Iterator, NamedTuple, Optional
 
 ENDING = ".score"
+#: Of a Python file that makes a score, where the studio was started with --python.
+PYTHON = ".py"
 #: The longest file that is opened, in bytes: a score has at most a sixteenth of it.
 MOST_BYTES = 16 * 1_048_576
 #: How many scores are listed.
@@ -58,7 +60,8 @@ class _Entry(NamedTuple):
 class Folder:
     """The files under a folder; with `only`, one of them."""
 
-    def __init__(self, path: str, only: Optional[str] = None, read_only: bool = False):
+    def __init__(self, path: str, only: Optional[str] = None, read_only: bool = False, with_python: bool = False):
+        self.endings = (ENDING, PYTHON) if with_python else (ENDING,)
         self.path, self.only, self.read_only = os.path.realpath(path), only, read_only
         self._root = os.open(self.path, os.O_RDONLY | os.O_DIRECTORY | os.O_CLOEXEC)
         self._saving = threading.Lock()
@@ -81,7 +84,7 @@ class Folder:
                 folders.clear()
             for file in sorted(files):
                 name = os.path.normpath(os.path.join(place, file))
-                if file.endswith(ENDING) and not file.startswith(".") and _is_text(name) and _is_plain(file, descriptor):
+                if file.endswith(self.endings) and not file.startswith(".") and _is_text(name) and _is_plain(file, descriptor):
                     count += 1
                     yield name
             if count >= MOST_NAMES:
@@ -120,8 +123,8 @@ class Folder:
         parts = name.split("/")
         if not _is_text(name) or "\0" in name or any(part in ("", ".", "..") or part.startswith(".") for part in parts):
             raise Denied(403, f"{name!r} is no file under the folder")
-        if not parts[-1].endswith(ENDING):
-            raise Denied(403, f"{name!r} is no score: its name does not end in {ENDING}")
+        if not parts[-1].endswith(self.endings):
+            raise Denied(403, f"{name!r} is no score: its name does not end in {' or '.join(self.endings)}")
         if self.only is not None and name != self.only:
             raise Denied(403, f"the studio was started for {self.only!r} alone: start it with the folder")
         at = os.dup(self._root)

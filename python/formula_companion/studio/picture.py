@@ -82,7 +82,7 @@ class Picture:
         self.events = sent(self.walk)
         self.agree(file)
         self.partners = _partners(self.events)
-        self._places: Optional[Places] = None
+        self.places = Places(text)
 
     def agree(self, file: str) -> None:
         """Refuses to go on where the reading is not what the program plays."""
@@ -117,13 +117,6 @@ class Picture:
         columns = ([event.process for event in self.events], [event.happening for event in self.events], self.partners,
                    [spot.line for spot in spots], [spot.character for spot in spots])
         return b"".join(array("i", column).tobytes() for column in columns)
-
-    @property
-    def places(self) -> Places:
-        """The lines of the text."""
-        if self._places is None:
-            self._places = Places(self.text)
-        return self._places
 
     def bars(self, meter: Meter) -> dict[str, Any]:
         """The ticks at which bars and beats begin, of the first process that plays there, and the number of the last

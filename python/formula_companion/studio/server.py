@@ -12,16 +12,18 @@ import pathlib
 import signal
 import socket
 import tempfile
-from typing import Any, Awaitable, Callable, NamedTuple
+from typing import Any, Awaitable, Callable, NamedTuple, Optional
 
 from aiohttp import WSMsgType, web
 
 from formula_score.explaining.explain import explanation
 from formula_score.pictures.drawing import COLOURS, DARKER
+from formula_score.running.pieces import Limits
 from . import examples
 from .door import Door, Watched, quiet
 from .folder import Conflict, Denied, Folder, version_of
 from .guard import Asked, Guard
+from .pieces import Pieces
 from .runs import Program, Workers, remove
 from .session import Session
 from .sound import Sound, Unheard
@@ -33,7 +35,7 @@ EDITOR = pathlib.Path("/usr/share/javascript/codemirror")
 EDITOR_PARTS = (
     "lib/codemirror", "addon/fold/foldcode", "addon/fold/foldgutter", "addon/fold/brace-fold",
     "addon/edit/matchbrackets", "addon/edit/closebrackets", "addon/hint/show-hint", "addon/dialog/dialog",
-    "addon/search/searchcursor", "addon/search/search", "addon/comment/comment",
+    "addon/search/searchcursor", "addon/search/search", "addon/comment/comment", "mode/python/python",
 )
 _KINDS = {".html": "text/html", ".js": "text/javascript", ".css": "text/css", ".json": "application/json"}
 #: The longest message of a page, in bytes: a text twice as long as the longest file, as JSON writes it.
@@ -54,6 +56,8 @@ class Settings(NamedTuple):
     folder: Folder
     opened: str
     listener: socket.socket
+    #: what a Python file may take; None where none is run
+    limits: Optional[Limits] = None
 
 
 class Studio:
@@ -64,6 +68,7 @@ class Studio:
         self.program = Program(settings.program, home)
         self.workers = Workers(home, settings.program)
         self.sound = Sound(home)
+        self.pieces = None if settings.limits is None else Pieces(settings.limits)
         self.door = Door()
         self.guard = Guard(settings.listener.getsockname()[1])
 
@@ -91,6 +96,7 @@ class Studio:
             "files": await _aside(self.folder.names), "only": self.folder.only is not None,
             "examples": [example._asdict() for example in examples.listed()], "folders": examples.FOLDERS,
             "colours": COLOURS, "darker": DARKER, "silent": self.sound.missing,
+            "python": self.pieces is not None,
         })
 
     # ---- files
@@ -126,7 +132,7 @@ class Studio:
         """The session of a page, as long as it is open."""
         opened = web.WebSocketResponse(max_msg_size=MOST_MESSAGE, heartbeat=30)
         await opened.prepare(request)
-        session = Session(self.program, self.workers, opened.send_bytes)
+        session = Session(self.program, self.workers, opened.send_bytes, self.folder, self.pieces)
         try:
             async for message in opened:
                 if message.type == WSMsgType.TEXT:
@@ -255,10 +261,14 @@ async def serve(settings: Settings, tell: Callable[[str, str], None]) -> None:
         settings.listener.listen(4096)  # else a packet of the owner is lost while many others come
         try:
             tell(studio.guard.address, home)
+            if studio.pieces:
+                studio.pieces.warm()
             await studio.workers.warm()
             await stop.wait()
         finally:
             studio.workers.close()
+            if studio.pieces:
+                studio.pieces.close()
             listening.close()
             with contextlib.suppress(Exception):
                 await asyncio.wait_for(answering.shutdown(5), 5)

@@ -15,7 +15,10 @@ from typing import Any, Awaitable, Callable, Optional
 
 from formula_score.explaining.explain import explanation, place_of
 from formula_score.reading.playing import Failed
+from formula_score.running.pieces import Unmade
+from .folder import Denied, Folder, version_of
 from .frames import packed
+from .pieces import Pieces, refused, sent
 from .runs import Program, Ran, Workers, remove
 
 #: A frame is sent to the page by this.
@@ -29,9 +32,11 @@ OF_FILE = ("picture", "bars", "problems", "facts", "curves")
 class Session:
     """What is running for a page."""
 
-    def __init__(self, program: Program, workers: Workers, send: Send):
-        self.program, self.workers, self.send = program, workers, send
+    def __init__(self, program: Program, workers: Workers, send: Send, folder: Folder, pieces: Optional[Pieces] = None):
+        self.program, self.workers, self.send, self.folder, self.pieces = program, workers, send, folder, pieces
+        #: the text of a score, behind which is what made it where a Python file did, and what says so to a worker
         self.text = b""
+        self.made: dict[str, Any] = {}
         self.number = -1
         self.file: Optional[str] = None
         #: the file of the text of this number, None where it has none
@@ -45,8 +50,19 @@ class Session:
             for task in self._running.values():
                 task.cancel()
             self.text, self.number = str(message["text"]).encode("utf-8", "replace"), int(message["number"])
+            self.made = {}
             self._played = asyncio.get_running_loop().create_future()
             self._begin("text", self._play(self.text, self.number, message))
+        elif kind == "run":
+            for task in self._running.values():
+                task.cancel()
+            self.text, self.number = b"", int(message["number"])
+            self._played = asyncio.get_running_loop().create_future()
+            self._begin("text", self._run(str(message["name"]), str(message["version"]), self.number, message))
+        elif kind == "check" and self.pieces:
+            self._begin("check", self._check(message))
+        elif kind == "end" and "text" in self._running:
+            self._running["text"].cancel()
         elif kind in ASKED:
             self._begin(str(kind), self._ask(str(kind), message))
 
@@ -62,6 +78,40 @@ class Session:
         if before is not None:
             before.cancel()
         self._running[kind] = asyncio.ensure_future(_told(work))
+
+    async def _run(self, name: str, version: str, number: int, message: dict[str, Any]) -> None:
+        """Runs a Python file as it lies in the folder, if that is what the page shows, and plays its score."""
+        told: dict[str, Any] = {"kind": "failed", "number": number}
+        printed = bytearray()
+        try:
+            if self.pieces is None:
+                raise Denied(403, "no Python is run: start the studio with --python")
+            data = await asyncio.get_running_loop().run_in_executor(None, self.folder.read, name)
+            if version_of(data) != version:
+                raise Denied(409, "the file has changed since it was read: it is not run")
+            await self.send(packed({"kind": "running", "number": number}))
+            piece = await self.pieces.made(os.path.join(self.folder.path, name), data, printed.extend)
+        except Denied as denied:
+            told["failed"] = denied.why
+        except Unmade as unmade:
+            told = {"kind": "problems", "number": number,
+                    "problems": [refused(unmade.why, unmade.told(), unmade.place)]}
+        except asyncio.CancelledError:
+            if self.number == number:  # the button ended it, and no newer text
+                await self.send(packed({**told, "failed": f"{name} was ended: there is no score"}))
+            raise
+        else:
+            self.made, self.text = sent(piece)
+            await self.send(packed({"kind": "made", "number": number, "printed": _last(printed)}, piece.text))
+            await self._play(piece.text, number, message)
+            return
+        self._played.set_result(None)
+        await self.send(packed({**told, "printed": _last(printed)}))
+
+    async def _check(self, message: dict[str, Any]) -> None:
+        head = {"do": "check", "name": str(message["name"])}
+        answer = await self.workers.ask(head, str(message["text"]).encode("utf-8", "replace"))
+        await self.send(packed({**answer.head, "kind": "check", "number": self.number, "question": message["question"]}))
 
     async def _play(self, text: bytes, number: int, message: dict[str, Any]) -> None:
         begun = time.monotonic()
@@ -110,8 +160,14 @@ class Session:
         if is_of_file and file is None:
             await self.send(packed({**told, "refused": True}))
             return
-        answer = await self.workers.ask({**head, "do": kind, "file": file or os.devnull}, text)
+        body = self.text if self.made and number == self.number else text
+        answer = await self.workers.ask({**head, **self.made, "do": kind, "file": file or os.devnull}, body)
         await self.send(packed({**answer.head, **told}, answer.body))
+
+
+def _last(printed: bytearray) -> str:
+    """The end of what a file printed."""
+    return bytes(printed[-2000:]).decode("utf-8", "replace")
 
 
 async def _told(work: Awaitable[None]) -> None:

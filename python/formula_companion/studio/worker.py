@@ -18,9 +18,11 @@ from typing import Any, Callable, Optional
 
 from formula_score.checks.margin import Problem, problems
 from formula_score.pictures.roll import picture as drawn
+from formula_score.reading.made import in_python
 from formula_score.reading.meter import groups_of, part_of
 from formula_score.reading.playing import Failed, listing_of_file
 from formula_score.reading.reader import read as read_score
+from formula_score.running.pieces import Piece
 from ..editing.completion import completed
 from ..editing.names import definition, same_name, use_at
 from ..editing.outline import Part, outline
@@ -28,6 +30,7 @@ from ..editing.places import Places, Position
 from ..editing.reference import row_at
 from .frames import Frame, packed, read
 from .picture import Picture, meter_of
+from .pieces import MadePlaces, compiled, taken
 
 
 #: The longest file whose score is read, in bytes: about half a million events, which take a gigabyte here.
@@ -40,16 +43,20 @@ class Worker:
     def __init__(self) -> None:
         self.version = ""
         self.picture: Optional[Picture] = None
+        #: what a Python file made, where the text is its score
+        self.piece: Optional[Piece] = None
         self.tasks: dict[str, Callable[[dict[str, Any], bytes], Frame]] = {
             "problems": self.problems, "picture": self.processes, "bars": self.bars, "facts": self.facts,
             "curves": self.curves, "complete": self.complete, "hover": self.hover, "outline": self.outline,
-            "names": self.names, "svg": self.svg,
+            "names": self.names, "svg": self.svg, "check": self.check,
         }
 
     def answer(self, asked: Frame) -> Frame:
         """The answer to a request."""
+        made, text = asked.head.get("made"), asked.body
+        self.piece = None if made is None else taken(text, made)
         try:
-            return self.tasks[asked.head["do"]](asked.head, asked.body)
+            return self.tasks[asked.head["do"]](asked.head, self.piece.text if self.piece else text)
         except Failed as failed:
             return Frame({"failed": failed.why}, b"")
         except Exception:  # the studio goes on, and the terminal has the reason
@@ -63,19 +70,31 @@ class Worker:
                 raise Failed(1, "the piece is too long to be looked at: it is shown without processes, places and bars")
             self.picture = None
             self.picture, self.version = Picture(text, head["file"]), version
+        self.picture.places = self._places(text)
         return self.picture
+
+    def _places(self, text: bytes) -> Places:
+        return MadePlaces(self.piece) if self.piece else Places(text)
+
+    def check(self, head: dict[str, Any], text: bytes) -> Frame:
+        """What is wrong with the words of a Python file, which is not run."""
+        return Frame({"problems": compiled(head["name"], text)}, b"")
 
     def problems(self, head: dict[str, Any], text: bytes) -> Frame:
         """What is refused in a text, or what lint and bars find in it."""
-        places = Places(text)
+        places = self._places(text)
         found = problems(text, head.get("said", ""), lambda: listing_of_file(head["file"]),
                          lambda reading: meter_of(reading, head["meter"], head["upbeat"]))
-        return Frame({"problems": [_shown(problem, places) for problem in found]}, b"")
+        told = [_shown(problem, places) for problem in found]
+        if self.piece:  # a change would be one of the text
+            told = [{**problem, "what": in_python(self.piece, problem["what"]), "changes": []} for problem in told]
+        return Frame({"problems": told}, b"")
 
     def processes(self, head: dict[str, Any], text: bytes) -> Frame:
         """The processes of a text, and of each event its process and its place."""
         known = self._known(head, text)
-        return Frame({"processes": known.processes(), "events": len(known.events),
+        processes = [{**each, "name": in_python(self.piece, each["name"])} for each in known.processes()]
+        return Frame({"processes": processes, "events": len(known.events),
                       "happenings": len(known.walk.happenings)}, known.table())
 
     def bars(self, head: dict[str, Any], text: bytes) -> Frame:
@@ -86,7 +105,10 @@ class Worker:
     def facts(self, head: dict[str, Any], text: bytes) -> Frame:
         """What is known of a note."""
         known = self._known(head, text)
-        return Frame({"facts": known.facts(head["event"], meter_of(known.reading, head["meter"], head["upbeat"]))}, b"")
+        rows = known.facts(head["event"], meter_of(known.reading, head["meter"], head["upbeat"]))
+        if self.piece:
+            rows += [["Python", in_python(self.piece, words)] for name, words in rows if name == "Text"]
+        return Frame({"facts": rows}, b"")
 
     def curves(self, head: dict[str, Any], text: bytes) -> Frame:
         """The deformations of a process."""

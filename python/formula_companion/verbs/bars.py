@@ -10,6 +10,7 @@ from formula_score.checks.bars import bars_between, counted, process_name, ring,
 from formula_score.checks.lint import not_ignored
 from formula_score.checks.summary import of_score
 from formula_score.making.values import plain
+from formula_score.reading.made import in_python, line_at, piece_of, placed
 from formula_score.reading.meter import Meter
 from formula_score.reading.playing import Failed, judge, listing_of
 from formula_score.reading.reader import read
@@ -44,7 +45,7 @@ section is what is between two comments on lines of their own."""
 
 def run(options: argparse.Namespace) -> int:
     """Tells what is asked; 1 where something is off."""
-    several = Several(options.scores, options.json)
+    several = Several(options.scores, options.json, tells_text=options.text_places)
     if options.summary or options.tick is not None or options.bar is not None:
         if not several.is_one:
             raise Failed(2, "--tick, --bar and --summary take one score")
@@ -54,6 +55,8 @@ def run(options: argparse.Namespace) -> int:
         reading = read(text)
         meter = Meter(options.meter, options.upbeat, reading.whole)
         rows, found = counted(reading, meter, functools.partial(listing_of, text))
+        piece = piece_of(path)
+        rows = [row._replace(line=line_at(piece, row.line)) if piece and row.line else row for row in rows]
         lengths += [{"path": path, **row._asdict()} for row in rows]
         if not options.json:
             print(("" if several.is_one else f"{plain(path)}: ") + f"meter {meter}" + (
@@ -86,14 +89,14 @@ def _tell_tick(walk: Played, meter: Meter, options: argparse.Namespace) -> int:
         return 0 if found else 1
     for tick, processes in found.items():
         only = "" if len(walk.begun) == 1 else " in " + ", ".join(process_name(walk, process) for process in processes)
-        print(f"bar {bar}: tick {tick}{only}")
+        print(f"bar {bar}: tick {tick}{in_python(piece_of(options.scores[0]), only)}")
     if not found:
         print(f"{'no' if process is None else 'no such'} process plays where bar {bar} begins")
     return 0 if found else 1
 
 
 def _tell_bar(walk: Played, meter: Meter, options: argparse.Namespace) -> int:
-    tick, process = options.bar, options.process
+    path, tick, process = options.scores[0], options.bar, options.process
     end = walk.tick_of_end(len(walk.begun) - 1)
     playing = [happening for happening in happening_at(walk, tick) if process in (None, happening.process)]
     if not playing:
@@ -101,9 +104,9 @@ def _tell_bar(walk: Played, meter: Meter, options: argparse.Namespace) -> int:
         raise Failed(1, "", f"nothing is played at tick {tick}{where}: the piece ends at tick {end}")
     at = {happening.process: _written(walk, happening, tick) for happening in playing}
     if options.json:
-        put({"tick": tick, "places": [{"process": happening.process, "line": happening.statement.line,
-                                       "column": happening.statement.first.column,
-                                       **meter.at(at[happening.process])._asdict()}
+        put({"tick": tick, "places": [placed(path, {"process": happening.process, "line": happening.statement.line,
+                                                    "column": happening.statement.first.column,
+                                                    **meter.at(at[happening.process])._asdict()})
                                       for happening in playing]})
         return 0
     found: dict[int, list[tuple[Happening, str]]] = {}
@@ -116,7 +119,8 @@ def _tell_bar(walk: Played, meter: Meter, options: argparse.Namespace) -> int:
         print(f"tick {tick}: written in {meter.tell(written)}; played in {meter.tell(tick)} of the file, which has 120 "
               "quarter notes a minute throughout")
         for happening, place in several:
-            print(f"  {place}" + (f", in {process_name(walk, happening.process)}" if len(walk.begun) > 1 else ""))
+            words = place + (f", in {process_name(walk, happening.process)}" if len(walk.begun) > 1 else "")
+            print(f"  {in_python(piece_of(path), words)}" + (f"; of the text {words}" if options.text_places else ""))
     return 0
 
 

@@ -20,7 +20,7 @@ from ..batch.telling import report, write_csv, write_json
 from .libraries import needs
 from .options import near_option
 
-USAGE = "[-j N | --dask ADDRESS] [--audit] [--seeds A-B] [--seconds S] [--csv FILE] [--json] [--program FILE] FOLDER OUT"
+USAGE = "[-j N | --dask ADDRESS] [--audit] [--python] [--seeds A-B] [--seconds S] [--csv FILE] [--json] [--program FILE] FOLDER OUT"
 
 ABOUT = "Plays every score of a folder, those of its folders too, over all processors, or over a cluster of machines."
 
@@ -31,6 +31,8 @@ than it had, where the file is gone, or where the run ended neither with the fil
 a table of the exit statuses, and the first scores that were not played, each with what to do.
 
 -j N         so many are played at a time, else as many as there are processors
+--python     runs the Python files of FOLDER too, each in a process of its own, and plays the score that it makes, as
+             the other verbs do; else none is run
 --seeds A-B  plays each score under each of these seeds, to OUT/a/b-SEED.mid; a seed in its text is replaced
 --seconds S  a run may take so long, else 600 seconds; one that takes longer has the status 124
 --csv FILE   writes a line for each score: its status, the place and number of its fault, the program's line, and how
@@ -73,6 +75,7 @@ def read_words(words: Sequence[str], name: str, version: str) -> argparse.Namesp
     parser.add_argument("--dask", metavar="ADDRESS", help=argparse.SUPPRESS)
     parser.add_argument("--hosts", metavar="FILE", help=argparse.SUPPRESS)
     parser.add_argument("--audit", action="store_true", help=argparse.SUPPRESS)
+    parser.add_argument("--python", action="store_true", help=argparse.SUPPRESS)
     parser.add_argument("--seeds", type=_seeds, metavar="A-B", help=argparse.SUPPRESS)
     parser.add_argument("--seconds", type=_in(1, 1_000_000, "seconds"), default=int(SECONDS), metavar="S",
                         help=argparse.SUPPRESS)
@@ -130,7 +133,8 @@ def program(named: Optional[str]) -> str:
 def play(options: argparse.Namespace) -> int:
     """Plays the folder, and tells what became of it."""
     jobs = options.jobs or len(os.sched_getaffinity(0))
-    batch = Batch(options.folder, options.out, program(options.program), options.audit, options.seeds)
+    batch = Batch(options.folder, options.out, program(options.program), options.audit, options.seeds,
+                  options.python)
     batch.make_folders()
     results = Results(batch)
     ended = run(batch, results, engines.dask(options.dask) if options.dask else None, jobs, options.seconds)

@@ -8,7 +8,9 @@ import stat
 from typing import IO, NamedTuple, Optional
 
 from formula_score.explaining.words import Words
+from formula_score.reading.playing import text_of
 from formula_score.running.outs import PIECE, descriptor_of, name_of, nameless
+from formula_score.running.pieces import named
 
 #: The bytes of the longest input of a task, and one more: what is longer is refused too.
 MOST = {"--list": 33_554_433, "--audit": 67_108_865, None: 1_048_577}
@@ -23,10 +25,13 @@ class Source(NamedTuple):
 
 def source_of(asked: Words) -> Source:
     """What IN means: a name of an open descriptor, as `-`, and a pipe are read to their end; an `OSError` where that
-    fails. A large score reads nothing."""
+    fails. A Python file is run, and its score is the copy. A large score reads nothing."""
     name = asked.files[0]
     if "--generate" in asked.options and asked.task not in ("--audit", "--list"):
         return Source(name if name != "-" else os.devnull)
+    if named(name):
+        copy = nameless(text_of(name))
+        return Source(name_of(copy), copy)
     number, most = descriptor_of(name, 0), MOST.get(asked.task, MOST[None])
     if number is not None:
         return _copied(number, most)

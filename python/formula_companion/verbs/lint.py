@@ -49,7 +49,7 @@ With --all this holds of {", ".join(RULES_OF_BARS)}, too; where no --meter is gi
 
 def run(options: argparse.Namespace) -> int:
     """Prints what it finds."""
-    several = Several(options.scores, options.json, options.all)
+    several = Several(options.scores, options.json, options.all, options.text_places)
     meter = options.meter and (lambda reading: Meter(options.meter, options.upbeat, reading.whole))
     for path, text in several.texts():
         heard = functools.partial(listing_of, text)

@@ -16,6 +16,7 @@ from formula_score.reading.meter import Meter
 from formula_score.reading.midi_file import save
 from formula_score.reading.playing import Failed, judge, listing_of_file, needs, run as play
 from formula_score.reading.ticks import agreed
+from formula_score.running.pieces import file_of
 from formula_score.sound.hearing import bar_ticks, beats, phrase, tune_of
 from formula_score.sound.player import fault_of, must_be_sound, needed_player, sound_of
 from .excerpt import Bars, bars_of, window_of
@@ -186,7 +187,7 @@ def _until_saved(options: argparse.Namespace, made: Made) -> int:
 def _stamp(path: str) -> Optional[tuple[int, int, int]]:
     """By what a file is seen to be saved."""
     try:
-        facts = os.stat(path)
+        facts = os.stat(file_of(path))
     except OSError:  # it is being replaced
         return None
     return facts.st_mtime_ns, facts.st_size, facts.st_ino

@@ -14,7 +14,7 @@ from formula_score.checks.margin import refused as refusal
 from formula_score.explaining.explain import file_place_of, place_of
 from formula_score.language.tokens import tokens
 from formula_score.reading.meter import groups_of, part_of
-from formula_score.reading.playing import Failed, text_of
+from formula_score.reading.playing import Failed, NoScore, text_of
 
 if TYPE_CHECKING:
     from formula_score.checks.summary import Summary
@@ -75,6 +75,8 @@ def failure(failed: Failed, path: str) -> dict[str, Any]:
         found = refusal(text_of(path), place)
         refused = {"line": place.line, "column": place.column, "fault": place.number, "heading": found.what,
                    "cure": found.cure}
+    elif isinstance(failed, NoScore):
+        refused = {"line": failed.line, "column": failed.column, "fault": None, "heading": failed.heading, "cure": ""}
     elif byte is not None:
         refused = {"byte": byte[0], "fault": byte[1], "heading": failed.why}
     return {"status": failed.status, "said": failed.said, "why": failed.why, "refused": refused}

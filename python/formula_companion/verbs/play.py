@@ -17,6 +17,7 @@ from formula_score.checks.summary import of_score
 from formula_score.explaining.explain import by_signal, explanation
 from formula_score.explaining.words import FLAGS, RANGES, USAGE, Words, read
 from formula_score.making.values import escaped
+from formula_score.reading.made import placed
 from formula_score.reading.meter import Meter, groups_of
 from formula_score.reading.playing import NO_PROGRAM, Failed, program, text_of
 from formula_score.reading.sending import sent_of
@@ -25,6 +26,7 @@ from formula_score.running.command import ends_with_this, environment
 from formula_score.running.outs import (
     SIGNALS, WRITE, WRITE_LINE, Descriptor, Out, Straight, descriptor_of, out_of, settled,
 )
+from formula_score.running.pieces import file_of
 from .ins import Source, source_of
 from .options import failure, near_option
 from .origin import origin
@@ -91,10 +93,21 @@ def main(words: Sequence[str], name: str, version: str) -> int:
         what = "standard input" if source == "-" else repr(source)
         end = End(READ, LINES[READ], f"{what} cannot be read: {error.strerror}")
         return _end(end, _means_output(descriptor_of(target)))
+    except Failed as failed:
+        return _refused(failed, source, own, _means_output(descriptor_of(target)))
     try:
         return _play(asked, read_from, own)
     except Failed as failed:
         return _end(End(NO_PROGRAM, "", failed.why))
+
+
+def _refused(failed: Failed, source: str, own: set[str], is_output: bool) -> int:
+    """Says why a Python file makes no score, and gives the status."""
+    if "--json" in own:
+        words = json.dumps(failure(failed, source), ensure_ascii=False)
+        return failed.status if _put(2 if is_output else 1, words) else UNSAID
+    said = failed.said or (LINES[READ] if failed.status == READ else "")
+    return _end(End(failed.status, said, failed.why), is_output)
 
 
 def known() -> list[str]:
@@ -132,11 +145,11 @@ def _play(asked: Words, source: Source, own: set[str]) -> int:
         end = end._replace(why=explanation(end.status, end.said, [*options, "--", asked.files[0], target], source.name))
     is_output = isinstance(out, Descriptor) and _means_output(out.number)
     if own and end.status != UNSAID:
-        return _summed(end, source.name, own, 2 if is_output else 1)
+        return _summed(end, source.name, asked.files[0], own, 2 if is_output else 1)
     return _end(end, is_output)
 
 
-def _summed(end: End, source: str, own: set[str], number: int) -> int:
+def _summed(end: End, source: str, path: str, own: set[str], number: int) -> int:
     """Says how the run ended, and what was played, on a descriptor, and gives the status."""
     value = failure(Failed(end.status, end.why, end.said), source)
     lines = []
@@ -147,7 +160,7 @@ def _summed(end: End, source: str, own: set[str], number: int) -> int:
             found = of_score(walk, meter)
             value, lines = {**value, "summary": found.value()}, list(found.lines())
         if "--events" in own:
-            value = {**value, "events": events(sent_of(walk), meter)}
+            value = {**value, "events": [placed(path, event) for event in events(sent_of(walk), meter)]}
     if "--json" in own:
         return end.status if _put(number, json.dumps(value, ensure_ascii=False)) else UNSAID
     if end.status:
@@ -217,7 +230,7 @@ def _is_in(target: str, source: str) -> bool:
     """Whether OUT is the file that is read: devices may be both."""
     number = descriptor_of(target)
     try:
-        source_facts = os.fstat(0) if source == "-" else os.stat(source)
+        source_facts = os.fstat(0) if source == "-" else os.stat(file_of(source))
         target_facts = os.stat(target) if number is None else os.fstat(number)
     except (OSError, ValueError):
         return False

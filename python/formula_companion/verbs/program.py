@@ -18,6 +18,7 @@ from formula_score.making.values import escaped
 from formula_score.reading.playing import Failed
 from formula_score.running.outs import descriptor_of
 from .options import failure, near, near_option, put
+from .piece_words import ABOUT as PIECES, taken
 
 VERSION = f"formula-score {__version__}"
 
@@ -99,7 +100,7 @@ def _usage(name: str) -> str:
     width = max(map(len, VERBS), default=0)
     verbs = "\n".join(f"  {verb:<{width}}  {VERBS[verb].about}" for verb in VERBS)
     return (f"usage: {name} VERB ..\n       {name} VERB --help\n       {name} --version\n\n{ABOUT}\n\n"
-            f"verbs:\n{verbs}\n\n{STATUSES}\n")
+            f"verbs:\n{verbs}\n\n{PIECES}\n\n{STATUSES}\n")
 
 
 def _options(module: ModuleType, verb: Verb, name: str, words: Sequence[str]) -> argparse.Namespace:
@@ -214,9 +215,10 @@ def main(words: Optional[Sequence[str]] = None, name: str = "formula-score") -> 
     module = importlib.import_module(f".{verb.module}", __package__)
     options: Optional[argparse.Namespace] = None
     try:
-        options = None if verb.takes_words else _options(module, verb, f"{name} {given[0]}", given[1:])
+        own = taken(given[1:])
+        options = None if verb.takes_words else _options(module, verb, f"{name} {given[0]}", own)
         with _ends_in_order(), _said_beside(options):
-            ended: int = module.run(options) if options else module.main(given[1:], f"{name} {given[0]}", VERSION)
+            ended: int = module.run(options) if options else module.main(own, f"{name} {given[0]}", VERSION)
         if sys.stdout:
             sys.stdout.flush()
     except SystemExit as left:

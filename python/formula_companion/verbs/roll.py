@@ -12,8 +12,9 @@ from typing import Callable, Iterator, Optional
 
 from formula_score.pictures.roll import listing_at, picture, reading_of
 from formula_score.reading.midi_file import save
-from formula_score.reading.playing import Failed, must_differ, text_of
+from formula_score.reading.playing import Failed, bytes_of, made_of, must_differ, text_of
 from formula_score.reading.reader import read
+from formula_score.running.pieces import file_of
 from .options import meter_arguments
 
 _LOOK = 0.2  # seconds between two looks at a score that is followed
@@ -63,7 +64,7 @@ def run(options: argparse.Namespace) -> int:
         return 0
     if options.out.lower().endswith(".svg"):
         raise Failed(2, "with --follow OUT is a page: give it a name as roll.html")
-    text_of(options.file)
+    bytes_of(options.file)
     try:
         follow(options, lambda: False)
     except KeyboardInterrupt:
@@ -83,8 +84,9 @@ def follow(options: argparse.Namespace, is_over: Callable[[], bool]) -> None:
         seen = data
         now = time.strftime("%H:%M:%S")
         try:
-            listing = listing_at(options.file, data)
-            drawing = picture(listing, read(data), options)
+            text = made_of(options.file, data)
+            listing = listing_at(options.file, text)
+            drawing = picture(listing, read(text), options)
             words, state = f"<p>{now}: played, to tick {listing.end}.</p>", "fresh"
             print(f"{now} played, to tick {listing.end}", flush=True)
         except Failed as failed:
@@ -109,7 +111,7 @@ def _texts(path: str, is_over: Callable[[], bool]) -> Iterator[bytes]:
     """The text of a file again and again; an editor may take it away for a moment."""
     while not is_over():
         try:
-            with open(path, "rb") as file:
+            with open(file_of(path), "rb") as file:
                 yield file.read()
         except OSError:
             pass

@@ -10,7 +10,9 @@ from formula_score.checks.finding import REMARK, WARNING, Found
 from formula_score.checks.margin import Problem, refused
 from formula_score.explaining.explain import place_of
 from formula_score.making.values import plain
-from formula_score.reading.playing import Failed, counted, judge, text_of
+from formula_score.reading.made import in_python, origin, piece_of, placed
+from formula_score.reading.playing import Failed, NoScore, counted, judge, text_of
+from formula_score.running.pieces import file_of
 from .options import failure, put
 
 
@@ -18,6 +20,8 @@ def several_arguments(parser: argparse.ArgumentParser) -> None:
     """The scores that the verb takes."""
     parser.add_argument("scores", nargs="+", metavar="SCORE", help="the text of a score, or a folder: all files in it "
                         "and below it whose names end in .score")
+    parser.add_argument("--text-places", action="store_true",
+                        help="of a Python file, the places in the text of its score, too")
 
 
 def _files(path: str) -> Iterator[str]:
@@ -42,7 +46,8 @@ def found_of(text: bytes, problem: Problem) -> Found:
 class Several:
     """Scores one after another, and what was found in all; as lines, or at the end as JSON."""
 
-    def __init__(self, paths: list[str], as_json: bool, in_lines: bool = False):
+    def __init__(self, paths: list[str], as_json: bool, in_lines: bool = False, tells_text: bool = False):
+        self.tells_text = tells_text
         self.is_one = len(paths) == 1 and not os.path.isdir(paths[0])
         self.in_lines = in_lines or not self.is_one
         self.paths = [file for path in paths for file in _files(path)]
@@ -64,7 +69,7 @@ class Several:
                     text = text_of(path)
                     self.tell(path, found_of(text, refused(text, place)))
                 elif not self.as_json:
-                    print(f"{plain(path)}: {failed.said or failed.why}")
+                    print(failed.why if isinstance(failed, NoScore) else f"{plain(path)}: {failed.said or failed.why}")
                 continue
             yield path, text
 
@@ -72,15 +77,25 @@ class Several:
         """Prints what was found."""
         self.found.append((path, found))
         if not self.as_json:
-            print(f"{plain(path)}:{found.line}:{found.column}: {found.severity}: {found.what} [{found.rule}]")
+            self._print(path, found)
+
+    def _print(self, path: str, found: Found) -> None:
+        made = origin(path, found.line, found.column)
+        line, column = made.calls[0] if made else (found.line, found.column)
+        text = f"; line {found.line}, column {found.column} of the text" if made and self.tells_text else ""
+        print(f"{plain(file_of(path))}:{line}:{max(1, column)}: {found.severity}: "
+              f"{in_python(piece_of(path), found.what)} [{found.rule}]{text}")
+        for shown in made.lines if made else ():
+            print(plain(shown))
 
     def end(self, **more: object) -> int:
         """Prints the sum, and gives the status: 1 where something is refused or warned of."""
         counts = {kind: sum(found.severity == kind for _, found in self.found) for kind in (WARNING, REMARK)}
         if self.as_json:
             put({**more,
-                 "findings": [{"path": path, **found._asdict(), "edits": [edit._asdict() for edit in found.edits]}
-                                      for path, found in self.found], "refused": self.refused,
+                 "findings": [placed(path, {"path": path, **found._asdict(),
+                                            "edits": [edit._asdict() for edit in found.edits]})
+                              for path, found in self.found], "refused": self.refused,
                  "scores": len(self.paths)})
         else:
             words = [counted(count, kind) for kind, count in counts.items()]

@@ -11,7 +11,8 @@ import subprocess
 
 from formula_score.host.packages import install_line, names
 from formula_score.reading.playing import Failed, program
-from ..studio.folder import Folder
+from formula_score.running.pieces import Asked, jailed
+from ..studio.folder import PYTHON, Folder
 from .libraries import needs
 
 
@@ -20,6 +21,8 @@ def arguments(parser: argparse.ArgumentParser) -> None:
     parser.add_argument("path", metavar="SCORE | FOLDER", nargs="?", default=".", help="a score, which may be a new "
                         "one, or a folder with scores; the present folder where it is not given")
     parser.add_argument("--read-only", action="store_true", help="save nothing")
+    parser.add_argument("--python", action="store_true", help="open and run Python files that make scores, too: whoever "
+                        "has the address can then run programs as you. One runs when it is opened and when it is saved")
     parser.add_argument("--no-open", action="store_true", help="open no browser; the address is printed in any case")
     parser.add_argument("--port", type=_port, default=0, metavar="N", help="the port; a free one where it is not given")
     parser.description = f"""{parser.description}
@@ -45,18 +48,21 @@ def run(options: argparse.Namespace) -> int:
 
     if not (server.EDITOR / f"{server.EDITOR_PARTS[0]}.js").exists():
         raise Failed(1, f"the editor CodeMirror is missing: {install_line(['libjs-codemirror'])}")
-    folder, opened = _folder(options.path, options.read_only)
+    folder, opened = _folder(options)
     listener = _listener(options.port)
 
     def tell(address: str, home: str) -> None:
         print(f"the studio is at {address}\nend it with Ctrl-C", flush=True)
+        if options.python:
+            print(f"it runs Python files: whoever has the address can run programs as you. {_kept()}", flush=True)
         opener = None if options.no_open else shutil.which("xdg-open")
         if opener:
             subprocess.Popen([opener, _page_that_leads(address, home)], stdin=subprocess.DEVNULL,
                              stdout=subprocess.DEVNULL, stderr=subprocess.DEVNULL, start_new_session=True)
 
     try:
-        asyncio.run(server.serve(server.Settings(program(), folder, opened, listener), tell))
+        asyncio.run(server.serve(server.Settings(
+            program(), folder, opened, listener, Asked.limits if options.python else None), tell))
     except KeyboardInterrupt:
         print()
     finally:
@@ -65,16 +71,26 @@ def run(options: argparse.Namespace) -> int:
     return 0
 
 
-def _folder(path: str, read_only: bool) -> tuple[Folder, str]:
+def _kept() -> str:
+    """What a Python file may do on this computer."""
+    return "They can read what you can, write nothing, and reach no network" if jailed() else (
+        f"They can do all that you can: {install_line(['bubblewrap'])} keeps them from writing and from the network, "
+        "where the computer lets it")
+
+
+def _folder(options: argparse.Namespace) -> tuple[Folder, str]:
     """The folder that may be read and written, and the score that is opened."""
+    path, read_only, with_python = options.path, options.read_only, options.python
     if os.path.isdir(path):
-        return Folder(path, None, read_only), ""
+        return Folder(path, None, read_only, with_python), ""
     home, name = os.path.split(path)
-    if not name.endswith(".score"):
+    if name.endswith(PYTHON) and not with_python:
+        raise Failed(2, f"{path!r} is a Python file, and --python is missing: it lets the studio run programs")
+    if not name.endswith((".score", PYTHON)):
         raise Failed(2, f"{path!r} is neither a folder nor a score: the name of a score ends in .score")
     if not os.path.isdir(home or "."):
         raise Failed(2, f"there is no folder {home!r}")
-    return Folder(home or ".", name, read_only), name
+    return Folder(home or ".", name, read_only, with_python), name
 
 
 def _page_that_leads(address: str, home: str) -> str:

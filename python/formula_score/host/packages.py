@@ -49,6 +49,8 @@ FEATURES: dict[str, Feature] = {
     "studio": Feature("`studio`, the page in the browser", (
         Package("python3-aiohttp", library="aiohttp"),
         Package("libjs-codemirror", file="/usr/share/javascript/codemirror/lib/codemirror.js")), verbs=("studio",)),
+    "pieces": Feature("Python files as scores: what one runs can write nothing", (
+        Package("bubblewrap", command="bwrap"),)),
     "lsp": Feature("`lsp`, for editors", (
         Package("python3-pylsp-jsonrpc", library="pylsp_jsonrpc", pip="python-lsp-jsonrpc"),), verbs=("lsp",)),
     "notation": Feature("`print`, and `import --by musescore`", (Package("musescore3", command="musescore3"),)),

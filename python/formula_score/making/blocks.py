@@ -8,6 +8,7 @@ from fractions import Fraction
 from typing import SupportsIndex
 
 from ..language.grammar import KEYWORDS
+from . import origins
 from .errors import ScoreError
 from .midi import DRUM_CHANNEL
 from .nesting import Nesting
@@ -44,7 +45,7 @@ class Block(Held):
     def transpose(self, semitones: SupportsIndex) -> "Block":
         if self.word == "channel" and self.values == (DRUM_CHANNEL,):
             return self
-        return replace(self, body=tuple(item.transpose(semitones) for item in self.body))
+        return self._with(item.transpose(semitones) for item in self.body)
 
     def __repr__(self) -> str:
         names = {"volume": "dynamics", "loud": "accents", "artic": "articulations"}
@@ -92,7 +93,7 @@ class Warp(Curved):
         return self._parts
 
     def scaled(self, by: Fraction, known_phrases: dict[int, Held]) -> "Warp":
-        return Warp(self.shape.scaled(by), tuple(item.scaled(by, known_phrases) for item in self.body))
+        return origins.kept(self, Warp(self.shape.scaled(by), tuple(item.scaled(by, known_phrases) for item in self.body)))
 
     def __repr__(self) -> str:
         return f"warp({self.shape!r}, {several(self.body)})"
@@ -122,12 +123,12 @@ class Phrase(Held):
         moved: dict[int, Phrase] = self.__dict__.setdefault("_moved", {})
         if by not in moved:
             name = f"{self.name}_{'up' if by > 0 else 'down'}_{abs(by)}"
-            moved[by] = Phrase(name, tuple(item.transpose(by) for item in self.body))
+            moved[by] = origins.kept(self, Phrase(name, tuple(item.transpose(by) for item in self.body)))
         return moved[by]
 
     def scaled(self, by: Fraction, known_phrases: dict[int, Held]) -> Held:
         if id(self) not in known_phrases:
-            known_phrases[id(self)] = replace(self, body=tuple(item.scaled(by, known_phrases) for item in self.body))
+            known_phrases[id(self)] = self._with(item.scaled(by, known_phrases) for item in self.body)
         return known_phrases[id(self)]
 
     def __repr__(self) -> str:

@@ -8,6 +8,7 @@ from itertools import groupby
 from typing import Iterable, Optional, SupportsIndex, Union
 
 from ..language.grammar import KEYWORDS
+from . import origins
 from .blocks import Block, Phrase, Warp
 from .errors import BarError, ScoreError
 from .lengths import WHOLE_NOTE, Exact, LengthLike, exact_ticks, written
@@ -221,7 +222,8 @@ class Meter:
             if bar.bar_ticks != ticks:
                 less, more = sorted((bar.bar_ticks, ticks))
                 how = f"{_told(more - less)} too {'long' if bar.bar_ticks > ticks else 'short'}"
-                raise BarError(bar_number, f"is {how}: it has {_told(bar.bar_ticks)} in place of {name}")
+                raise origins.kept(bar, BarError(bar_number,
+                                                 f"is {how}: it has {_told(bar.bar_ticks)} in place of {name}"))
         return Seq(bars)
 
     def __repr__(self) -> str:

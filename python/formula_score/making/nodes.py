@@ -9,8 +9,9 @@ from __future__ import annotations
 
 from dataclasses import dataclass, replace
 from fractions import Fraction
-from typing import TYPE_CHECKING, Iterable, Iterator, NoReturn, Optional, SupportsIndex, cast
+from typing import TYPE_CHECKING, Iterable, Iterator, NoReturn, Optional, SupportsIndex, TypeVar, cast
 
+from . import origins
 from .errors import ScoreError
 from .lengths import MAX_LENGTH, WHOLE_NOTE, Exact, scaled
 from .nesting import FLAT, Nesting, added, deeper, facts, first_fine
@@ -62,6 +63,8 @@ class Music:
     def _keep(self, **facts: object) -> None:
         """Keeps what follows from the fields, while the value is made."""
         self.__dict__.update(facts)
+        if origins.wanted is not None and "origin" not in self.__dict__:
+            self.__dict__["origin"] = origins.here()
 
     def __add__(self, other: "Music") -> "Seq":
         return joined(as_seq(self), as_seq(music(other)))
@@ -163,10 +166,10 @@ class Note(Timed):
 
     def transpose(self, semitones: SupportsIndex) -> "Note":
         by = index_of(semitones)
-        return replace(self, pitches=tuple(pitch + by for pitch in self.pitches))
+        return origins.kept(self, replace(self, pitches=tuple(pitch + by for pitch in self.pitches)))
 
     def scaled(self, by: Fraction, known_phrases: dict[int, "Held"]) -> "Note":
-        return replace(self, length=scaled(self.length, by))
+        return origins.kept(self, replace(self, length=scaled(self.length, by)))
 
     def __repr__(self) -> str:
         names = ", ".join(repr(str(pitch)) if pitch >= 12 else str(int(pitch)) for pitch in self.pitches)
@@ -184,7 +187,7 @@ class Rest(Timed):
         self._keep(length=length_in_range("a rest", self.length))
 
     def scaled(self, by: Fraction, known_phrases: dict[int, "Held"]) -> "Rest":
-        return Rest(scaled(self.length, by))
+        return origins.kept(self, Rest(scaled(self.length, by)))
 
     def __repr__(self) -> str:
         return f"rest({_length(self.length)})"
@@ -213,6 +216,9 @@ class Message(Music):
         return f"{'instrument' if self.kind == 'program' else 'bend'}({self.value})"
 
 
+_Held = TypeVar("_Held", bound="Held")
+
+
 class Held(Music):
     """What holds a `body` of music, one after another."""
 
@@ -226,8 +232,8 @@ class Held(Music):
         self._keep(body=body, **facts(self._adds, body))
         return body
 
-    def _with(self, items: Iterable[Music]) -> "Held":
-        return replace(self, body=tuple(items))
+    def _with(self: _Held, items: Iterable[Music]) -> _Held:
+        return origins.kept(self, replace(self, body=tuple(items)))
 
     def transpose(self, semitones: SupportsIndex) -> "Held":
         return self._with(item.transpose(semitones) for item in self.body)
@@ -304,10 +310,13 @@ class Par(Music):
                    fine=first_fine(every))
 
     def transpose(self, semitones: SupportsIndex) -> "Par":
-        return Par(tuple(tuple(item.transpose(semitones) for item in branch) for branch in self.branches))
+        return self._with(tuple(item.transpose(semitones) for item in branch) for branch in self.branches)
 
     def scaled(self, by: Fraction, known_phrases: dict[int, "Held"]) -> "Par":
-        return Par(tuple(tuple(item.scaled(by, known_phrases) for item in branch) for branch in self.branches))
+        return self._with(tuple(item.scaled(by, known_phrases) for item in branch) for branch in self.branches)
+
+    def _with(self, branches: Iterable[tuple[Music, ...]]) -> "Par":
+        return origins.kept(self, Par(tuple(branches)))
 
     def __repr__(self) -> str:
         return f"par({several(branch[0] if len(branch) == 1 else Seq(branch) for branch in self.branches)})"
@@ -363,7 +372,7 @@ def body_of(items: Iterable[object]) -> tuple[Music, ...]:
             both = before.length + item.length
             if both > MAX_LENGTH:
                 raise ScoreError(f"a tied note of {both} ticks is longer than 1,000,000")
-            body[-1] = Note(item.pitches, both, item.tied)
+            body[-1] = origins.kept(before, Note(item.pitches, both, item.tied))
         else:
             body.append(item)
     if body and isinstance(body[-1], Note) and body[-1].tied:

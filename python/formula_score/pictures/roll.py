@@ -31,7 +31,7 @@ def listing_at(path: str, data: bytes) -> Listing:
         return listing_of_file(path, 1)
     with tempfile.TemporaryDirectory() as folder:
         target = os.path.join(folder, "out.mid")
-        needs(play(path, target))
+        needs(play(path, target, text=data))
         return listing_of_file(target)
 
 

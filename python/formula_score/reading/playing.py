@@ -14,7 +14,7 @@ from typing import Iterable, Mapping, NamedTuple, Optional, Sequence
 
 from ..explaining.explain import explanation
 from ..making.errors import CommandError
-from ..running import command
+from ..running import command, pieces
 from ..running.command import FileEvent as Event
 from ..explaining.kinds import BY_VERBS
 from ..running.outs import name_of, nameless
@@ -34,6 +34,14 @@ class Failed(Exception):
     def __init__(self, status: int, why: str, said: str = ""):
         super().__init__(why)
         self.status, self.why, self.said = status, why, said
+
+
+class NoScore(Failed):
+    """Why a Python file makes no score, and the line and the column of it, from 1."""
+
+    def __init__(self, unmade: pieces.Unmade):
+        (self.line, self.column), self.heading = unmade.place, unmade.why
+        super().__init__(3, unmade.told(), f"formula-score: no score: {self.line}:{self.column}")
 
 
 class Run(NamedTuple):
@@ -106,12 +114,25 @@ def needs(run: Run, refused: Optional[int] = None) -> Run:
 
 
 def text_of(path: str) -> bytes:
-    """The bytes of a score or a file."""
+    """The bytes of a score or a file; of a Python file the score that it makes."""
+    return made_of(path, bytes_of(path))
+
+
+def bytes_of(path: str) -> bytes:
+    """The bytes of a file, or of the file that a word as `canon.py:NAME` means."""
     try:
-        with open(path, "rb") as file:
+        with open(pieces.file_of(path), "rb") as file:
             return file.read()
     except OSError as error:
         raise Failed(2, f"{path!r} cannot be read: {error.strerror}") from error
+
+
+def made_of(path: str, data: bytes) -> bytes:
+    """The bytes of a file, which are given; of a Python file the score that it makes."""
+    try:
+        return pieces.made_of(path, data).text if pieces.named(path) else data
+    except pieces.Unmade as unmade:
+        raise NoScore(unmade) from unmade
 
 
 def listed(lines: Iterable[str]) -> Listing:
@@ -159,6 +180,7 @@ def named(counts: Mapping[str, int]) -> str:
 
 def must_differ(source: str, target: str) -> None:
     """Refuses to write a file over what it is made of."""
+    source = pieces.file_of(source)
     if os.path.exists(source) and os.path.exists(target) and os.path.samefile(source, target):
         raise Failed(2, f"{target!r} is the file that is read: give another name to what is written")
 
@@ -174,6 +196,10 @@ def must_end_in(path: str, suffixes: Sequence[str]) -> str:
 
 def judge(path: str, refused: Optional[int] = 1) -> bytes:
     """The text of a score that the program accepts; nothing is played."""
-    text = text_of(path)
+    try:
+        text = text_of(path)
+    except NoScore as failed:
+        failed.status = refused or failed.status
+        raise
     needs(run(path, os.devnull, "--locate", "0", text=text), refused)
     return text

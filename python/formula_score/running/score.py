@@ -11,6 +11,7 @@ from ..making.errors import ScoreError
 from ..making.expected import Event, events_of
 from ..making.lengths import DIVISION, MAX_DIVISION, MIN_DIVISION, written
 from ..making.nesting import first_fine
+from ..making.origins import Calls, of as calls_of
 from ..making.nodes import MAX_OPERATIONS, Held, Message, Music, Note, Par, Repeat, Rest, body_of
 from ..making.shapes import Part
 from ..making.values import shown, whole
@@ -61,7 +62,7 @@ class Score:
         self.step_count = totals.steps + self.process_count
         _judge(totals, self.end, self.version)
         #: the text of the score
-        self.text = text_of(self.body, self.seed, self.version, self.division)
+        self.text, self._made_by = _written(self.body, self.seed, self.version, self.division)
         if len(self.text) > MAX_BYTES:
             raise ScoreError(f"a score has at most 1,048,576 bytes, and this one {len(self.text):,}: "
                              "name what comes again as a phrase")
@@ -197,6 +198,9 @@ class _Definitions:
         self.shapes: dict[tuple[Part, ...], str] = {}
         self.phrases: dict[str, Phrase] = {}
         self.lines: list[str] = []
+        #: what made each statement of the lines, and of the blocks that are open, in the order of the text
+        self.origins: list[Calls] = []
+        self._open: list[list[Calls]] = [[]]
 
     def shape(self, parts: tuple[Part, ...]) -> str:
         if parts not in self.shapes:
@@ -215,7 +219,9 @@ class _Definitions:
             raise ScoreError(f"{item.name!r} is the name of a shape")
         if earlier is None:
             self.phrases[item.name] = item
+            self._open.append([])
             inner = self.block(item.body, 1)  # what it names comes first
+            self.origins += self._open.pop()
             self.lines += [f"phrase {item.name} {{", *inner, "}"]
         return item.name
 
@@ -223,6 +229,7 @@ class _Definitions:
         """The lines of the items, short statements side by side."""
         indent, lines, is_open = "  " * depth, [], False
         for item in items:
+            self._open[-1].append(calls_of(item))
             plain = self.plain(item)
             if plain is None:
                 lines += self.opened(item, depth)
@@ -267,6 +274,15 @@ class _Definitions:
 
 def text_of(body: tuple[Music, ...], seed: int = 0, version: int = 1, division: int = DIVISION) -> str:
     """The text of a score."""
+    return _written(body, seed, version, division)[0]
+
+
+def origins_of(score: Score) -> list[Calls]:
+    """Of each statement of a score's text, in its order, what made it."""
+    return score._made_by
+
+
+def _written(body: tuple[Music, ...], seed: int, version: int, division: int) -> tuple[str, list[Calls]]:
     definitions = _Definitions(4 * division)
     lines = definitions.block(body, 0)
     head = [f"formula {version};"]
@@ -274,4 +290,4 @@ def text_of(body: tuple[Music, ...], seed: int = 0, version: int = 1, division: 
         head.append(f"division {division};")
     if seed:
         head.append(f"seed {seed};")
-    return "\n".join(head + definitions.lines + lines) + "\n"
+    return "\n".join(head + definitions.lines + lines) + "\n", definitions.origins + definitions._open[0]

@@ -20,6 +20,7 @@ export class Writing {
    * else is @param {(what: string, more: object) => Promise<any>} ask @param {() => void} save */
   constructor(home, told, list, ask, save) {
     this.told = told;
+    this.isPython = false;
     this.list = list;
     /** @type {Mark[]} */
     this.marks = [];
@@ -30,7 +31,7 @@ export class Writing {
       specialChars: /[\u0000-\u0008\u000b\u000c\u000e-\u001f\u007f\u200b-\u200f\u2028\u2029\ufeff]/,
       gutters: ["CodeMirror-linenumbers", "refusals", "CodeMirror-foldgutter"], screenReaderLabel: "Score text",
       extraKeys: {
-        "Ctrl-S": save, "Cmd-S": save, "Ctrl-Space": () => this.editor.showHint(complete), "Ctrl-/": "toggleComment",
+        "Ctrl-S": save, "Cmd-S": save, "Ctrl-Space": () => this.isPython || this.editor.showHint(complete), "Ctrl-/": "toggleComment",
         "Alt-F": (/** @type {Editor} */ editor) => editor.foldCode(editor.getCursor()),
         // the keyboard has to get out of the text
         "Tab": false, "Shift-Tab": false,
@@ -46,8 +47,12 @@ export class Writing {
   get text() { return this.editor.getValue(); }
 
   /** Shows another text, which nothing goes back behind.
-   * @param {string} text */
-  open(text) {
+   * @param {string} text @param {boolean} isPython */
+  open(text, isPython) {
+    this.isPython = isPython;
+    for (const [name, value] of [["mode", isPython ? "python" : "formula"], ["indentUnit", isPython ? 4 : 2]]) {
+      this.editor.setOption(/** @type {string} */ (name), value);
+    }
     this.editor.setValue(text);
     this.editor.clearHistory();
     this.editor.setCursor({ line: 0, ch: 0 });

@@ -3,7 +3,7 @@ import { element } from "./editor.js";
 import { address } from "./session.js";
 
 /** @typedef {{folder: string, opened: string, readOnly: boolean, files: string[], only: boolean,
- *   examples: {folder: string, name: string, about: string}[], folders: {[folder: string]: string}}} About */
+ *   python: boolean, examples: {folder: string, name: string, about: string}[], folders: {[folder: string]: string}}} About */
 
 /** @template {HTMLElement} T @param {string} id @param {new () => T} kind @returns {T} */
 export function byId(id, kind) {
@@ -13,7 +13,8 @@ export function byId(id, kind) {
 }
 
 export class Files {
-  /** @param {About} about @param {{text: () => string, show: (text: string) => void, tell: (words: string) => void}} page */
+  /** @param {About} about @param {{text: () => string, show: (text: string) => void, tell: (words: string) => void,
+   *   saved: () => void}} page */
   constructor(about, page) {
     this.about = about;
     this.page = page;
@@ -23,11 +24,15 @@ export class Files {
     this.version = null;
     this.saved = "";
     this.isWhole = true;
+    /** The score that a Python file made last. */
+    this.made = "";
     byId("open", HTMLButtonElement).onclick = () => this.choose();
     byId("save", HTMLButtonElement).onclick = () => this.save();
     byId("save-as", HTMLButtonElement).onclick = () => this.saveAs();
     addEventListener("beforeunload", (event) => { if (this.isChanged) event.preventDefault(); });
   }
+
+  get isPython() { return this.name.endsWith(".py"); }
 
   get isChanged() { return this.page.text() !== this.saved; }
 
@@ -49,8 +54,10 @@ export class Files {
     this.version = version;
     this.saved = version === null ? "" : text;
     this.isWhole = isWhole;
+    this.made = "";
     this.page.show(text);
     this.told();
+    this.page.saved();
   }
 
   /** The list of what can be opened. */
@@ -92,7 +99,9 @@ export class Files {
     const answer = await fetch(address("files/", name));
     if (!answer.ok) {
       // a score that was named and is not there is a new one
-      if (answer.status === 404 && this.about.only) return this.take(name, "formula 1;\n", null);
+      if (answer.status === 404 && this.about.only) {
+        return this.take(name, name.endsWith(".py") ? "from formula_score import *\n" : "formula 1;\n", null);
+      }
       return this.page.tell(await answer.text());
     }
     const { text, version, whole } = await answer.json();
@@ -132,6 +141,7 @@ export class Files {
     if (!this.about.files.includes(this.name)) this.about.files = [...this.about.files, this.name].sort();
     this.told();
     this.page.tell(`${this.name} is saved`);
+    this.page.saved();
   }
 
   /** Shows both texts, and does what is chosen.
@@ -154,7 +164,7 @@ export class Files {
     byId("naming-why", HTMLParagraphElement).textContent = "";
     if (await asked(dialog) !== "save" || !name.value) return;
     const before = this.name, version = this.version;
-    const wanted = name.value.endsWith(".score") ? name.value : `${name.value}.score`;
+    const ending = this.isPython ? ".py" : ".score", wanted = name.value.endsWith(ending) ? name.value : name.value + ending;
     this.name = wanted;
     await this.put(wanted === before ? version : null);
     if (this.saved !== this.page.text()) this.name = before;
@@ -164,10 +174,11 @@ export class Files {
   /** Makes a file of the text, and hands it to the browser.
    * @param {string} kind @param {object} more */
   async export(kind, more) {
+    if (this.isPython && !this.made) return this.page.tell("there is no score yet: save the file, so that it is run");
     this.page.tell("the file is made ..");
-    const answer = await fetch(`export/${kind}`, { method: "POST", body: JSON.stringify({ text: this.page.text(), ...more }) });
+    const answer = await fetch(`export/${kind}`, { method: "POST", body: JSON.stringify({ text: this.isPython ? this.made : this.page.text(), ...more }) });
     if (!answer.ok) return this.page.tell(await answer.text());
-    const link = document.createElement("a"), stem = (this.name || "new.score").replace(/^.*\//, "").replace(/\.score$/, "");
+    const link = document.createElement("a"), stem = (this.name || "new.score").replace(/^.*\//, "").replace(/\.(score|py)$/, "");
     const ending = /** @type {{[kind: string]: string}} */ ({ midi: ".mid", parts: "_parts.mid", excerpt: "_bars.mid",
       svg: ".svg", wav: ".wav" })[kind];
     link.href = URL.createObjectURL(await answer.blob());

@@ -38,7 +38,8 @@ const session = new Session(take, () => tell("the studio has ended: start it aga
 const writing = new Writing(byId("editor", HTMLDivElement), byId("refusal", HTMLDivElement),
   byId("problems", HTMLUListElement), (what, more) => session.ask(what, more), () => files.save());
 /** @type {Files} */
-const files = new Files(about, { text: () => writing.text, show: (text) => writing.open(text), tell });
+const files = new Files(about, { text: () => writing.text, show: (text) => writing.open(text, files.isPython), tell,
+  saved: () => { if (files.isPython && files.version !== null) session.run(files.name, files.version, meter.value, upbeat.value); } });
 const sound = new Sound(about.silent, tell, transport);
 const mixer = new Mixer(byId("mixer", HTMLDivElement), () => {
   sound.choice = mixer.isWhole ? "" : mixer.state;
@@ -85,12 +86,45 @@ writing.editor.on("change", () => {
   timer = window.setTimeout(send, slowest > 400 ? LONG_PAUSE : PAUSE);
 });
 
-function send() { session.play(writing.text, meter.value, upbeat.value); }
+function send() {
+  if (!files.isPython) session.play(writing.text, meter.value, upbeat.value);
+  else if (files.isChanged) check();
+}
+
+/** What is found in the score of a Python file, which is shown where its words are well.
+ * @type {import("./editor.js").Problem[]} */
+let foundInPython = [];
+
+/** Tells what is wrong with the words of a Python file, which is not run. */
+async function check() {
+  const { problems } = await session.ask("check", { name: files.name, text: writing.text });
+  writing.show(problems.length ? problems : foundInPython);
+}
+
+/** Says how long a Python file runs, until it is through. */
+function running() {
+  const button = byId("end", HTMLButtonElement), begun = performance.now();
+  clearInterval(runs);
+  button.hidden = false;
+  runs = window.setInterval(() => tell(`${files.name} runs: ${Math.round((performance.now() - begun) / 1000)} s`), 1000);
+}
+
+let runs = 0;
+
+/** A Python file is through. */
+function through() {
+  clearInterval(runs);
+  byId("end", HTMLButtonElement).hidden = true;
+}
 
 /** Takes what the server says of a text.
  * @param {import("./session.js").Head} head @param {ArrayBuffer} body */
 function take(head, body) {
   if (head.number !== session.number) return;  // a newer text is on its way
+  if (head.kind === "running") return running();
+  through();
+  if (head.printed) tell(head.printed);
+  if (head.kind === "made") files.made = new TextDecoder().decode(body);
   if (head.failed) return takeFailure(head);
   if (head.kind === "file") takeFile(head, body);
   if (head.kind === "problems") takeProblems(head);
@@ -181,6 +215,7 @@ function takeBars(head) {
 /** @param {import("./session.js").Head} head */
 function takeProblems(head) {
   writing.show(head.problems);
+  foundInPython = head.problems;
   const begun = changed;
   requestAnimationFrame(() => margins.push(performance.now() - begun));
   if (!head.problems.some((/** @type {import("./editor.js").Problem} */ each) => each.severity === "error")) return;
@@ -272,6 +307,7 @@ for (const input of [meter, upbeat]) input.addEventListener("change", async () =
 // ---- sound
 
 play.onclick = () => (sound.isPlaying ? sound.pause() : sound.play());
+byId("end", HTMLButtonElement).onclick = () => session.end();
 byId("start", HTMLButtonElement).onclick = () => sound.seek(sound.loop ? sound.loop.from : 0).then(follow);
 
 function transport() {

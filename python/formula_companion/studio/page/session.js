@@ -49,6 +49,18 @@ export class Session {
     this.socket.send(JSON.stringify({ do: "text", number, text, meter, upbeat }));
   }
 
+  /** Lets a Python file be run, which ends what runs for the text before.
+   * @param {string} name @param {string} version @param {string} meter @param {string} upbeat */
+  async run(name, version, meter, upbeat) {
+    const number = ++this.number;
+    this.waiting.clear();
+    await this.opened;
+    this.socket.send(JSON.stringify({ do: "run", number, name, version, meter, upbeat }));
+  }
+
+  /** Ends what is run. */
+  end() { this.socket.send(JSON.stringify({ do: "end" })); }
+
   /** Asks about the text that was sent last. A text or a question of the same kind that comes after it does away
    * with it: then there is no answer.
    * @param {string} what @param {object} [more] @returns {Promise<Head>} */
