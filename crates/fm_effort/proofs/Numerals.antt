@@ -1,7 +1,7 @@
 -- The figures of the policy: nanoseconds, events, operations and processes.
 use Rattle.std.proofs.Common.{◌≡◌, refl}
-use Rattle.fm_effort.specs.declared.load.TheConstants.{OPERATION, SOUND, LEVEL, EXPRESSION, MANY_EVENTS, MOST_OPERATIONS}
-use Rattle.fm_effort.specs.declared.useful.TheConstants.{MOST_FOR_AN_EVENT, LEAST_FOR_AN_EVENT, SHARE_OF_A_WORKER}
+use Rattle.fm_effort.specs.declared.load.TheConstants.{OPERATION, SOUND, LEVEL, EXPRESSION, MOST_OPERATIONS}
+use Rattle.fm_effort.specs.declared.useful.TheConstants.{MANY_EVENTS, FEW_EVENTS, LITTLE_WORK, MOST_FOR_AN_EVENT, LEAST_FOR_AN_EVENT, SHARE_OF_A_WORKER}
 
 operation : OPERATION ≡ 20
 operation = refl
@@ -20,6 +20,12 @@ many_events = refl
 
 most_operations : MOST_OPERATIONS ≡ 65536
 most_operations = refl
+
+few_events : FEW_EVENTS ≡ 4
+few_events = refl
+
+little_work : LITTLE_WORK ≡ 10000
+little_work = refl
 
 most_for_an_event : MOST_FOR_AN_EVENT ≡ 512
 most_for_an_event = refl

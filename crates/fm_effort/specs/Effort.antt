@@ -1,6 +1,6 @@
 -- How many workers are worth their cost for a plan, told from its operations alone. It is a policy with rough figures.
 -- Times are in nanoseconds. Sums are exact, and a sum above the greatest number of 64 bits counts as that at the end.
-use Rattle.std.specs.Prelude.{◌≡◌, ℕ, ◌+◌, ◌-◌, ◌*◌, ◌/◌, ◌^◌, ◌<◌, min, max, List, [], ◌∷◌, length, Bool, true, ◌&&◌, nat_le, nat_lt, if◌then◌else◌}
+use Rattle.std.specs.Prelude.{◌≡◌, ℕ, ◌+◌, ◌-◌, ◌*◌, ◌/◌, ◌^◌, ◌<◌, ◌≤◌, min, max, List, [], ◌∷◌, length, Bool, true, ◌&&◌, nat_le, nat_lt, if◌then◌else◌}
 use Rattle.fm_program.specs.declared.op.Span.{Span}
 use Rattle.fm_program.specs.declared.op.Span.TheVariants as span
 use Rattle.fm_program.specs.declared.op.Count.{Count}
@@ -9,8 +9,8 @@ use Rattle.fm_program.specs.declared.op.Op.{Op}
 use Rattle.fm_program.specs.declared.op.Op.TheVariants as op
 use Rattle.fm_program.specs.declared.op.TheConstants.{MAX_LOOPS}
 use Rattle.fm_program.specs.Parts.{ProgramParts, PlanParts}
-use Rattle.fm_effort.specs.declared.load.TheConstants.{OPERATION, SOUND, LEVEL, EXPRESSION, MANY_EVENTS, MOST_OPERATIONS}
-use Rattle.fm_effort.specs.declared.useful.TheConstants.{MOST_FOR_AN_EVENT, LEAST_FOR_AN_EVENT, SHARE_OF_A_WORKER}
+use Rattle.fm_effort.specs.declared.load.TheConstants.{OPERATION, SOUND, LEVEL, EXPRESSION, MOST_OPERATIONS}
+use Rattle.fm_effort.specs.declared.useful.TheConstants.{MANY_EVENTS, FEW_EVENTS, LITTLE_WORK, MOST_FOR_AN_EVENT, LEAST_FOR_AN_EVENT, SHARE_OF_A_WORKER}
 
 -- ---- numbers
 
@@ -144,13 +144,31 @@ all_operations (p ∷ ps) = length p.ops + all_operations ps
 abbrev pub is_too_many : (processes room : ℕ) → Bool
 is_too_many processes room = nat_lt (MOST_FOR_AN_EVENT * room) processes
 
--- whether an estimate is made: for programs that are not too long, and that are sure to make many events
+-- whether programs are looked at: those that are not too long
+abbrev pub are_looked_at : List ProgramParts → Bool
+are_looked_at ps = nat_le (all_operations ps) MOST_OPERATIONS
+
+-- whether an effort is over before a worker has begun: it is sure of few events only, and takes little time
+abbrev pub is_small : Effort → Bool
+is_small e = nat_lt e.events FEW_EVENTS && nat_lt e.work LITTLE_WORK
+
+-- whether programs that are looked at have so small an effort
+unfoldable pub are_few : List ProgramParts → Bool
+are_few ps = are_looked_at ps && is_small (all_effort ps)
+
+-- whether an estimate is made: for programs that are looked at, and that are sure to make many events
 unfoldable pub is_estimated : List ProgramParts → Bool
-is_estimated ps = nat_le (all_operations ps) MOST_OPERATIONS && nat_le MANY_EVENTS (all_effort ps).events
+is_estimated ps = are_looked_at ps && nat_le MANY_EVENTS (all_effort ps).events
 
 -- how long an event takes to compute
 abbrev pub event_work : Effort → ℕ
 event_work e = counted e.work / counted e.events
+
+-- programs that are not too long are sure of few events only, and take little time
+pub record IsFew (ps : List ProgramParts) : Type 0 where
+  pub short : all_operations ps ≤ MOST_OPERATIONS
+  pub few : (all_effort ps).events < FEW_EVENTS
+  pub little : (all_effort ps).work < LITTLE_WORK
 
 -- an estimate is made, and an event takes too little to compute for one worker
 pub record IsCheap (ps : List ProgramParts) : Type 0 where
@@ -161,10 +179,11 @@ pub record IsCheap (ps : List ProgramParts) : Type 0 where
 abbrev pub busy : (share most : ℕ) → ℕ
 busy share most = if nat_lt share LEAST_FOR_AN_EVENT then 0 else min most (share / SHARE_OF_A_WORKER + 1)
 
--- how many of at most so many workers are worth their cost: none for too many processes, all where no estimate is
--- made, and else those that the events keep busy
+-- how many of at most so many workers are worth their cost: none for too many processes, none for few events, all
+-- where no estimate is made, and else those that the events keep busy
 unfoldable pub workers_of : PlanParts → (room most : ℕ) → ℕ
 workers_of p room most =
     if is_too_many (length p.programs) room then 0
+    else if are_few p.programs then 0
     else if is_estimated p.programs then busy (event_work (all_effort p.programs)) most
     else most

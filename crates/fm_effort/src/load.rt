@@ -2,17 +2,14 @@
 ghost use Rattle.std.specs.Prelude.{◌≡◌, ◌≤◌, IfSome};
 ghost use Rattle.std.specs.Option.{is_some};
 ghost use Rattle.fm_program.specs.Parts.{program_parts};
-ghost use Rattle.fm_effort.specs.Effort.{Surroundings, all_effort, effort_at, is_estimated};
+ghost use Rattle.fm_effort.specs.Effort.{Surroundings, all_effort, are_looked_at, effort_at};
 ghost use Rattle.fm_effort.specs.Effort.{op_events, op_work, program_effort, span_work};
 ghost use Rattle.fm_effort.specs.Kept.{Encloses, load_for, with_effort};
 
 use crate::enclosing::Enclosing;
 use fm_program::{Op, Plan, Program, Span};
 
-/// A plan of fewer events is over before the cost of workers counts.
-const MANY_EVENTS: u64 = 65_536;
-
-/// Of programs with more operations no estimate is made.
+/// Programs with more operations are not looked at.
 const MOST_OPERATIONS: usize = 65_536;
 
 /// What an operation takes at least, in nanoseconds. This and the next three figures are rough.
@@ -36,10 +33,10 @@ pub struct Load {
     pub events: u64,
 }
 
-/// What all processes of a plan compute. None where their programs are long, or make few events.
+/// What all processes of a plan compute. None where their programs are long.
 pub fn load_of(plan: &Plan) -> Option<Load>
     ensures some { IfSome result (λ load. load ≡ load_for (all_effort plan.now.programs)) }
-    ensures exact { is_some result ≡ is_estimated plan.now.programs }
+    ensures exact { is_some result ≡ are_looked_at plan.now.programs }
 {
     let mut load = Load { work: 0, events: 0 };
     let mut operations: usize = 0;
@@ -51,11 +48,7 @@ pub fn load_of(plan: &Plan) -> Option<Load>
         }
         load = with_program(load, program);
     }
-    if load.events < MANY_EVENTS {
-        None
-    } else {
-        Some(load)
-    }
+    Some(load)
 }
 
 // The load with that of a program.

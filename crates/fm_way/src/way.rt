@@ -1,6 +1,6 @@
 //! In which way a plan is played.
 ghost use Rattle.std.specs.Prelude.{◌≡◌, ◌<◌, ◌≤◌, false, true, length};
-ghost use Rattle.fm_effort.specs.Effort.{IsCheap, workers_of};
+ghost use Rattle.fm_effort.specs.Effort.{IsCheap, IsFew, workers_of};
 ghost use Rattle.fm_words.specs.View.{options_view};
 ghost use Rattle.fm_way.specs.Ways.{crew_of, is_alone, threads_of, way_of};
 ghost use Rattle.fm_way.specs.declared.way.Way.TheVariants.{Rounds};
@@ -24,7 +24,7 @@ pub enum Way {
 
 /// The way in which a plan is played where the words ask for these options. There are never more
 /// threads than workers were asked for, none for one process, and without `--rounds` no more than
-/// are worth their cost: none where an event takes little to compute.
+/// are worth their cost: none for few events, and where an event takes little to compute.
 pub fn way_of(options: &Options, plan: &Plan) -> Way
     ensures value { result ≡ way_of (options_view options.now) plan.now }
     ensures most { threads_of result ≤ options.now.workers }
@@ -34,6 +34,8 @@ pub fn way_of(options: &Options, plan: &Plan) -> Way
         → result ≡ Rounds options.now.workers }
     ensures useful { options.now.rounds ≡ false
         → threads_of result ≤ workers_of plan.now options.now.room options.now.workers }
+    ensures few { options.now.rounds ≡ false → IsFew plan.now.programs
+        → is_alone result ≡ true }
     ensures cheap { options.now.rounds ≡ false → IsCheap plan.now.programs
         → is_alone result ≡ true }
 {

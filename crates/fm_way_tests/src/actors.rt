@@ -26,7 +26,14 @@ const LONG_BRANCHES: &[u8] = b"formula 1; par { branch { repeat 99 { note c4 1/4
     branch { repeat 99 { note e4 1/4; } } branch { repeat 99 { note g4 1/4; } } }";
 
 /// More than 512 processes, for each event of a room of 1.
-const CROWD: &[u8] = b"formula 1; repeat 200 { par { branch { } branch { } } }";
+const CROWD: &[u8] =
+    b"formula 1; repeat 2 { note c4 1/4; } repeat 200 { par { branch { } branch { } } }";
+
+/// Two processes, with two events.
+const FEW: &[u8] = b"formula 1; par { branch { note c4 1/4; } branch { } }";
+
+/// Two processes, with four events.
+const FOUR: &[u8] = b"formula 1; par { branch { note c4 1/4; } branch { note e4 1/4; } }";
 
 /// Words, a text, and a bit for each actor that may pass. Some do, but where none may: one thread
 /// that plays in rounds has no gate to pass.
@@ -35,6 +42,7 @@ const ACTORS: &[(&str, &[u8], u64)] = &[
     ("a.txt b.mid --workers 0", THREE_BRANCHES, 0),
     ("a.txt b.mid --workers 0 --rounds", LONG_BRANCHES, 0),
     ("a.txt b.mid --workers 4 --room 1", CROWD, 0),
+    ("a.txt b.mid --workers 4", FEW, 0),
     // The conductor of a board without other seats, for one process.
     ("a.txt b.mid --workers 4", NOTE, 1),
     ("a.txt b.mid --workers 4 --rounds", NOTE, 1),
@@ -42,6 +50,7 @@ const ACTORS: &[(&str, &[u8], u64)] = &[
     ("a.txt b.mid --workers 1 --rounds", LONG_BRANCHES, 1),
     ("a.txt b.mid --workers 2 --rounds", LONG_BRANCHES, 3),
     // A crew: the conductor and so many workers.
+    ("a.txt b.mid --workers 1", FOUR, 3),
     ("a.txt b.mid --workers 1", LONG_BRANCHES, 3),
     ("a.txt b.mid --workers 2", LONG_BRANCHES, 7),
     // The other tasks.

@@ -7,11 +7,17 @@ use std::test::Fail;
 
 /// Scores, the room of an outbox in events, and how many of four workers are worth their cost.
 const SCORES: &[(&[u8], u32, u32)] = &[
-    // A short score gets all.
+    // Four events get all.
     (
         b"formula 1; par { branch { note c4 1/4; } branch { note e4 1/4; } }",
         32,
         4,
+    ),
+    // Nobody is worth one note.
+    (
+        b"formula 1; par { branch { note c4 1/4; } branch { } }",
+        32,
+        0,
     ),
     // Next to nothing is computed for each event.
     (
@@ -50,12 +56,12 @@ const SCORES: &[(&[u8], u32, u32)] = &[
     ),
     // More than 512 processes for each event of the room.
     (
-        b"formula 1; repeat 1365 { par { branch { } branch { } } }",
+        b"formula 1; repeat 2 { note c4 1/4; } repeat 1365 { par { branch { } branch { } } }",
         1,
         0,
     ),
     (
-        b"formula 1; repeat 1365 { par { branch { } branch { } } }",
+        b"formula 1; repeat 2 { note c4 1/4; } repeat 1365 { par { branch { } branch { } } }",
         8,
         4,
     ),

@@ -3,7 +3,7 @@ use Rattle.fm_program.specs.Parts.{ProgramParts}
 use Rattle.fm_effort.specs.Effort.{program_effort}
 use Rattle.fm_effort.specs.Kept.{with_effort}
 use Rattle.fm_effort.proofs.FoldLemmas.{summed_next, summed_long, summed_all, summed_few}
-use Rattle.fm_effort.proofs.PolicyLemmas.{none_for_long, none_for_few, some_for_others}
+use Rattle.fm_effort.proofs.PolicyLemmas.{none_for_long, some_for_short}
 use Rattle.fm_effort.proofs.load.load_of.Goals as goal
 
 pub returns-then-operations-gt-MOST_OPERATIONS-clause-exact :
@@ -31,26 +31,15 @@ loop-process-preserved c =
 
 -- ---- behind the loop
 
-pub returns-else-load-lt-MANY_EVENTS-clause-some : goal.returns-else-load-lt-MANY_EVENTS-clause-some
-returns-else-load-lt-MANY_EVENTS-clause-some c =
+pub returns-clause-some : goal.returns-clause-some
+returns-clause-some c =
     let over = rw c.processes-process-end.ensures.value at c.loop-process-test.false in
     summed_all c.args.plan.now.programs c.loop-process.process c.loop-process.operations c.loop-process.load over
     c.loop-process.invariant
 
-pub returns-else-load-lt-MANY_EVENTS-clause-exact : goal.returns-else-load-lt-MANY_EVENTS-clause-exact
-returns-else-load-lt-MANY_EVENTS-clause-exact c =
+pub returns-clause-exact : goal.returns-clause-exact
+returns-clause-exact c =
     let over = rw c.processes-process-end.ensures.value at c.loop-process-test.false in
-    some_for_others c.args.plan.now.programs c.loop-process.load
-    (summed_all c.args.plan.now.programs c.loop-process.process c.loop-process.operations c.loop-process.load over
-    c.loop-process.invariant)
+    some_for_short c.args.plan.now.programs
     (summed_few c.args.plan.now.programs c.loop-process.process c.loop-process.operations c.loop-process.load over
     c.loop-process.invariant)
-    c.if-load-lt-MANY_EVENTS.false
-
-pub returns-then-load-lt-MANY_EVENTS-clause-exact : goal.returns-then-load-lt-MANY_EVENTS-clause-exact
-returns-then-load-lt-MANY_EVENTS-clause-exact c =
-    let over = rw c.processes-process-end.ensures.value at c.loop-process-test.false in
-    none_for_few c.args.plan.now.programs c.loop-process.load
-    (summed_all c.args.plan.now.programs c.loop-process.process c.loop-process.operations c.loop-process.load over
-    c.loop-process.invariant)
-    c.if-load-lt-MANY_EVENTS.true
