@@ -32,14 +32,13 @@ def arguments(parser: argparse.ArgumentParser) -> None:
     parser.add_argument("file", metavar="FILE", help="the file that is read: MIDI, MusicXML (.musicxml, .mxl, .xml) or ABC "
                         "(.abc)")
     parser.add_argument("score", metavar="SCORE", help="the score that is written; an older one is replaced")
-    parser.add_argument("--by", choices=("musescore",), help="what MuseScore 3 plays of the file is read, and what was meant by "
-                        "its signs is lost")
+    parser.add_argument("--by", choices=("musescore",), help="what MuseScore 3 plays of the file is read")
     parser.add_argument("--exact", action="store_true", help="no event moves: each note, control change, program change "
                         "and bend is played at its tick")
     parser.add_argument("--grid", type=_grid, metavar="1/16,1/24", help="all onsets go to these parts of a whole note; "
                         "else those that lie near a grid, part by part")
-    parser.add_argument("--velocities", type=_upto(127), default=4, metavar="N", help="by how much a velocity may change, "
-                        "for few different ones: 4 where nothing is said, 0 keeps all, 127 takes the nearest of ppp to fff")
+    parser.add_argument("--velocities", type=_upto(127), default=4, metavar="N", help="by how much a velocity may change: "
+                        "4 where nothing is said, 0 keeps all, 127 takes the nearest of ppp to fff")
     parser.add_argument("--ends", type=_upto(10), default=1, metavar="N", help="by how many percents of its length the end "
                         "of a note may move: 1 where nothing is said")
     parser.add_argument("--without", type=lambda words: frozenset(map(_upto(127), words.split(","))), default=frozenset(),
